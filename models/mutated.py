@@ -1,15 +1,15 @@
 #!/usr/bin/env python3
-"""Changes the model of `distac sim` in one place at a time, and lists the changes that no row of the gate sees.
+"""Changes the model of `distac sim` in one place at a time, and lists the changes that no row sees.
 
 Usage: python3 mutated.py [--rows FOLDER] [--jobs J] [--list]
 
 A mutant is one change of world.py, placement.py, meaning.py or simulator.py: see mutations.py. It is a wrong definition, as an operator
-would see it. It falls if a row of the gate or an example prints something else by it (see gate_rows.py), if it fails, or if it
+would see it. It falls if a row of examples/rows or an example prints something else by it (see row_files.py), if it fails, or if it
 takes more than some seconds. The texts of configurations (check.py) and the bytes (wire.py) aren't changed, because rows and tests
 of their own compare them, nor is what runs from the command line.
 
 unseen.txt lists the mutants that no row sees, each with a reason. By those that are equivalent nothing is printed otherwise. Those
-that another test of the gate refuses name it, and fall. All others are left. An entry that names no mutant, one that a row sees, or
+that a test of the gate refuses name it, and fall. All others are left. An entry that names no mutant, one that a row sees, or
 no test, is a fault.
 
 Each survivor is printed with its place, and as it reads before and after the change. The last line is `N mutants, K fall, S
@@ -33,8 +33,8 @@ from pathlib import Path
 from typing import Optional
 
 from arguments import at_least
-from gate_rows import TOP, Row, all_rows
 from mutations import Mutation, mutations_of
+from row_files import TOP, Row, all_rows
 
 MODELS = Path(__file__).resolve().parent
 REASONS = MODELS / "unseen.txt"
@@ -208,14 +208,14 @@ def report(mutations: list[Mutation], survivors: list[Mutation], reasons: dict[s
     for fault in faults:
         print(fault)
     count = len(mutations) - len(equivalent)
-    print(f"{len(equivalent)} more are equivalent, {len(tested)} fall by other tests of the gate, {len(faults)} faults of {REASONS.name}")
+    print(f"{len(equivalent)} more are equivalent, {len(tested)} fall by tests of the gate, {len(faults)} faults of {REASONS.name}")
     print(f"{count} mutants, {count - len(left)} fall, {len(left)} survive")
     return 1 if faults or any(mutation not in known for mutation in left) else 0
 
 
 def arguments() -> argparse.Namespace:
     """The words of the command line."""
-    parser = argparse.ArgumentParser(description="Lists the changes of the model of `distac sim` that no row of the gate sees.")
+    parser = argparse.ArgumentParser(description="Lists the changes of the model of `distac sim` that no row sees.")
     parser.add_argument("--rows", type=Path, default=TOP, help="the clone whose rows and examples are played, this one if not given")
     parser.add_argument("--jobs", type=at_least(1), default=2)
     parser.add_argument("--list", action="store_true", help="list all mutants, and play none")

@@ -1,13 +1,11 @@
 """What a fuzzer begins with: inputs of each command, and the words that its formats have.
 
-The inputs are the examples, the rows of crates/program_tests, the worked examples, and random ones. Those of `feed` are the
-bytes of packets under one configuration. The words stand in the tables of docs/FORMATS.md, and in its grammar of the
-configuration.
+The inputs are the examples, the rows of examples/rows, the worked examples, and random ones. Those of `feed` are the bytes of
+packets under one configuration. The words stand in the tables of docs/FORMATS.md, and in its grammar of the configuration.
 """
 
 from __future__ import annotations
 
-import ast
 import re
 from collections.abc import Callable, Iterator
 from pathlib import Path
@@ -19,7 +17,6 @@ import worked
 from check import read_config
 
 TOP = Path(__file__).resolve().parent.parent
-ROWS = TOP / "crates" / "program_tests" / "src"
 FORMATS = TOP / "docs" / "FORMATS.md"
 PARTED = b"--\n"
 # Longer inputs make a fuzzer slow.
@@ -28,38 +25,8 @@ MOST_BYTES = 4096
 PACKETS_UNDER = worked.TWO_APPLICATIONS
 MARK = read_config(PACKETS_UNDER).mark.to_bytes(8, "big")
 
-LITERAL = r'(r#".*?"#|"(?:[^"\\]|\\.)*")'
-CONSTANT = re.compile(r"const (\w+): &str =\s*" + LITERAL, re.DOTALL)
-CONFIG_ROW = re.compile(r"text:\s*" + LITERAL, re.DOTALL)
-FAULT_ROW = re.compile(r"\(\s*" + LITERAL + r",\s*\"config fault", re.DOTALL)
-SCRIPT_ROW = re.compile(r"\(\s*([A-Z_]+),\s*" + LITERAL, re.DOTALL)
-
 
 # Inputs
-
-
-def text_of(literal: str) -> bytes:
-    """The text that a literal stands for."""
-    raw = literal[3:-2] if literal.startswith("r") else ast.literal_eval(literal)
-    return str(raw).encode()
-
-
-def source_of(name: str) -> str:
-    """A file of the tests, without its comments."""
-    return re.sub(r"^\s*//.*$", "", (ROWS / f"{name}.rt").read_text(), flags=re.MULTILINE)
-
-
-def constants_of(*names: str) -> dict[str, bytes]:
-    """The texts that have a name in some files of the tests, where a later file counts more."""
-    return {name: text_of(text) for file in names for name, text in CONSTANT.findall(source_of(file))}
-
-
-def scripts_in(name: str) -> Iterator[bytes]:
-    """The inputs in a file of the tests: a configuration by its name, and a script."""
-    named = constants_of("scripts", name)
-    for config, script in SCRIPT_ROW.findall(source_of(name)):
-        if config in named:
-            yield named[config] + PARTED + text_of(script)
 
 
 def examples(pattern: str) -> Iterator[bytes]:
@@ -77,8 +44,7 @@ def worked_script(row: worked.Row) -> bytes:
 def texts() -> Iterator[bytes]:
     """Configurations."""
     yield from examples("*.config")
-    for row in CONFIG_ROW.findall(source_of("configs")) + FAULT_ROW.findall(source_of("faults")):
-        yield text_of(row)
+    yield from examples("rows/check*/*.config")
     yield from (text for text, _ in worked.TEXTS)
     yield from (random_texts.random_text(1, number) for number in range(40))
 
@@ -86,8 +52,7 @@ def texts() -> Iterator[bytes]:
 def scripts() -> Iterator[bytes]:
     """Inputs of `sim`."""
     yield from (source for source in examples("*.distac") if b"\nphase" not in source)
-    for name in ("scripts", "placements", "wires"):
-        yield from scripts_in(name)
+    yield from examples("rows/sim/*.distac")
     yield from map(worked_script, worked.ROWS)
     yield from (random_scripts.random_script(1, number) for number in range(40))
 
@@ -95,7 +60,7 @@ def scripts() -> Iterator[bytes]:
 def live_scripts() -> Iterator[bytes]:
     """Inputs of `live`."""
     yield from examples("live-*.distac")
-    yield from scripts_in("lives")
+    yield from examples("rows/live*/*.distac")
     yield from (row.config + PARTED + "\n".join(worked.whole(row.script)).encode() for row in worked.LIVE_ROWS)
     yield from (random_live.random_live(1, number) for number in range(25))
 

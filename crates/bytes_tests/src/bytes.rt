@@ -1,4 +1,4 @@
-//! Numbers, dots and contexts in bytes.
+//! Numbers, dots and contexts as bytes.
 use crate::sample::{dot, origin};
 use dac_base::{NoMemory, NodeId};
 use dac_bytes::{ByteReader, ByteWriter, ReadFault, ReadFaultKind, Version};
@@ -8,7 +8,7 @@ use std::alloc::Global;
 
 const NUMBERS: &[u8] = b"\x12\x34\x56\x78\x9a\xbc\xde\x01\x02\x03\x04\x05\x06\x07\x08";
 
-/// A number of each width.
+/// Reads a number of each width.
 fn numbers(bytes: &[u8]) -> Result<(u8, u16, u32, u64), ReadFault> {
     let (a, reader) = ByteReader::new(bytes).read_u8()?;
     let (b, reader) = reader.read_u16()?;
@@ -17,13 +17,13 @@ fn numbers(bytes: &[u8]) -> Result<(u8, u16, u32, u64), ReadFault> {
     Ok((a, b, c, d))
 }
 
-/// A number of each width as bytes.
+/// Writes a number of each width.
 fn number_bytes(alloc: Global, a: u8, b: u16, c: u32, d: u64) -> Result<Vec<u8>, NoMemory> {
     let writer = ByteWriter::new(alloc).write_u8(a)?.write_u16(b)?;
     Ok(writer.write_u32(c)?.write_u64(d)?.into_bytes())
 }
 
-/// Whether there was memory, and these are the bytes.
+/// True if these are the bytes.
 fn are_bytes(bytes: Result<Vec<u8>, NoMemory>, wanted: &[u8]) -> bool {
     match bytes {
         Ok(bytes) => bytes.as_slice() == wanted,
@@ -38,7 +38,7 @@ fn numbers_of_each_width(rt: HostRuntime) {
     assert!(rt; are_bytes(number_bytes(rt.alloc(), a, b, c, d), NUMBERS));
 }
 
-/// Where reading stands behind a byte, and whether that is the end.
+/// The position after reading a byte, and whether it's the end.
 fn behind_a_byte(bytes: &[u8]) -> Result<(usize, bool), ReadFault> {
     let (_, reader) = ByteReader::new(bytes).read_u8()?;
     Ok((reader.at(), reader.is_at_end()))
@@ -50,7 +50,7 @@ fn bytes_end(rt: HostRuntime) {
     assert!(rt; behind_a_byte(b"\x01\x02") == Ok((1, false)));
 }
 
-/// Numbers of three widths, each within its range.
+/// Reads numbers of three widths, each checked against a range.
 fn in_ranges(bytes: &[u8]) -> Result<(u8, u32, u64), ReadFault> {
     let (a, reader) = ByteReader::new(bytes).read_u8_in(1, 3)?;
     let (b, reader) = reader.read_u32_in(1, 9)?;
@@ -66,7 +66,7 @@ fn numbers_in_ranges(rt: HostRuntime) {
     assert!(rt; in_ranges(above) == Err(ReadFault::new(ReadFaultKind::BadNumber, 1)));
 }
 
-/// Three counts as bytes.
+/// Writes three counts.
 fn counts(alloc: Global, a: usize, b: usize, c: usize) -> Result<Vec<u8>, NoMemory> {
     let writer = ByteWriter::new(alloc).write_count_u8(a)?;
     Ok(writer.write_count_u16(b)?.write_count_u32(c)?.into_bytes())
@@ -80,7 +80,7 @@ fn counts_are_written_by_their_lowest_bits(rt: HostRuntime) {
 
 const DOT: &[u8] = b"\x02\x00\x00\x00\x00\x00\x00\x01\x02\x00\x00\x00\x00\x00\x00\x00\x05";
 
-/// The fields of a dot.
+/// Reads the fields of a dot.
 fn fields(bytes: &[u8]) -> Result<(NodeId, u64, u64), ReadFault> {
     let (node, reader) = ByteReader::new(bytes).read_node(3)?;
     let (inc, reader) = reader.read_incarnation(Version::Two)?;
@@ -88,20 +88,19 @@ fn fields(bytes: &[u8]) -> Result<(NodeId, u64, u64), ReadFault> {
     Ok((node, inc, n))
 }
 
-/// An origin, read after none and again by itself.
+/// Reads an origin, once with the check for ascending order and once without.
 fn origins(bytes: &[u8]) -> Result<(Origin, Origin), ReadFault> {
     let (first, _) = ByteReader::new(bytes).read_origin_above(Version::Two, 3, None)?;
     let (second, _) = ByteReader::new(bytes).read_origin(Version::Two, 3)?;
     Ok((first, second))
 }
 
-/// A dot that is read.
 fn read_dot(bytes: &[u8], nodes: u8) -> Result<Dot, ReadFault> {
     let (dot, _) = ByteReader::new(bytes).read_dot(Version::Two, nodes)?;
     Ok(dot)
 }
 
-/// A dot that is read after another.
+/// Reads a dot that must be above `before`.
 fn dot_above(bytes: &[u8], before: Dot) -> Result<Dot, ReadFault> {
     let (dot, _) = ByteReader::new(bytes).read_dot_above(Version::Two, 3, Some(before))?;
     Ok(dot)
@@ -125,7 +124,7 @@ fn faults_of_a_dot(rt: HostRuntime) {
     assert!(rt; same == Err(ReadFault::new(ReadFaultKind::BadOrder, 0)));
 }
 
-/// Counter 5 of the greatest incarnation of node 2, and of one above it.
+/// Counter 5 of node 2 at the greatest incarnation, and at the one above it.
 const LAST: &[u8] = b"\x02\x40\x00\x00\x00\x00\x00\x00\x00\x00\x00\x00\x00\x00\x00\x00\x05";
 
 const PAST: &[u8] = b"\x02\x40\x00\x00\x00\x00\x00\x00\x01\x00\x00\x00\x00\x00\x00\x00\x05";
@@ -136,10 +135,10 @@ fn incarnations_end(rt: HostRuntime) {
     assert!(rt; read_dot(PAST, 3) == Err(ReadFault::new(ReadFaultKind::BadNumber, 1)));
 }
 
-/// Counter 5 of the greatest incarnation of node 2 that version one has.
+/// Counter 5 of node 2 at the greatest incarnation of version one.
 const FOUR: &[u8] = b"\x02\xff\xff\xff\xff\x00\x00\x00\x00\x00\x00\x00\x05";
 
-/// A dot that is read of version one.
+/// Reads a dot of version one.
 fn read_first(bytes: &[u8]) -> Result<Dot, ReadFault> {
     let (dot, _) = ByteReader::new(bytes).read_dot(Version::One, 3)?;
     Ok(dot)
@@ -158,7 +157,6 @@ fn version_one_has_incarnations_of_four_bytes(rt: HostRuntime) {
     );
 }
 
-/// An origin and a dot as bytes.
 fn write_both(
     alloc: Global,
     version: Version,
@@ -177,7 +175,7 @@ fn origin_and_dot(rt: HostRuntime) {
     assert!(rt; are_bytes(bytes, wanted));
 }
 
-/// Contexts as bytes, each with the node, incarnation and counter of each of its dots. Counter 0 is a further one.
+/// Bytes of a context, and its dots by node, incarnation and counter. Counter 0 is part of the cloud.
 const CONTEXTS: &[(&[u8], &[(u8, u64, u64)])] = &[
     (b"\x00\x00", &[]),
     (
@@ -209,7 +207,7 @@ fn context(alloc: Global, dots: &[(u8, u64, u64)]) -> Result<Context, NoMemory> 
     Ok(context)
 }
 
-/// The context of some dots as bytes.
+/// The bytes of the context of some dots.
 fn context_bytes(alloc: Global, dots: &[(u8, u64, u64)]) -> Result<Vec<u8>, NoMemory> {
     let writer = ByteWriter::new(alloc).write_context(Version::Two, &context(alloc, dots)?)?;
     Ok(writer.into_bytes())
@@ -222,7 +220,7 @@ fn contexts_as_bytes(rt: HostRuntime) {
     }
 }
 
-/// Whether the bytes are read as the context of some dots.
+/// True if the bytes are read as the context of these dots.
 fn is_read(alloc: Global, bytes: &[u8], dots: &[(u8, u64, u64)]) -> Result<bool, ReadFault> {
     let (read, _) = ByteReader::new(bytes).read_context(alloc, Version::Two, 3)?;
     let wanted = context(alloc, dots)?;
@@ -240,11 +238,10 @@ fn contexts_from_bytes(rt: HostRuntime) {
     );
 }
 
-/// How many incarnations of a node have dots, and how many gaps each has: more than one byte says.
+/// The number of a node's incarnations, and of gaps in each, so that counts need two bytes.
 const WIDE: &[(u16, u16)] = &[(1, 300), (300, 1)];
 
-/// A context of so many incarnations of the second node. Each has the counters 1 and 2, and so many further ones with a gap before
-/// each.
+/// A context of `incarnations` incarnations of node 1, each with counters 1 and 2 and a cloud with `gaps` gaps.
 fn wide(alloc: Global, incarnations: u16, gaps: u16) -> Result<Context, NoMemory> {
     let mut further = Vec::new(alloc);
     for gap in 0..gaps {
@@ -257,7 +254,7 @@ fn wide(alloc: Global, incarnations: u16, gaps: u16) -> Result<Context, NoMemory
     Ok(context)
 }
 
-/// Whether such a context is read from its own bytes, with all its dots.
+/// True if such a context is read from its own bytes.
 fn is_wide_read(alloc: Global, incarnations: u16, gaps: u16) -> Result<bool, ReadFault> {
     let wanted = wide(alloc, incarnations, gaps)?;
     let writer = ByteWriter::new(alloc).write_context(Version::Two, &wanted)?;
@@ -274,8 +271,8 @@ fn wide_contexts_are_read_again(rt: HostRuntime) {
     }
 }
 
-/// Bytes that are no context, each with the fault and its place. They are a count of much more than there is, a
-/// counter that continues, an origin without dots, and counter 0.
+/// Bytes of faulty contexts, and their faults: a count beyond the end, a counter that continues the row, an origin
+/// without dots, and counter 0.
 const FAULTS: &[(&[u8], ReadFaultKind, usize)] = &[
     (
         b"\x00\x01\x01\x00\x00\x00\x00\x00\x00\x00\x01\x00\x00\x00\x00\x00\x00\x00\x00\xff\xff\xff\xff",
@@ -307,7 +304,7 @@ fn faults_of_a_context(rt: HostRuntime) {
     }
 }
 
-/// Whether a fault has this number and name, and is printed so.
+/// True if a fault has this number and name and is printed like this.
 fn is_printed(
     alloc: Global,
     fault: ReadFault,

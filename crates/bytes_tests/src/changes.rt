@@ -1,5 +1,4 @@
-//! Packets of which one byte is another: each is refused, or spells a packet whose bytes these are. Every byte is tried at
-//! every place.
+//! Packets with one byte changed, at every place to every value: each is refused or is the encoding of another packet.
 use crate::messages::{
     BOOTED, INTERVAL, OPERATIONS, boot_bytes, has_bytes, packet_bytes, with_byte,
 };
@@ -11,7 +10,7 @@ use dac_messages::{Body, Message};
 use dac_wire::{Packet, decode, encode};
 use std::alloc::Global;
 
-/// Whether the bytes are refused, or spell a packet whose bytes they are.
+/// True if the bytes are refused, or are the encoding of the packet that they decode to.
 fn is_refused_or_read(alloc: Global, config: &Config, bytes: &[u8]) -> bool {
     match decode(alloc, config, bytes) {
         Ok(packet) => has_bytes(alloc, config, &packet, bytes),
@@ -19,7 +18,7 @@ fn is_refused_or_read(alloc: Global, config: &Config, bytes: &[u8]) -> bool {
     }
 }
 
-/// The first place at which it isn't so of the bytes with another one there.
+/// The first place where changing a byte breaks that.
 fn wrong_place(alloc: Global, text: &[u8], bytes: &[u8], byte: u8) -> Option<Option<usize>> {
     let config = config(alloc, text)?;
     for at in 0..bytes.len() {
@@ -31,7 +30,7 @@ fn wrong_place(alloc: Global, text: &[u8], bytes: &[u8], byte: u8) -> Option<Opt
     Some(None)
 }
 
-/// The same of the message of a node that booted.
+/// The first such place in the message of a booted node.
 fn wrong_in_message(alloc: Global, byte: u8) -> Option<Option<usize>> {
     wrong_place(alloc, EXAMPLE, &boot_bytes(alloc).ok()?, byte)
 }
@@ -44,7 +43,7 @@ fn one_byte_changed_in_a_message(rt: HostRuntime) {
     }
 }
 
-/// The same of a packet of these fields.
+/// The first such place in a packet of these fields.
 fn wrong_in(alloc: Global, fields: &[&[u8]], byte: u8) -> Option<Option<usize>> {
     wrong_place(alloc, EXAMPLE, &packet_bytes(alloc, fields).ok()?, byte)
 }
@@ -57,7 +56,7 @@ fn one_byte_changed_in_an_interval(rt: HostRuntime) {
     }
 }
 
-/// Whether it is so of an operation of each kind.
+/// True if no operation of any kind has such a place.
 fn is_so_of_operations(alloc: Global, byte: u8) -> bool {
     OPERATIONS.iter().all(|(fields, _, _)| wrong_in(alloc, &[fields], byte) == Some(None))
 }
@@ -69,7 +68,7 @@ fn one_byte_changed_in_every_operation(rt: HostRuntime) {
     }
 }
 
-/// The bytes of a message whose state has permits, starts, lives, claims and drains.
+/// The bytes of a message whose state has every piece.
 fn every_part(alloc: Global) -> Option<Vec<u8>> {
     let message = Message {
         from: origin(2, 258),
@@ -82,7 +81,7 @@ fn every_part(alloc: Global) -> Option<Vec<u8>> {
     encode(alloc, &config(alloc, LISTS)?, &Packet::Msg(message)).ok()
 }
 
-/// The first place of that message at which it isn't so.
+/// The first such place in that message.
 fn wrong_in_every_part(alloc: Global, byte: u8) -> Option<Option<usize>> {
     wrong_place(alloc, LISTS, &every_part(alloc)?, byte)
 }

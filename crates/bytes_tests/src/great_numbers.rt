@@ -1,5 +1,5 @@
-//! Messages of numbers of deltas that don't fit in four bytes: up to how many deltas are shipped, and how many were got. Both
-//! versions have eight bytes for each, and nothing up to 2^62 is refused.
+//! Messages whose delta numbers exceed four bytes: the sender's count, and its acknowledgement. Both versions write
+//! eight bytes for each, and accept values up to 2^62.
 use crate::messages::{FRONT_ONE, are_equal, bytes_after, has_bytes, packet_bytes};
 use crate::sample::{EXAMPLE, config, origin};
 use dac_base::NodeId;
@@ -7,7 +7,7 @@ use dac_messages::{Body, Message};
 use dac_wire::{Packet, decode};
 use std::alloc::Global;
 
-/// How many deltas are shipped and how many were got, each with its bytes.
+/// The sender's count and the acknowledgement, each with its bytes.
 type Row = (u64, &'static [u8], u64, &'static [u8]);
 
 const NUMBERS: &[Row] = &[
@@ -37,7 +37,7 @@ const NUMBERS: &[Row] = &[
     ),
 ];
 
-/// A message of node 1, incarnation 258, to node 0, incarnation 2, that brings nothing.
+/// A message without a body from node 1, incarnation 258, to node 0, incarnation 2.
 fn message(up_to: u64, got: u64) -> Packet {
     Packet::Msg(Message {
         from: origin(1, 258),
@@ -49,14 +49,14 @@ fn message(up_to: u64, got: u64) -> Packet {
     })
 }
 
-/// What stands before the first number: kind 3, the origin, and for whom it is.
+/// The fields before the count: kind 3, the origin, and the receiver.
 const BEFORE: &[u8] =
     b"\x03\x01\x00\x00\x00\x00\x00\x00\x01\x02\x00\x00\x00\x00\x00\x00\x00\x00\x02";
 
-/// What stands between the two: something was got, of node 0, incarnation 2.
+/// The fields between the two numbers: an acknowledgement of node 0, incarnation 2.
 const BETWEEN: &[u8] = b"\x01\x00\x00\x00\x00\x00\x00\x00\x00\x02";
 
-/// Whether the message of a row has its bytes, and is read from them.
+/// True if a row's message has the row's bytes, and is read from them.
 fn is_spelled(alloc: Global, row: Row) -> Option<bool> {
     let (up_to, shipped, got, acknowledged) = row;
     let config = config(alloc, EXAMPLE)?;
@@ -74,13 +74,13 @@ fn great_numbers_of_deltas(rt: HostRuntime) {
     }
 }
 
-/// The same before the first number in version 1.
+/// The fields before the count, in version 1.
 const BEFORE_ONE: &[u8] = b"\x03\x01\x00\x00\x01\x02\x00\x00\x00\x00\x02";
 
-/// The same between the two.
+/// The fields between the two numbers, in version 1.
 const BETWEEN_ONE: &[u8] = b"\x01\x00\x00\x00\x00\x02";
 
-/// Whether the message of a row is read from its bytes in version 1.
+/// True if a row's message is read from its bytes in version 1.
 fn is_read_in_version_one(alloc: Global, row: Row) -> Option<bool> {
     let (up_to, shipped, got, acknowledged) = row;
     let config = config(alloc, EXAMPLE)?;

@@ -1,7 +1,7 @@
-//! Tests of bytes: numbers and contexts, states and their parts, messages and single operations.
+//! Tests of bytes: numbers and contexts, states and their pieces, messages and single operations.
 //!
-//! The crates below are proved. So here stand the vectors and the faults of the formats, each public call once with ample
-//! memory, and nothing that a contract says wholly.
+//! The crates below are proved, so the tests cover what contracts can't: vectors and faults of the formats, and each
+//! public call once with enough memory.
 #![tactic(auto)]
 
 #[cfg(test)]

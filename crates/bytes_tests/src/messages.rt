@@ -1,5 +1,5 @@
-//! Messages and single operations as bytes: a message of a node that booted in both versions, each kind of packet, and
-//! bytes that spell none.
+//! Messages and single operations as bytes: a booted node's message in both versions, each kind of packet, and faulty
+//! bytes.
 use crate::sample::{EXAMPLE, config, dot, origin};
 use dac_base::{AppId, NoMemory, NodeId};
 use dac_chains::How;
@@ -11,7 +11,7 @@ use dac_wire::{Packet, WireFault, WireFaultKind, decode, encode};
 use dac_wishes::{DotList, Key};
 use std::alloc::Global;
 
-/// The first node booted, and has heard of nothing else.
+/// The state of node 0 after its boot.
 pub const BOOTED: &[u8] =
     b"\x00\x01\x00\x00\x00\x00\x00\x00\x00\x00\x01\x00\x00\x00\x00\x00\x00\x00\x01\x00\x00\x00\x00\
     \x00\x01\x00\x00\x00\x00\x00\x00\x00\x00\x01\x00\x00\x00\x00\x00\x00\x00\x01\x00\x00\x00\x00\
@@ -20,31 +20,30 @@ pub const BOOTED: &[u8] =
     \x00\x00\
     \x00\x00\x00\x00";
 
-/// The fields of its message to the second node: kind 1; shipped by node 0, incarnation 1; for node 1, any incarnation;
-/// one delta; nothing got. Its state follows.
+/// The fields of that node's message, before the state: kind 1; from node 0, incarnation 1; to node 1, any incarnation;
+/// one delta; no acknowledgement.
 const WHOLE: &[u8] =
     b"\x01\x00\x00\x00\x00\x00\x00\x00\x00\x01\x01\x00\x00\x00\x00\x00\x00\x00\x00\x00\x00\x00\x00\x00\x00\x00\x01\x00";
 
-/// The fields of an interval: kind 2; shipped by node 1, incarnation 258; for node 0, incarnation 2; seven deltas; three
-/// deltas got of node 0, incarnation 2. A state follows.
+/// The fields of an interval, before the state: kind 2; from node 1, incarnation 258; to node 0, incarnation 2; seven
+/// deltas; three deltas of node 0, incarnation 2, acknowledged.
 pub const INTERVAL: &[u8] =
     b"\x02\x01\x00\x00\x00\x00\x00\x00\x01\x02\x00\x00\x00\x00\x00\x00\x00\x00\x02\x00\x00\x00\x00\x00\x00\x00\x07\
     \x01\x00\x00\x00\x00\x00\x00\x00\x00\x02\x00\x00\x00\x00\x00\x00\x00\x03";
 
-/// The fields of a message that brings nothing: kind 3, and then as in the interval. No state follows.
+/// The fields of a message without a state: kind 3, then those of the interval.
 const NOTHING: &[u8] =
     b"\x03\x01\x00\x00\x00\x00\x00\x00\x01\x02\x00\x00\x00\x00\x00\x00\x00\x00\x02\x00\x00\x00\x00\x00\x00\x00\x07\
     \x01\x00\x00\x00\x00\x00\x00\x00\x00\x02\x00\x00\x00\x00\x00\x00\x00\x03";
 
-/// What each packet under the example begins with: `DAC`, version 2 and the mark. The mark is 15451059380765602643, the
-/// 64-bit FNV-1a value of the example's canonical text.
+/// The header of packets under the example: `DAC`, version 2 and the mark 15451059380765602643, which is the 64-bit
+/// FNV-1a hash of the canonical text.
 const FRONT: &[u8] = b"DAC\x02\xd6\x6d\x30\xa4\xc2\x00\x33\x53";
 
-/// The same in version 1.
+/// The header in version 1.
 pub const FRONT_ONE: &[u8] = b"DAC\x01\xd6\x6d\x30\xa4\xc2\x00\x33\x53";
 
-/// The message of the first node in version 1, after its mark. It has incarnations in four bytes, and its state has no
-/// drains.
+/// The booted node's message in version 1, after its header. Incarnations have four bytes, and the state has no drains.
 const WHOLE_ONE: &[u8] =
     b"\x01\x00\x00\x00\x00\x01\x01\x00\x00\x00\x00\x00\x00\x00\x00\x00\x00\x00\x01\x00\
     \x00\x01\x00\x00\x00\x00\x01\x00\x00\x00\x00\x00\x00\x00\x01\x00\x00\x00\x00\
@@ -53,12 +52,12 @@ const WHOLE_ONE: &[u8] =
     \x01\x00\x00\x00\x00\x01\x00\
     \x00\x00";
 
-/// The bytes of a packet that has these fields after its mark.
+/// The bytes of a packet with these fields after its header.
 pub fn packet_bytes(alloc: Global, fields: &[&[u8]]) -> Result<Vec<u8>, NoMemory> {
     bytes_after(alloc, FRONT, fields)
 }
 
-/// These fields after what comes before them.
+/// These fields after a header.
 pub fn bytes_after(alloc: Global, front: &[u8], fields: &[&[u8]]) -> Result<Vec<u8>, NoMemory> {
     let mut bytes = Vec::from_slice(alloc, front)?;
     for part in fields {
@@ -67,17 +66,17 @@ pub fn bytes_after(alloc: Global, front: &[u8], fields: &[&[u8]]) -> Result<Vec<
     Ok(bytes)
 }
 
-/// The bytes of the message of a node that booted.
+/// The bytes of the booted node's message.
 pub fn boot_bytes(alloc: Global) -> Result<Vec<u8>, NoMemory> {
     packet_bytes(alloc, &[WHOLE, BOOTED])
 }
 
-/// The bytes of the same message in version 1.
+/// The bytes of the booted node's message in version 1.
 fn booted_one(alloc: Global) -> Result<Vec<u8>, NoMemory> {
     bytes_after(alloc, FRONT_ONE, &[WHOLE_ONE])
 }
 
-/// Whether the two are one packet.
+/// True if the packets are equal.
 pub fn are_equal(one: &Packet, other: &Packet) -> bool {
     match (one, other) {
         (Packet::Msg(one), Packet::Msg(other)) => one.equal(other),
@@ -86,7 +85,7 @@ pub fn are_equal(one: &Packet, other: &Packet) -> bool {
     }
 }
 
-/// Whether the packet has these bytes.
+/// True if these are the packet's bytes.
 pub fn has_bytes(alloc: Global, config: &Config, packet: &Packet, bytes: &[u8]) -> bool {
     match encode(alloc, config, packet) {
         Ok(written) => written.as_slice() == bytes,
@@ -94,7 +93,7 @@ pub fn has_bytes(alloc: Global, config: &Config, packet: &Packet, bytes: &[u8]) 
     }
 }
 
-/// Whether a packet's bytes are those of these fields, and are read as the packet.
+/// True if these fields are the packet's bytes, and are read as the packet.
 fn is_spelled(alloc: Global, fields: &[&[u8]], packet: &Packet) -> Option<bool> {
     let config = config(alloc, EXAMPLE)?;
     let bytes = packet_bytes(alloc, fields).ok()?;
@@ -102,12 +101,12 @@ fn is_spelled(alloc: Global, fields: &[&[u8]], packet: &Packet) -> Option<bool> 
     Some(are_equal(&read, packet) && has_bytes(alloc, &config, packet, &bytes))
 }
 
-/// The state of a node that booted.
+/// The state of the booted node.
 fn state(alloc: Global) -> Option<State> {
     State::decode(alloc, &config(alloc, EXAMPLE)?, BOOTED).ok()
 }
 
-/// The message of a node that booted.
+/// The booted node's message.
 fn whole(state: State) -> Packet {
     Packet::Msg(Message {
         from: origin(0, 1),
@@ -119,7 +118,7 @@ fn whole(state: State) -> Packet {
     })
 }
 
-/// A message of the second node to the first one's second incarnation.
+/// A message of node 1 to the second incarnation of node 0.
 fn answer(body: Body) -> Packet {
     Packet::Msg(Message {
         from: origin(1, 258),
@@ -131,7 +130,7 @@ fn answer(body: Body) -> Packet {
     })
 }
 
-/// Whether a message of each kind is spelled so.
+/// True if a message of each kind has its bytes.
 fn are_messages_spelled(alloc: Global) -> Option<bool> {
     let whole = whole(state(alloc)?);
     let interval = answer(Body::Interval(state(alloc)?));
@@ -148,7 +147,7 @@ fn every_message(rt: HostRuntime) {
     assert!(rt; are_messages_spelled(rt.alloc()) == Some(true));
 }
 
-/// Whether the bytes of version 1 are read as the message whose bytes are those of version 2.
+/// True if the message in version 1 is read, and is written in version 2.
 fn is_read_in_version_one(alloc: Global) -> Option<bool> {
     let config = config(alloc, EXAMPLE)?;
     let packet = decode(alloc, &config, &booted_one(alloc).ok()?).ok()?;
@@ -161,7 +160,7 @@ fn a_message_in_version_one(rt: HostRuntime) {
     assert!(rt; is_read_in_version_one(rt.alloc()) == Some(true));
 }
 
-/// What an operation does. Of a permit and of a drain it has the value; of a claim the term, how, and from which node.
+/// The kind of an operation, with the value of a permit or a drain, or the term, cause and previous node of a claim.
 #[derive(Clone, Copy)]
 pub enum Kind {
     Up,
@@ -173,7 +172,7 @@ pub enum Kind {
     Drain(bool),
 }
 
-/// The first application at the third node, incarnation 3.
+/// Application 0 at node 2, incarnation 3.
 const KEY: Key = Key {
     app: AppId(0),
     node: NodeId(2),
@@ -213,13 +212,13 @@ fn act(kind: Kind, over: DotList) -> Act {
     }
 }
 
-/// Operations of node 1, incarnation 258, each with its counter. First come kind 4, the dot and the act. The other lines
-/// of a row are the act's fields:
-/// - of a Down node 2, incarnation 4;
-/// - of a Permit application 0, node 2, incarnation 3; the value; two replaced dots, (0, 1, 2) and (1, 258, 3);
-/// - of a Start and a Stop the same without the value;
-/// - of a Claim application 0, the term, how, and the number after that of the node it was taken from;
-/// - of a Drain node 2, incarnation 3; the value; the two replaced dots.
+/// Operations of node 1, incarnation 258, with their counters. The first line of a row has kind 4, the dot and the act;
+/// the others have the act's fields:
+/// - of a Down, node 2, incarnation 4;
+/// - of a Permit, application 0, node 2, incarnation 3; the value; two replaced dots, (0, 1, 2) and (1, 258, 3);
+/// - of a Start and a Stop, those of a Permit without the value;
+/// - of a Claim, application 0, the term, the cause, and one more than the number of the previous node;
+/// - of a Drain, node 2, incarnation 3; the value; the two replaced dots.
 pub const OPERATIONS: &[(&[u8], u64, Kind)] = &[
     (
         b"\x04\x01\x00\x00\x00\x00\x00\x00\x01\x02\x00\x00\x00\x00\x00\x00\x00\x01\x01",
@@ -300,7 +299,7 @@ pub const OPERATIONS: &[(&[u8], u64, Kind)] = &[
     ),
 ];
 
-/// Whether these fields are those of an operation of this counter and kind.
+/// True if these fields are the bytes of an operation with this counter and kind.
 fn is_operation_spelled(alloc: Global, fields: &[u8], n: u64, kind: Kind) -> Option<bool> {
     let over = over(alloc).ok()?;
     let op = Op::new(dot(1, 258, n), act(kind, over)).ok()?;
@@ -315,13 +314,13 @@ fn every_operation(rt: HostRuntime) {
     }
 }
 
-/// Why the bytes are refused under this configuration, if they are.
+/// The fault of the bytes, if they have one.
 fn fault_of(alloc: Global, config: &Config, bytes: &[u8]) -> Option<WireFault> {
     decode(alloc, config, bytes).err()
 }
 
-/// Below which length a front of the message is refused so, from the length in the row before on. What is short is so at
-/// the first byte of the field that isn't whole.
+/// The fault of each prefix of the message that is shorter than this length, and not shorter than the one in the row
+/// before. A short prefix has its fault at the first byte of the incomplete field.
 const FRONTS: &[(usize, WireFaultKind, usize)] = &[
     (3, WireFaultKind::BadMagic, 0),
     (4, WireFaultKind::BadVersion, 3),
@@ -353,7 +352,7 @@ const FRONTS: &[(usize, WireFaultKind, usize)] = &[
     (111, WireFaultKind::Short, 107),
 ];
 
-/// Whether each front from one length on and below another has this fault.
+/// True if each prefix with a length in `lengths.0..lengths.1` has this fault.
 fn are_refused(
     alloc: Global,
     config: &Config,
@@ -370,7 +369,7 @@ fn are_refused(
     true
 }
 
-/// The same for the message in version 1.
+/// The faults of the prefixes of the message in version 1.
 const FRONTS_ONE: &[(usize, WireFaultKind, usize)] = &[
     (3, WireFaultKind::BadMagic, 0),
     (4, WireFaultKind::BadVersion, 3),
@@ -401,7 +400,7 @@ const FRONTS_ONE: &[(usize, WireFaultKind, usize)] = &[
     (87, WireFaultKind::Short, 85),
 ];
 
-/// Whether each front has the fault of the list.
+/// True if each prefix has its fault in the list.
 fn are_fronts_refused(
     alloc: Global,
     bytes: &[u8],
@@ -422,7 +421,7 @@ fn are_fronts_refused(
     Some(start == bytes.len())
 }
 
-/// Whether each front of the message has its fault, in both versions.
+/// True if each prefix of the message has its fault, in both versions.
 fn are_all_fronts_refused(alloc: Global) -> Option<bool> {
     let newer = boot_bytes(alloc).ok()?;
     let older = booted_one(alloc).ok()?;
@@ -437,7 +436,7 @@ fn fronts_of_a_message(rt: HostRuntime) {
     assert!(rt; are_all_fronts_refused(rt.alloc()) == Some(true));
 }
 
-/// These bytes with another one at a place.
+/// The bytes with one of them changed.
 pub fn with_byte(alloc: Global, bytes: &[u8], at: usize, byte: u8) -> Result<Vec<u8>, NoMemory> {
     let mut changed = Vec::from_slice(alloc, bytes)?;
     if let Some(there) = changed.get_mut(at) {
@@ -446,33 +445,33 @@ pub fn with_byte(alloc: Global, bytes: &[u8], at: usize, byte: u8) -> Result<Vec
     Ok(changed)
 }
 
-/// A place, the byte that is put there, and the fault of the message at its place then.
+/// A place, its new byte, and the fault of the changed message.
 const CHANGES: &[(usize, u8, WireFaultKind, usize)] = &[
     (0, 0x45, WireFaultKind::BadMagic, 0),
     (3, 0, WireFaultKind::BadVersion, 3),
     (3, 3, WireFaultKind::BadVersion, 3),
-    // Read as version 1.
+    // The rest is read as version 1.
     (3, 1, WireFaultKind::BadNumber, 14),
     (12, 0, WireFaultKind::BadNumber, 12),
     (12, 5, WireFaultKind::BadNumber, 12),
-    // What needs an incarnation has none.
+    // An interval requires an incarnation.
     (12, 2, WireFaultKind::BadNumber, 23),
     (13, 3, WireFaultKind::BadName, 13),
     (21, 0, WireFaultKind::BadNumber, 14),
     (22, 3, WireFaultKind::BadName, 22),
-    // A whole state is for any incarnation.
+    // A whole state must be for any incarnation.
     (30, 1, WireFaultKind::BadNumber, 23),
     (31, 0x41, WireFaultKind::BadNumber, 31),
     (39, 2, WireFaultKind::BadNumber, 39),
     (39, 1, WireFaultKind::BadNumber, 83),
-    // The state.
+    // Faults within the state.
     (104, 2, WireFaultKind::BadNumber, 104),
     (95, 3, WireFaultKind::BadName, 95),
     (106, 1, WireFaultKind::Short, 109),
     (110, 1, WireFaultKind::Short, 111),
 ];
 
-/// The fault of the message where one byte is another.
+/// The fault of the message with one byte changed.
 fn fault_of_change(alloc: Global, place: usize, byte: u8) -> Option<WireFault> {
     let config = config(alloc, EXAMPLE)?;
     let bytes = boot_bytes(alloc).ok()?;
@@ -491,7 +490,7 @@ fn one_fault_of_a_message(rt: HostRuntime) {
     }
 }
 
-/// Why the message is refused with a byte after it.
+/// The fault of the message with a byte after it.
 fn trailing(alloc: Global) -> Option<WireFault> {
     let config = config(alloc, EXAMPLE)?;
     let mut bytes = boot_bytes(alloc).ok()?;
@@ -499,14 +498,14 @@ fn trailing(alloc: Global) -> Option<WireFault> {
     fault_of(alloc, &config, &bytes)
 }
 
-/// Why the message is refused under another configuration.
+/// The fault of the message under another configuration.
 fn under_another(alloc: Global) -> Option<WireFault> {
     let other = config(alloc, b"[{kernel,[{distributed,[{a,[b@h,c@h]}]}]}].")?;
     let bytes = boot_bytes(alloc).ok()?;
     fault_of(alloc, &other, &bytes)
 }
 
-/// Why one byte more than a packet can have is refused.
+/// The fault of one byte more than a packet can have.
 fn too_long(alloc: Global) -> Option<WireFault> {
     let config = config(alloc, EXAMPLE)?;
     let mut bytes = Vec::new(alloc);
@@ -533,24 +532,24 @@ fn faults_of_all_bytes(rt: HostRuntime) {
     assert!(rt; too_long(rt.alloc()) == Some(too_long_at));
 }
 
-/// The bytes of a stop by a dot that replaces two others, up to the two.
+/// The bytes of a stop that replaces two dots, up to the dots.
 const STOP: &[u8] = b"\x04\x01\x00\x00\x00\x00\x00\x00\x00\x02\x00\x00\x00\x00\x00\x00\x00\x09\x05\
     \x00\x00\x02\x00\x00\x00\x00\x00\x00\x00\x03\x00\x02";
 
-/// Why a stop that replaces these two dots is refused.
+/// The fault of a stop that replaces these two dots.
 fn fault_of_stop(alloc: Global, first: &[u8], second: &[u8]) -> Option<WireFault> {
     let config = config(alloc, EXAMPLE)?;
     let bytes = packet_bytes(alloc, &[STOP, first, second]).ok()?;
     fault_of(alloc, &config, &bytes)
 }
 
-/// A dot of the second node.
+/// A dot of node 1.
 const SECOND: &[u8] = b"\x01\x00\x00\x00\x00\x00\x00\x00\x01\x00\x00\x00\x00\x00\x00\x00\x02";
 
-/// A dot of the first node.
+/// A dot of node 0.
 const FIRST: &[u8] = b"\x00\x00\x00\x00\x00\x00\x00\x00\x01\x00\x00\x00\x00\x00\x00\x00\x02";
 
-/// The dot of the stop itself.
+/// The stop's own dot.
 const OWN: &[u8] = b"\x01\x00\x00\x00\x00\x00\x00\x00\x02\x00\x00\x00\x00\x00\x00\x00\x09";
 
 #[test]
@@ -568,21 +567,21 @@ fn faults_of_an_operation(rt: HostRuntime) {
     assert!(rt; fault_of_stop(rt.alloc(), FIRST, OWN) == Some(no_operation));
 }
 
-/// The bytes of a drain that replaces nothing, without its value: of the third node, incarnation 3.
+/// The bytes of a drain of node 2, incarnation 3, up to its value.
 const DRAIN: &[u8] = b"\x04\x01\x00\x00\x00\x00\x00\x00\x00\x02\x00\x00\x00\x00\x00\x00\x00\x09\x07\
     \x02\x00\x00\x00\x00\x00\x00\x00\x03";
 
-/// The same in version 1, up to what the act is.
+/// The bytes of a drain in version 1, up to the act.
 const DRAIN_ONE: &[u8] = b"\x04\x01\x00\x00\x00\x02\x00\x00\x00\x00\x00\x00\x00\x09\x07";
 
-/// Why a drain with these bytes after it is refused.
+/// The fault of a drain that ends with these bytes.
 fn fault_of_drain(alloc: Global, rest: &[u8]) -> Option<WireFault> {
     let config = config(alloc, EXAMPLE)?;
     let bytes = packet_bytes(alloc, &[DRAIN, rest]).ok()?;
     fault_of(alloc, &config, &bytes)
 }
 
-/// Why the drain is refused in version 1.
+/// The fault of a drain in version 1.
 fn fault_in_version_one(alloc: Global) -> Option<WireFault> {
     let config = config(alloc, EXAMPLE)?;
     let bytes = bytes_after(alloc, FRONT_ONE, &[DRAIN_ONE]).ok()?;

@@ -8,7 +8,7 @@ use std::alloc::Global;
 pub const EXAMPLE: &[u8] =
     b"[{kernel,\n [{distributed, [{myapp, 5000, [cp1@cave, {cp2@cave, cp3@cave}]}]},\n {sync_nodes_mandatory, [cp2@cave, cp3@cave]},\n {sync_nodes_timeout, 5000}\n ]\n }\n].";
 
-/// A configuration, if it is accepted.
+/// A configuration, or `None` if it's refused.
 pub fn config(alloc: Global, text: &[u8]) -> Option<Config> {
     read_config(alloc, text).ok()
 }
@@ -21,7 +21,7 @@ pub fn origin(node: u8, inc: u64) -> Origin {
     }
 }
 
-/// A dot of an incarnation of a node.
+/// A dot of a node's incarnation.
 pub fn dot(node: u8, inc: u64, n: u64) -> Dot {
     Dot {
         origin: origin(node, inc),

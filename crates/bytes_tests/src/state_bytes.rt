@@ -1,4 +1,4 @@
-//! States from bytes: the state of a node that booted in both versions, one with every part, and bytes that spell none.
+//! States as bytes: a booted node's state in both versions, a state with every piece, and faulty bytes.
 use crate::sample::{EXAMPLE, config, dot, origin};
 use dac_base::{AppId, NoMemory, NodeId};
 use dac_bytes::{ByteWriter, Version};
@@ -8,7 +8,7 @@ use dac_origins::Dot;
 use dac_state::{Claim, How, Key, State, StateFault, StateFaultKind};
 use std::alloc::Global;
 
-/// The second node booted, and has heard of nothing else.
+/// The state of node 1 after its boot.
 const BOOTED: &[u8] =
     b"\x00\x01\x01\x00\x00\x00\x00\x00\x00\x00\x01\x00\x00\x00\x00\x00\x00\x00\x01\x00\x00\x00\x00\
     \x00\x01\x01\x00\x00\x00\x00\x00\x00\x00\x01\x00\x00\x00\x00\x00\x00\x00\x01\x00\x00\x00\x00\
@@ -17,7 +17,7 @@ const BOOTED: &[u8] =
     \x00\x00\
     \x00\x00\x00\x00";
 
-/// The same in version one, which has no drains and incarnations in four bytes.
+/// The state of node 1 after its boot, in version one, which has no drains, and incarnations in four bytes.
 const BOOTED_ONE: &[u8] =
     b"\x00\x01\x01\x00\x00\x00\x01\x00\x00\x00\x00\x00\x00\x00\x01\x00\x00\x00\x00\
     \x00\x01\x01\x00\x00\x00\x01\x00\x00\x00\x00\x00\x00\x00\x01\x00\x00\x00\x00\
@@ -28,7 +28,7 @@ const BOOTED_ONE: &[u8] =
 /// Three nodes and three applications.
 pub const LISTS: &[u8] = b"[{kernel,[{distributed,[{p,[a@h,b@h]},{q,[c@h]},{r,[a@h]}]}]}].";
 
-/// A state with every part, under the configuration of three applications.
+/// A state with every piece, under the configuration of three applications.
 pub const FULL: &[u8] = b"\
     \x00\x02\
     \x00\x00\x00\x00\x00\x00\x00\x00\x01\x00\x00\x00\x00\x00\x00\x00\x05\x00\x00\x00\x00\
@@ -60,7 +60,7 @@ pub const FULL: &[u8] = b"\
     \x02\x00\x00\x00\x00\x00\x00\x00\x01\x00\x00\x00\x01\
     \x01\x00\x00\x00\x00\x00\x00\x00\x01\x00\x00\x00\x00\x00\x00\x00\x05\x00";
 
-/// Whether the bytes spell a state whose bytes they are.
+/// True if the bytes are the encoding of the state that they decode to.
 fn is_spelled(alloc: Global, text: &[u8], bytes: &[u8]) -> Option<bool> {
     let state = State::decode(alloc, &config(alloc, text)?, bytes).ok()?;
     let again = state.encode().ok()?;
@@ -73,61 +73,61 @@ fn what_is_spelled_is_read(rt: HostRuntime) {
     assert!(rt; is_spelled(rt.alloc(), LISTS, FULL) == Some(true));
 }
 
-/// The first application at the second node, incarnation 1.
+/// Application 0 at node 1, incarnation 1.
 const FIRST: Key = Key {
     app: AppId(0),
     node: NodeId(1),
     inc: 1,
 };
 
-/// The third application at the first node, incarnation 258.
+/// Application 2 at node 0, incarnation 258.
 const THIRD: Key = Key {
     app: AppId(2),
     node: NodeId(0),
     inc: 258,
 };
 
-/// Whether the permits of a key are of these dots, with these values.
+/// True if the key's permits have these dots and values.
 fn are_permits(state: &State, key: Key, permits: &[(Dot, Flag)]) -> bool {
     state.permissions().dots(key) == permits
 }
 
-/// Whether the starts of a key are of these dots.
+/// True if the key's starts have these dots.
 fn are_starts(state: &State, key: Key, starts: &[Dot]) -> bool {
     state.wishes().dots(key) == starts
 }
 
-/// Whether the state has the permits of the bytes with every part.
+/// True if the permits are those in `FULL`.
 fn has_permits(state: &State) -> bool {
     let both = [(dot(0, 1, 2), Flag::Up), (dot(1, 1, 2), Flag::Down)];
     let denied = [(dot(0, 1, 3), Flag::Down)];
     are_permits(state, FIRST, &both) && are_permits(state, THIRD, &denied)
 }
 
-/// Whether the state has the starts of the bytes with every part.
+/// True if the starts are those in `FULL`.
 fn has_starts(state: &State) -> bool {
     let both = [dot(0, 1, 4), dot(1, 1, 3)];
     are_starts(state, FIRST, &both) && are_starts(state, THIRD, &[dot(0, 1, 5)])
 }
 
-/// Whether a node has this life.
+/// True if the node has this life.
 fn lives(state: &State, node: u8, life: Option<(u64, Flag)>) -> bool {
     state.lives().life(NodeId(node)) == life
 }
 
-/// Whether the state has the lives of the bytes with every part.
+/// True if the lives are those in `FULL`.
 fn has_lives(state: &State) -> bool {
     lives(state, 0, Some((1, Flag::Down)))
         && lives(state, 1, None)
         && lives(state, 2, Some((258, Flag::Up)))
 }
 
-/// Whether an application has this claim.
+/// True if the application has this claim.
 fn is_claimed(state: &State, app: u16, claim: Claim) -> bool {
     state.claims().greatest(AppId(app)) == Some(claim)
 }
 
-/// Whether the state has the claims of the bytes with every part.
+/// True if the claims are those in `FULL`.
 fn has_claims(state: &State) -> bool {
     let normal = Claim {
         term: 1,
@@ -144,35 +144,35 @@ fn has_claims(state: &State) -> bool {
     is_claimed(state, 0, normal) && is_claimed(state, 1, takeover)
 }
 
-/// Whether the drains of an incarnation are of these dots, with these values.
+/// True if the incarnation's drains have these dots and values.
 fn are_drains(state: &State, node: u8, inc: u64, drains: &[(Dot, Flag)]) -> bool {
     state.drains().dots(NodeId(node), inc) == drains
 }
 
-/// Whether the first node's incarnation 258 is drained, and no other.
+/// True if incarnation 258 of node 0 is drained, and the others aren't.
 fn are_drained(state: &State) -> bool {
     let drained = |node, inc| state.drains().drained(NodeId(node), inc);
     drained(0, 258) && !drained(0, 1) && !drained(2, 1)
 }
 
-/// Whether the state has the drains of the bytes with every part.
+/// True if the drains are those in `FULL`.
 fn has_drains(state: &State) -> bool {
     let both = [(dot(0, 1, 1), Flag::Down), (dot(1, 1, 1), Flag::Up)];
     let undone = [(dot(1, 1, 5), Flag::Up)];
     are_drains(state, 0, 258, &both) && are_drains(state, 2, 1, &undone) && are_drained(state)
 }
 
-/// Whether eight dots are heard and nine known.
+/// True if eight dots are heard and nine known.
 fn has_dots(state: &State) -> bool {
     state.heard().len() == 8 && state.known().len() == 9
 }
 
-/// The state with every part.
+/// The state with every piece.
 pub fn full(alloc: Global) -> Option<State> {
     State::decode(alloc, &config(alloc, LISTS)?, FULL).ok()
 }
 
-/// Whether each part is what the bytes say, and the state is its own join.
+/// True if each piece is that in `FULL`, and the state is its own join.
 fn is_full(state: &State) -> Result<bool, NoMemory> {
     Ok(
         has_dots(state)
@@ -193,12 +193,12 @@ fn every_part_is_read(rt: HostRuntime) {
     }
 }
 
-/// Why the bytes are refused under this configuration, if they are.
+/// The fault of the bytes, if they have one.
 fn fault_of(alloc: Global, config: &Config, bytes: &[u8]) -> Option<StateFault> {
     State::decode(alloc, config, bytes).err()
 }
 
-/// Whether the bytes, with others in place of those between two places, have this fault.
+/// True if the bytes with `others` in place of `from..to` have this fault.
 fn has_fault(
     alloc: Global,
     from: usize,
@@ -210,7 +210,7 @@ fn has_fault(
     Some(fault_of(alloc, &config(alloc, EXAMPLE)?, &bytes) == Some(fault))
 }
 
-/// The bytes of the node that booted, with others in place of those between two places.
+/// The booted node's bytes with `others` in place of `from..to`.
 fn with_others(alloc: Global, from: usize, others: &[u8], to: usize) -> Result<Vec<u8>, NoMemory> {
     let mut bytes = Vec::from_slice(alloc, BOOTED)?;
     bytes.truncate(from);
@@ -221,7 +221,7 @@ fn with_others(alloc: Global, from: usize, others: &[u8], to: usize) -> Result<V
     Ok(bytes)
 }
 
-/// From which place to which the bytes are replaced, by what, and the fault at its place.
+/// Start of the replaced bytes, their replacement, their end, and the fault.
 const REPLACED: &[(usize, &[u8], usize, StateFaultKind, usize)] = &[
     (70, &[], 71, StateFaultKind::Short, 67),
     (71, &[0], 71, StateFaultKind::Trailing, 71),
@@ -242,7 +242,7 @@ fn faults_of_a_node_that_booted(rt: HostRuntime) {
     }
 }
 
-/// These bytes with another one at a place.
+/// The bytes with one of them changed.
 fn with_byte(alloc: Global, bytes: &[u8], at: usize, byte: u8) -> Result<Vec<u8>, NoMemory> {
     let mut changed = Vec::from_slice(alloc, bytes)?;
     if let Some(there) = changed.get_mut(at) {
@@ -251,17 +251,16 @@ fn with_byte(alloc: Global, bytes: &[u8], at: usize, byte: u8) -> Result<Vec<u8>
     Ok(changed)
 }
 
-/// A place, the byte that is put there, and the fault of the state with every part at its place then.
+/// A place, its new byte, and the fault of the changed state with every piece.
 const CHANGES: &[(usize, u8, StateFaultKind, usize)] = &[
-    // What was heard: an origin without dots, of no node, and one that doesn't ascend.
+    // Heard: an origin without dots, an unknown one, a descending one, and too great a counter.
     (18, 0, StateFaultKind::BadNumber, 19),
     (23, 3, StateFaultKind::BadName, 23),
     (23, 0, StateFaultKind::BadOrder, 23),
     (11, 0x41, StateFaultKind::BadNumber, 11),
-    // What is known: a counter that continues, and a dot too few.
+    // Known: a counter that continues the row, and a missing dot.
     (95, 4, StateFaultKind::BadOrder, 88),
     (83, 2, StateFaultKind::NotKnown, 96),
-    // Permits.
     (100, 1, StateFaultKind::BadName, 100),
     (102, 3, StateFaultKind::BadName, 102),
     (110, 0, StateFaultKind::BadNumber, 103),
@@ -272,19 +271,16 @@ const CHANGES: &[(usize, u8, StateFaultKind, usize)] = &[
     (132, 2, StateFaultKind::BadNumber, 132),
     (152, 0, StateFaultKind::BadOrder, 151),
     (99, 3, StateFaultKind::BadOrder, 184),
-    // Starts.
     (188, 1, StateFaultKind::BadName, 188),
     (190, 2, StateFaultKind::NotInList, 188),
     (202, 0, StateFaultKind::BadNumber, 199),
     (219, 9, StateFaultKind::NotKnown, 203),
     (219, 0, StateFaultKind::BadNumber, 212),
     (220, 0, StateFaultKind::BadOrder, 220),
-    // Lives.
     (270, 3, StateFaultKind::BadName, 270),
     (278, 0, StateFaultKind::BadNumber, 271),
     (279, 2, StateFaultKind::BadNumber, 279),
     (280, 0, StateFaultKind::BadOrder, 280),
-    // Claims.
     (301, 0, StateFaultKind::BadNumber, 294),
     (311, 0, StateFaultKind::BadNumber, 311),
     (312, 1, StateFaultKind::BadNumber, 312),
@@ -293,7 +289,6 @@ const CHANGES: &[(usize, u8, StateFaultKind, usize)] = &[
     (333, 0, StateFaultKind::BadNumber, 333),
     (291, 3, StateFaultKind::BadNumber, 353),
     (291, 1, StateFaultKind::BadNumber, 326),
-    // Drains.
     (338, 3, StateFaultKind::BadName, 338),
     (395, 0, StateFaultKind::BadNumber, 388),
     (387, 0, StateFaultKind::BadOrder, 387),
@@ -306,7 +301,7 @@ const CHANGES: &[(usize, u8, StateFaultKind, usize)] = &[
     (337, 1, StateFaultKind::Trailing, 387),
 ];
 
-/// The fault of the state with every part where one byte is another.
+/// The fault of the state with every piece and one byte changed.
 fn fault_of_change(alloc: Global, place: usize, byte: u8) -> Option<StateFault> {
     let bytes = with_byte(alloc, FULL, place, byte).ok()?;
     fault_of(alloc, &config(alloc, LISTS)?, &bytes)
@@ -324,7 +319,7 @@ fn faults_of_every_part(rt: HostRuntime) {
     }
 }
 
-/// Whether a front of the bytes is short.
+/// True if the prefix of this length is too short.
 fn is_short(alloc: Global, config: &Config, bytes: &[u8], length: usize) -> bool {
     let (front, _) = bytes.split_at(length.min(bytes.len()));
     match fault_of(alloc, config, front) {
@@ -333,7 +328,7 @@ fn is_short(alloc: Global, config: &Config, bytes: &[u8], length: usize) -> bool
     }
 }
 
-/// Whether each front of the bytes is short.
+/// True if every proper prefix is too short.
 fn all_are_short(alloc: Global, text: &[u8], bytes: &[u8]) -> Option<bool> {
     let config = config(alloc, text)?;
     for length in 0..bytes.len() {
@@ -350,7 +345,7 @@ fn a_front_is_short(rt: HostRuntime) {
     assert!(rt; all_are_short(rt.alloc(), LISTS, FULL) == Some(true));
 }
 
-/// Whether the bytes are refused, or spell a state whose bytes they are.
+/// True if the bytes are refused, or are the encoding of the state that they decode to.
 fn is_refused_or_spelled(alloc: Global, config: &Config, bytes: &[u8]) -> Result<bool, NoMemory> {
     match State::decode(alloc, config, bytes) {
         Ok(state) => Ok(state.encode()?.as_slice() == bytes),
@@ -358,7 +353,7 @@ fn is_refused_or_spelled(alloc: Global, config: &Config, bytes: &[u8]) -> Result
     }
 }
 
-/// Whether the bytes with another one at a place are refused or spelled, for each place.
+/// True if, with any one byte changed to `byte`, they are refused or the encoding of another state.
 fn all_are_refused_or_spelled(alloc: Global, text: &[u8], bytes: &[u8], byte: u8) -> Option<bool> {
     let config = config(alloc, text)?;
     for at in 0..bytes.len() {
@@ -386,7 +381,7 @@ fn one_byte_changed_in_every_part(rt: HostRuntime) {
     }
 }
 
-/// The second node booted, and its counters go to the greatest that is issued.
+/// The state of node 1 after its boot, with all counters up to the greatest heard.
 const MOST: &[u8] =
     b"\x00\x01\x01\x00\x00\x00\x00\x00\x00\x00\x01\x40\x00\x00\x00\x00\x00\x00\x00\x00\x00\x00\x00\
     \x00\x01\x01\x00\x00\x00\x00\x00\x00\x00\x01\x40\x00\x00\x00\x00\x00\x00\x00\x00\x00\x00\x00\
@@ -395,12 +390,12 @@ const MOST: &[u8] =
     \x00\x00\
     \x00\x00\x00\x00";
 
-/// Whether as many counters as there can be are heard.
+/// True if all 2^62 counters are heard.
 fn are_used_up(state: &State) -> bool {
     state.heard().len() == 1 << 62 && state.heard().next(origin(1, 1)).is_none()
 }
 
-/// Whether that is so of the bytes, whose state is its own join.
+/// True if `MOST` decodes to that state, which is its own join.
 fn is_read(alloc: Global) -> Option<bool> {
     let state = State::decode(alloc, &config(alloc, EXAMPLE)?, MOST).ok()?;
     let joined = state.join(&state).ok()?;
@@ -419,7 +414,7 @@ fn in_version_one(alloc: Global, state: &State) -> Result<Vec<u8>, NoMemory> {
     Ok(written.into_bytes())
 }
 
-/// Whether the older bytes of the node that booted spell the state that the newer ones do, and are those of version one.
+/// True if the booted node's bytes of version one decode to the state of those of version two, and are written again.
 fn is_read_in_version_one(alloc: Global) -> Option<bool> {
     let config = config(alloc, EXAMPLE)?;
     let state = State::decode_1(alloc, &config, BOOTED_ONE).ok()?;
@@ -433,18 +428,18 @@ fn a_node_that_booted_in_version_one(rt: HostRuntime) {
     assert!(rt; is_read_in_version_one(rt.alloc()) == Some(true));
 }
 
-/// Why the bytes are refused in version one, if they are.
+/// The fault of the bytes in version one, if they have one.
 fn refused_in_version_one(alloc: Global, bytes: &[u8]) -> Option<StateFault> {
     State::decode_1(alloc, &config(alloc, EXAMPLE)?, bytes).err()
 }
 
-/// The fault of version one where one byte is another.
+/// The fault in version one after one byte changed.
 fn fault_in_version_one(alloc: Global, place: usize, byte: u8) -> Option<StateFault> {
     let bytes = with_byte(alloc, BOOTED_ONE, place, byte).ok()?;
     refused_in_version_one(alloc, &bytes)
 }
 
-/// The fault of version one where no drains follow, as version two spells that.
+/// The fault in version one of drains at the end, an empty list as in version two.
 fn fault_of_drains_in_version_one(alloc: Global) -> Option<StateFault> {
     let mut bytes = Vec::from_slice(alloc, BOOTED_ONE).ok()?;
     bytes.extend_from_slice(&[0, 0, 0, 0]).ok()?;

@@ -13,19 +13,19 @@ const KEY: Key = Key {
     inc: 1,
 };
 
-/// What node 0 does.
+/// An act of node 0.
 #[derive(Clone, Copy)]
 enum Kind {
     Up,
     Down,
     Permit(bool),
     Start,
-    /// Of the start by its second operation.
+    /// Ends the start by its second operation.
     Stop,
     Claim,
 }
 
-/// The dots that node 0 replaces so.
+/// The dots that the act replaces.
 fn over(alloc: Global, kind: Kind) -> Result<DotList, NoMemory> {
     let mut dots = Vec::new(alloc);
     if matches!(kind, Kind::Stop) {
@@ -34,7 +34,7 @@ fn over(alloc: Global, kind: Kind) -> Result<DotList, NoMemory> {
     Ok(DotList::new(dots))
 }
 
-/// The act of a kind that replaces these dots.
+/// The act of a kind.
 fn act(kind: Kind, over: DotList) -> Act {
     let key = KEY;
     match kind {
@@ -55,23 +55,23 @@ fn act(kind: Kind, over: DotList) -> Act {
     }
 }
 
-/// What an act of node 0 means alone.
+/// The delta of an act of node 0.
 fn delta(alloc: Global, n: u64, kind: Kind) -> Option<State> {
     let over = over(alloc, kind).ok()?;
     let op = Op::new(dot(0, 1, n), act(kind, over)).ok()?;
     State::delta_of(alloc, &op).ok()
 }
 
-/// What has a meaning alone.
+/// A value with a delta.
 trait Means: Copy {
-    /// Where meanings are joined.
+    /// The lattice of the deltas.
     type All: Bottom;
 
-    /// What it means alone, where there is memory.
+    /// The delta, or `None` if an allocation fails.
     fn alone(self, alloc: Global) -> Option<Self::All>;
 }
 
-/// What such things mean together.
+/// The join of several deltas.
 fn meaning<M: Means>(alloc: Global, parts: &[M]) -> Option<M::All> {
     let mut all = M::All::bottom(alloc);
     for part in parts {
@@ -88,12 +88,12 @@ impl Means for (u64, Kind) {
     }
 }
 
-/// Whether these dots are heard and known.
+/// True if exactly these dots are heard, and these known.
 fn has_dots(state: &State, heard: &[Dot], known: &[Dot]) -> Result<bool, NoMemory> {
     Ok(state.heard().dots()?.as_slice() == heard && state.known().dots()?.as_slice() == known)
 }
 
-/// Whether of an act by this counter its dot is heard, and these dots are known.
+/// True if a delta has its dot heard and these dots known.
 fn knows(alloc: Global, n: u64, kind: Kind, known: &[Dot]) -> Option<bool> {
     has_dots(&delta(alloc, n, kind)?, &[dot(0, 1, n)], known).ok()
 }
@@ -117,28 +117,28 @@ const ACTS: &[(u64, Kind)] = &[
     (4, Kind::Stop),
 ];
 
-/// The starts alone.
+/// The two starts only.
 const STARTS: &[(u64, Kind)] = &[(2, Kind::Start), (3, Kind::Start)];
 
-/// Whether two permits and the second start stand.
+/// True if two permits and the second start stand.
 fn has_writes(state: &State) -> bool {
     state.wishes().dots(KEY) == [dot(0, 1, 3)].as_slice()
         && state.permissions().dots(KEY).len() == 2
 }
 
-/// Whether node 1 is down, and the application claimed.
+/// True if node 1 is down, and the application claimed.
 fn has_chains(state: &State) -> bool {
     state.lives().life(NodeId(1)) == Some((1, Flag::Down))
         && state.claims().greatest(AppId(0)).is_some()
 }
 
-/// Whether the second value has all that the first has, and a copy of it their join, through the bound.
+/// True if the second value is strictly above the first, and is their join, called through the bound.
 fn is_joined_above<L: Lattice>(low: &L, high: &L) -> Result<bool, NoMemory> {
     low.tells_invariant();
     Ok(low.leq(high) && !high.leq(low) && low.join(high)?.equal(&high.copy()?))
 }
 
-/// Whether the acts mean what they say, above what the starts mean.
+/// True if the acts have their effects, above the starts alone.
 fn is_meaning(alloc: Global) -> Option<bool> {
     let state = meaning(alloc, ACTS)?;
     let is_above = is_joined_above(&meaning(alloc, STARTS)?, &state).ok()?;

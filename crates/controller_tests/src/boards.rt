@@ -1,4 +1,4 @@
-//! Boards: what they say and how often they looked, where c2@h runs the second application.
+//! Boards: their verdicts and loads, and how many pairs they re-evaluate, while c2@h runs the second application.
 use crate::placement::RUNNING;
 use crate::steps::{Kind, Step, TWO, state_after};
 use dac_base::{AppId, NodeId};
@@ -14,10 +14,10 @@ const C2: NodeId = NodeId(1);
 
 const C3: NodeId = NodeId(2);
 
-/// A step, and what the board says after it: how often it looked, both verdicts, and the load of c2@h for the first
-/// application. When it is made it looks at the four pairs of the lists.
+/// A step, the pairs evaluated so far, both verdicts, and the load of c2@h for the first application. A new board
+/// evaluates the four pairs of the lists.
 const STEPS: &[(Step, u64, Verdict, Verdict, u32)] = &[
-    // A claim touches nothing.
+    // A claim affects no pair.
     (
         (0, 1, Kind::Claim(0, 1, How::Normal, None)),
         4,
@@ -25,7 +25,7 @@ const STEPS: &[(Step, u64, Verdict, Verdict, u32)] = &[
         Verdict::Kept(C2),
         1,
     ),
-    // A permit touches one pair.
+    // A permit affects one pair.
     (
         (0, 1, Kind::Forbid(0)),
         5,
@@ -33,7 +33,7 @@ const STEPS: &[(Step, u64, Verdict, Verdict, u32)] = &[
         Verdict::Kept(C2),
         1,
     ),
-    // So does a stop.
+    // A stop affects one pair.
     (
         (1, 1, Kind::Stop(1)),
         5,
@@ -41,7 +41,7 @@ const STEPS: &[(Step, u64, Verdict, Verdict, u32)] = &[
         Verdict::Halted(C2),
         0,
     ),
-    // Who goes down is in both lists.
+    // c2@h, which goes down, is in both lists.
     (
         (2, 1, Kind::Down(1, 1)),
         6,
@@ -49,7 +49,7 @@ const STEPS: &[(Step, u64, Verdict, Verdict, u32)] = &[
         Verdict::Nobody,
         0,
     ),
-    // And so is who is drained.
+    // c2@h, which is drained, is in both lists.
     (
         (1, 1, Kind::Drain),
         6,
@@ -57,7 +57,7 @@ const STEPS: &[(Step, u64, Verdict, Verdict, u32)] = &[
         Verdict::Nobody,
         0,
     ),
-    // Who is in one list alone touches one pair: it goes down,
+    // A node in one list affects one pair if it goes down,
     (
         (2, 1, Kind::Down(0, 1)),
         5,
@@ -72,7 +72,7 @@ const STEPS: &[(Step, u64, Verdict, Verdict, u32)] = &[
         Verdict::Kept(C2),
         1,
     ),
-    // or it is drained.
+    // or is drained.
     (
         (0, 1, Kind::Drain),
         5,
@@ -87,7 +87,7 @@ const STEPS: &[(Step, u64, Verdict, Verdict, u32)] = &[
         Verdict::Kept(C2),
         1,
     ),
-    // What is said of a node outside the list of its application touches nothing.
+    // A permit or start outside the application's list affects no pair.
     (
         (0, 1, Kind::Forbid(1)),
         4,
@@ -104,7 +104,7 @@ const STEPS: &[(Step, u64, Verdict, Verdict, u32)] = &[
     ),
 ];
 
-/// What a board says that took up one step, and what its copy says.
+/// The values of a board after one step, and those of its copy.
 fn said_after(alloc: Global, step: Step) -> Option<[(u64, Verdict, Verdict, u32); 2]> {
     let config = read_config(alloc, TWO).ok()?;
     let old = state_after(alloc, RUNNING, &[])?;
@@ -116,14 +116,14 @@ fn said_after(alloc: Global, step: Step) -> Option<[(u64, Verdict, Verdict, u32)
     Some([said_by(&board), said_by(&copied)])
 }
 
-/// What a board says.
+/// The values of a board.
 fn said_by(board: &Board) -> (u64, Verdict, Verdict, u32) {
     let first = board.verdict(AppId(0));
     let second = board.verdict(AppId(1));
     (board.looked(), first, second, board.load(AppId(0), C2))
 }
 
-/// Whether the row of this number is so.
+/// True if a board and its copy have the values of this row.
 fn is_so(alloc: Global, row: usize) -> bool {
     let Some((step, looked, first, second, load)) = STEPS.get(row) else {
         return false;

@@ -1,4 +1,4 @@
-//! Callers as they stand in the first comments of `dac_core` and `dac_node`.
+//! The callers in the first comments of `dac_core` and `dac_node`.
 use dac_base::{AppId, NodeId};
 use dac_config::read_config;
 use dac_core::{Command, Event, Node, Refusal, Reply, What, World, WorldEvent};
@@ -6,10 +6,10 @@ use dac_placement::holder;
 use std::alloc::Global;
 use std::test::Fail;
 
-/// One application, which may run at two nodes.
+/// One application with two nodes.
 const SHOP: &[u8] = b"[{kernel,[{distributed,[{shop,[main@h,spare@h]}]}]}].";
 
-/// Whom the second node takes for the holder, once it has heard of the first one's claim.
+/// The holder in the second node's state after it received the first one's claim.
 fn holder_by_hearsay(alloc: Global) -> Option<NodeId> {
     let config = read_config(alloc, SHOP).ok()?;
     let (main, spare, app) = (NodeId(0), NodeId(1), AppId(0));
@@ -40,8 +40,8 @@ fn a_caller_of_a_world(rt: HostRuntime) -> Result<(), Fail> {
     Ok(())
 }
 
-/// Two controllers without a world between them: whether what the first one ships is new to the second one, and why the
-/// second one refuses it once it is down.
+/// Runs two controllers without a world. Returns whether the first one's message is new to the second, and the second
+/// one's refusal of it after a crash.
 fn heard_and_refused(alloc: Global) -> Option<(bool, Refusal)> {
     let config = read_config(alloc, SHOP).ok()?;
     let (main, spare) = (NodeId(0), NodeId(1));

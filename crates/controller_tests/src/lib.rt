@@ -1,7 +1,7 @@
-//! Tests of the controller: verdicts, waits and start gates, pages, and nodes and worlds of them.
+//! Tests of the controller: verdicts, waits and start gates, pages, nodes and worlds.
 //!
-//! The crates below are proved. So here stand worked cases as tables, each public call once with ample memory, and nothing
-//! that a contract says wholly. What scripts can say is tried by running the program.
+//! The crates below are proved, so the tests are worked cases in tables, and each public call once with enough memory.
+//! What scripts can express is tested by running the program.
 #![tactic(auto)]
 
 #[cfg(test)]

@@ -1,4 +1,4 @@
-//! Nodes: their incarnations, and what they refuse and pass of those who heard too much or are down.
+//! Nodes: their incarnations, and their refusals at the limits of dots, counters and terms.
 use crate::steps::dot;
 use dac_base::{AppId, NoMemory, NodeId};
 use dac_config::{Config, read_config};
@@ -7,15 +7,15 @@ use dac_origins::Dot;
 use dac_state::{Act, DotList, How, Key, Op, State};
 use std::alloc::Global;
 
-/// One application at two nodes.
+/// One application with two nodes, in order.
 pub const ONE: &[u8] = b"[{kernel,[{distributed,[{a,[c1@h,c2@h]}]}]}].";
 
 const APP: AppId = AppId(0);
 
-/// The node whose operations are handed.
+/// The node whose operations are delivered.
 pub const FIRST: NodeId = NodeId(0);
 
-/// The node that they are handed to.
+/// The node that receives them.
 pub const SECOND: NodeId = NodeId(1);
 
 const DOWN: Command = Command::Down { node: FIRST };
@@ -43,10 +43,9 @@ const DRAIN: Command = Command::Drain {
 
 const TAKEOVER: Command = Command::Takeover { app: APP };
 
-/// One application at either of two nodes.
+/// One application with two nodes of equal priority.
 const PEERS: &[u8] = b"[{kernel,[{distributed,[{a,[{c1@h,c2@h}]}]}]}].";
 
-/// The greatest term of a claim.
 const LAST_TERM: u64 = 1 << 62;
 
 /// The application at the second node.
@@ -63,18 +62,15 @@ const OTHER_KEY: Key = Key {
     inc: 1,
 };
 
-/// A start that replaces nothing.
 fn start_at(alloc: Global, key: Key) -> Act {
     let over = DotList::new(Vec::new(alloc));
     Act::Start { key, over }
 }
 
-/// A start at the second node that replaces nothing.
 fn start(alloc: Global) -> Act {
     start_at(alloc, KEY)
 }
 
-/// A permit that replaces nothing.
 fn permit(alloc: Global) -> Act {
     let over = DotList::new(Vec::new(alloc));
     Act::Permit {
@@ -84,7 +80,6 @@ fn permit(alloc: Global) -> Act {
     }
 }
 
-/// A drain of the second node that replaces nothing.
 fn drain(alloc: Global) -> Act {
     let over = DotList::new(Vec::new(alloc));
     Act::Drain {
@@ -95,12 +90,12 @@ fn drain(alloc: Global) -> Act {
     }
 }
 
-/// What comes of an event at the second node.
+/// The result of an event at the second node.
 pub fn step(config: &Config, node: &mut Node, event: Event) -> Result<Reply, Refusal> {
     node.step(config, SECOND, event)
 }
 
-/// Hands an operation to the node, and says whether it hears it.
+/// Delivers an operation to the node. True if it's accepted.
 fn hears(config: &Config, node: &mut Node, dot: Dot, act: Act) -> bool {
     match Op::new(dot, act) {
         Ok(op) => step(config, node, Event::HearOp(op)).is_ok(),
@@ -108,7 +103,7 @@ fn hears(config: &Config, node: &mut Node, dot: Dot, act: Act) -> bool {
     }
 }
 
-/// Whether this is why a copy of the node refuses a command.
+/// True if a copy of the node refuses the command with `why`.
 fn refuses(config: &Config, node: &Node, command: Command, why: Refusal) -> bool {
     match node.copy() {
         Ok(mut copied) => step(config, &mut copied, Event::Command(command)).err() == Some(why),
@@ -116,7 +111,7 @@ fn refuses(config: &Config, node: &Node, command: Command, why: Refusal) -> bool
     }
 }
 
-/// Whether a copy of the node accepts a command.
+/// True if a copy of the node accepts the command.
 fn accepts(config: &Config, node: &Node, command: Command) -> bool {
     match node.copy() {
         Ok(mut copied) => step(config, &mut copied, Event::Command(command)).is_ok(),
@@ -124,7 +119,7 @@ fn accepts(config: &Config, node: &Node, command: Command) -> bool {
     }
 }
 
-/// Whether this is why the node refuses each command.
+/// True if the node refuses every command with `why`.
 fn refuses_all(config: &Config, node: &Node, why: Refusal) -> bool {
     [DOWN, PERMIT, START, STOP, DRAIN]
         .iter()
@@ -138,7 +133,7 @@ pub fn boot_second(alloc: Global, config: &Config) -> Option<Node> {
     Some(node)
 }
 
-/// Whether the node hears a start by each operation of the first node from the second one on, below this counter.
+/// True if the node accepts starts by the first node with the counters from 2 up to but without `end`.
 pub fn hears_starts(alloc: Global, config: &Config, node: &mut Node, end: u64) -> bool {
     for n in 2..end {
         if !hears(config, node, dot(0, 1, n), start(alloc)) {
@@ -148,7 +143,7 @@ pub fn hears_starts(alloc: Global, config: &Config, node: &mut Node, end: u64) -
     true
 }
 
-/// Whether the node hears a permit by each operation of the first node from the second one on, below this counter.
+/// True if the node accepts permits by the first node with the counters from 2 up to but without `end`.
 fn hears_permits(alloc: Global, config: &Config, node: &mut Node, end: u64) -> bool {
     for n in 2..end {
         if !hears(config, node, dot(0, 1, n), permit(alloc)) {
@@ -158,7 +153,7 @@ fn hears_permits(alloc: Global, config: &Config, node: &mut Node, end: u64) -> b
     true
 }
 
-/// Whether the node hears a drain by each operation of the first node from the second one on, below this counter.
+/// True if the node accepts drains by the first node with the counters from 2 up to but without `end`.
 fn hears_drains(alloc: Global, config: &Config, node: &mut Node, end: u64) -> bool {
     for n in 2..end {
         if !hears(config, node, dot(0, 1, n), drain(alloc)) {
@@ -168,7 +163,7 @@ fn hears_drains(alloc: Global, config: &Config, node: &mut Node, end: u64) -> bo
     true
 }
 
-/// Whether 1,024 starts are replaced by a stop, and one more is too many.
+/// True if a stop can replace 1,024 starts, and not one more.
 fn starts_are_too_many(alloc: Global) -> Option<bool> {
     let config = read_config(alloc, ONE).ok()?;
     let mut node = boot_second(alloc, &config)?;
@@ -187,7 +182,7 @@ fn too_many_starts(rt: HostRuntime) {
     assert!(rt; starts_are_too_many(rt.alloc()) == Some(true));
 }
 
-/// Whether 1,024 permits are replaced by another, and one more is too many.
+/// True if a permit can replace 1,024 permits, and not one more.
 fn permits_are_too_many(alloc: Global) -> Option<bool> {
     let config = read_config(alloc, ONE).ok()?;
     let mut node = boot_second(alloc, &config)?;
@@ -205,7 +200,7 @@ fn too_many_permits(rt: HostRuntime) {
     assert!(rt; permits_are_too_many(rt.alloc()) == Some(true));
 }
 
-/// Whether 1,024 drains are replaced by another, and one more is too many.
+/// True if a drain can replace 1,024 drains, and not one more.
 fn drains_are_too_many(alloc: Global) -> Option<bool> {
     let config = read_config(alloc, ONE).ok()?;
     let mut node = boot_second(alloc, &config)?;
@@ -223,7 +218,7 @@ fn too_many_drains(rt: HostRuntime) {
     assert!(rt; drains_are_too_many(rt.alloc()) == Some(true));
 }
 
-/// Whether a node that heard of an operation of its own with the last counter refuses each command.
+/// True if a node that received an operation of its own with the last counter refuses every command.
 fn is_used_up(alloc: Global) -> Option<bool> {
     let config = read_config(alloc, ONE).ok()?;
     let mut node = boot_second(alloc, &config)?;
@@ -237,7 +232,7 @@ fn no_counter_is_left(rt: HostRuntime) {
     assert!(rt; is_used_up(rt.alloc()) == Some(true));
 }
 
-/// Whether a node ticks that heard of an operation of its own with this counter, or else has no counter left.
+/// True if a node ticks after it received an operation of its own with this counter, false if it has no counter left.
 fn ticks_after(alloc: Global, counter: u64) -> Option<bool> {
     let config = read_config(alloc, ONE).ok()?;
     let mut node = boot_second(alloc, &config)?;
@@ -257,7 +252,7 @@ fn a_tick_needs_a_counter_for_each_application(rt: HostRuntime) {
     assert!(rt; ticks_after(rt.alloc(), 1 << 62) == Some(false));
 }
 
-/// The second node, started, after it heard that the first is up and started and claims the application under this term.
+/// The second node, started, after it heard that the first is up and started and claims the application at this term.
 fn with_claim(alloc: Global, config: &Config, term: u64) -> Option<Node> {
     let mut node = boot_second(alloc, config)?;
     let claim = Act::Claim {
@@ -277,7 +272,7 @@ fn with_claim(alloc: Global, config: &Config, term: u64) -> Option<Node> {
     }
 }
 
-/// Whether a takeover is refused under the last term, and accepted under the one before.
+/// True if a takeover is refused at the last term, and accepted at the one before.
 fn terms_end(alloc: Global) -> Option<bool> {
     let config = read_config(alloc, PEERS).ok()?;
     let last = with_claim(alloc, &config, LAST_TERM)?;
@@ -291,8 +286,8 @@ fn no_term_is_left(rt: HostRuntime) {
     assert!(rt; terms_end(rt.alloc()) == Some(true));
 }
 
-/// How many applications a tick claims and how many it passes, after the first node claimed the application under this
-/// term and went down.
+/// How many applications a tick claims and passes, after the first node claimed the application at this term and went
+/// down.
 fn tick_counts(alloc: Global, config: &Config, term: u64) -> Option<(usize, usize)> {
     let mut node = with_claim(alloc, config, term)?;
     let _down = step(config, &mut node, Event::Command(DOWN)).ok()?;
@@ -302,7 +297,7 @@ fn tick_counts(alloc: Global, config: &Config, term: u64) -> Option<(usize, usiz
     }
 }
 
-/// Whether the application is passed under the last term, and claimed under the one before.
+/// True if the application is passed at the last term, and claimed at the one before.
 fn ticks_pass(alloc: Global) -> Option<bool> {
     let config = read_config(alloc, PEERS).ok()?;
     let passed = tick_counts(alloc, &config, LAST_TERM) == Some((0, 1));
@@ -314,7 +309,7 @@ fn ticks_pass_what_has_no_term_left(rt: HostRuntime) {
     assert!(rt; ticks_pass(rt.alloc()) == Some(true));
 }
 
-/// Whether a node that the first node declared down refuses each command.
+/// True if a node refuses every command after the first node declared it down.
 fn is_declared_down(alloc: Global) -> Option<bool> {
     let config = read_config(alloc, ONE).ok()?;
     let mut node = boot_second(alloc, &config)?;
@@ -331,7 +326,7 @@ fn declared_down_by_another(rt: HostRuntime) {
     assert!(rt; is_declared_down(rt.alloc()) == Some(true));
 }
 
-/// What comes of a boot after this last incarnation: the next one, or why there is none.
+/// The incarnation of a boot after incarnation `last`, or its refusal.
 fn next(alloc: Global, config: &Config, last: u64) -> Result<Option<u64>, Refusal> {
     let mut node = Node::off(alloc, last);
     let _reply = step(config, &mut node, Event::Boot { now: 0 })?;
@@ -341,7 +336,7 @@ fn next(alloc: Global, config: &Config, last: u64) -> Result<Option<u64>, Refusa
     }
 }
 
-/// Whether incarnations go on by one, and end.
+/// True if incarnations increase by one, and end at 2^62.
 fn go_on_and_end(alloc: Global) -> Option<bool> {
     let config = read_config(alloc, ONE).ok()?;
     let ended = next(alloc, &config, 1 << 62) == Err(Refusal::IncarnationsUsedUp);
@@ -354,7 +349,7 @@ fn incarnations_go_on_and_end(rt: HostRuntime) {
     assert!(rt; go_on_and_end(rt.alloc()) == Some(true));
 }
 
-/// A message of the first node to the second, which tells that the first came up.
+/// A message from the first node to the second, with the first one's boot.
 pub fn message(alloc: Global) -> Option<Message> {
     let up = Op::new(dot(0, 1, 1), Act::Up).ok()?;
     Some(Message {
@@ -367,7 +362,7 @@ pub fn message(alloc: Global) -> Option<Message> {
     })
 }
 
-/// Whether the copy of an event is the hearing of an equal message.
+/// True if the event's copy delivers an equal message.
 fn is_heard(event: &Event, message: &Message) -> Result<bool, NoMemory> {
     match event.copy()? {
         Event::Hear(heard) => Ok(heard.equal(message)),
@@ -375,7 +370,7 @@ fn is_heard(event: &Event, message: &Message) -> Result<bool, NoMemory> {
     }
 }
 
-/// Whether a message, its copy and the copy of its hearing are equal.
+/// True if copies of a message and of its delivery are equal to it.
 fn is_copied(alloc: Global) -> Option<bool> {
     let message = message(alloc)?;
     let copied = message.copy().ok()?;
@@ -387,7 +382,7 @@ fn messages_are_copied(rt: HostRuntime) {
     assert!(rt; is_copied(rt.alloc()) == Some(true));
 }
 
-/// Whether a refusal has this number and this name, by which it is also shown.
+/// True if a refusal has this number and name, and is printed by the name.
 fn is_shown(alloc: Global, why: Refusal, number: u8, name: &str) -> Option<bool> {
     let shown = format!(in alloc; "{why}").ok()?;
     Some(why.number() == number && why.name() == name && shown.as_str() == name)

@@ -1,4 +1,4 @@
-//! Pages of states that a few operations mean.
+//! Pages of states of a few operations.
 use crate::steps::{Kind, Step, TWO, state_after};
 use dac_base::{AppId, NodeId};
 use dac_config::{Config, read_config};
@@ -7,10 +7,10 @@ use dac_state::{How, State};
 use dac_status::{Mark, Summary, header, mark_of, page};
 use std::alloc::Global;
 
-/// One application. Its list has a node of a later name first, and a name that is printed between quotes.
+/// One application. Its list begins with a later name, and one name needs quotes.
 const TURNED: &[u8] = b"[{kernel,[{distributed,[{a,[{c3@h,'c-2@h'},c1@h]}]}]}].";
 
-/// Moved by a permission that was taken, and then forbidden there too.
+/// The application moved when its permission was withdrawn, and then lost the other permission, too.
 const MOVED: &[Step] = &[
     (0, 1, Kind::Up),
     (2, 1, Kind::Up),
@@ -22,7 +22,7 @@ const MOVED: &[Step] = &[
     (2, 1, Kind::Forbid(0)),
 ];
 
-/// Stopped where it runs.
+/// The application was stopped at its holder.
 const STOPPED: &[Step] = &[
     (0, 1, Kind::Up),
     (1, 1, Kind::Up),
@@ -32,7 +32,7 @@ const STOPPED: &[Step] = &[
     (0, 1, Kind::Stop(0)),
 ];
 
-/// In the order of names: 'c-2@h', c1@h, c3@h. The start of the third isn't heard, but it is known, since it is replaced.
+/// By name: 'c-2@h', c1@h, c3@h. The start of c3@h isn't heard, but known, because it was replaced.
 const REPLACED: &[Step] = &[
     (0, 1, Kind::Up),
     (2, 1, Kind::Up),
@@ -51,10 +51,10 @@ const DRAINED: &[Step] = &[
     (2, 1, Kind::Down(1, 1)),
 ];
 
-/// Nodes that the configuration hasn't.
+/// Nodes that aren't configured.
 const UNKNOWN: &[Step] = &[(200, 1, Kind::Claim(0, 1, How::Takeover, Some(NodeId(16))))];
 
-/// Configurations and steps, and the page of what they mean.
+/// Configuration, steps, and the page of their state.
 const PAGES: &[(&[u8], &[Step], &str)] = &[
     (
         TWO,
@@ -83,7 +83,7 @@ const PAGES: &[(&[u8], &[Step], &str)] = &[
     ),
 ];
 
-/// Whether this is the page of what these steps mean.
+/// True if this is the page of the steps' state.
 fn is_page(alloc: Global, text: &[u8], steps: &[Step], wanted: &str) -> Option<bool> {
     let config = read_config(alloc, text).ok()?;
     let state = state_after(alloc, steps, &[])?;
@@ -101,7 +101,7 @@ fn pages_of_worked_cases(rt: HostRuntime) {
     }
 }
 
-/// Whether this is the line above a page of the first node.
+/// True if this is the first node's header.
 fn is_header(config: &Config, alloc: Global, origin: Option<Origin>, wanted: &str) -> bool {
     let node = NodeId(0);
     if node.0 >= config.nodes() {
@@ -113,7 +113,7 @@ fn is_header(config: &Config, alloc: Global, origin: Option<Origin>, wanted: &st
     }
 }
 
-/// Whether the first node's header names its seventh incarnation, or says that it is off.
+/// True if the first node's header has its incarnation, or says that it's off.
 fn has_headers(alloc: Global) -> Option<bool> {
     let config = read_config(alloc, TURNED).ok()?;
     let origin = Some(Origin {
@@ -131,7 +131,7 @@ fn headers(rt: HostRuntime) {
     assert!(rt; has_headers(rt.alloc()) == Some(true));
 }
 
-/// The first node came up, is barred and is drained, and the second came up.
+/// The first node is up, barred and drained, and the second is up.
 const BARRED: &[Step] = &[
     (0, 1, Kind::Up),
     (0, 1, Kind::Forbid(0)),
@@ -139,13 +139,13 @@ const BARRED: &[Step] = &[
     (1, 1, Kind::Up),
 ];
 
-/// Whether this is the mark of a node for the first application.
+/// True if the node has this mark for the first application.
 fn is_mark(config: &Config, state: &State, node: u8, wanted: Mark) -> bool {
     let app = AppId(0);
     app.0 < config.apps() && mark_of(config, state, app, NodeId(node)) == wanted
 }
 
-/// Whether the marks are by what comes first.
+/// True if a node's mark is the first one that applies.
 fn has_marks(alloc: Global) -> Option<bool> {
     let config = read_config(alloc, TWO).ok()?;
     let state = state_after(alloc, BARRED, &[])?;

@@ -1,4 +1,4 @@
-//! Verdicts and loads: an application at c1@h, or else at c2@h or c3@h, and one at c2@h alone.
+//! Verdicts and loads: an application at c1@h, else at c2@h or c3@h, and one at c2@h only.
 use crate::steps::{Kind, Step, TWO, state_after};
 use dac_base::{AppId, NodeId};
 use dac_config::{Config, read_config};
@@ -25,7 +25,7 @@ const STARTED: &[Step] = &[
     (2, 1, Kind::Start(0)),
 ];
 
-/// The same, and c2@h runs the second one.
+/// All three nodes are up, the first application is started at each, and c2@h runs the second one.
 pub const RUNNING: &[Step] = &[
     (0, 1, Kind::Up),
     (1, 1, Kind::Up),
@@ -39,11 +39,11 @@ pub const RUNNING: &[Step] = &[
 
 const FIRST_DOWN: Step = (2, 1, Kind::Down(0, 1));
 
-/// What was done before and then; the verdicts on both applications, and the load of c2@h for the first.
+/// Steps before and after; the verdicts on both applications, and the load of c2@h for the first.
 const VERDICTS: &[(&[Step], &[Step], Verdict, Verdict, u32)] = &[
-    // Started at the first node.
+    // Started at the first node of its list.
     (RUNNING, &[], Verdict::Start(C1), Verdict::Kept(C2), 1),
-    // Started, and restarted, where fewest run.
+    // Started, and failed over, where the load is least.
     (
         RUNNING,
         &[FIRST_DOWN],
@@ -58,7 +58,7 @@ const VERDICTS: &[(&[Step], &[Step], Verdict, Verdict, u32)] = &[
         Verdict::Kept(C2),
         1,
     ),
-    // Claims of who went down are no load.
+    // Claims of a node that is down aren't load.
     (
         RUNNING,
         &[FIRST_DOWN, (2, 1, Kind::Down(1, 1))],
@@ -66,7 +66,7 @@ const VERDICTS: &[(&[Step], &[Step], Verdict, Verdict, u32)] = &[
         Verdict::Nobody,
         0,
     ),
-    // A tie goes by name.
+    // Equal loads are decided by name.
     (
         STARTED,
         &[FIRST_DOWN],
@@ -74,7 +74,7 @@ const VERDICTS: &[(&[Step], &[Step], Verdict, Verdict, u32)] = &[
         Verdict::Nobody,
         0,
     ),
-    // An earlier group takes over.
+    // A node of an earlier group takes over.
     (
         RUNNING,
         &[(1, 1, Kind::Claim(0, 1, How::Normal, None))],
@@ -82,7 +82,7 @@ const VERDICTS: &[(&[Step], &[Step], Verdict, Verdict, u32)] = &[
         Verdict::Kept(C2),
         1,
     ),
-    // A tuple keeps its application.
+    // Within a group the application stays.
     (
         RUNNING,
         &[FIRST_DOWN, (1, 1, Kind::Claim(0, 1, How::Normal, None))],
@@ -90,7 +90,7 @@ const VERDICTS: &[(&[Step], &[Step], Verdict, Verdict, u32)] = &[
         Verdict::Kept(C2),
         1,
     ),
-    // What is stopped stays where it was.
+    // A stopped application stays where it was.
     (
         RUNNING,
         &[
@@ -101,7 +101,7 @@ const VERDICTS: &[(&[Step], &[Step], Verdict, Verdict, u32)] = &[
         Verdict::Kept(C2),
         1,
     ),
-    // What is forbidden is moved.
+    // A forbidden application moves.
     (
         RUNNING,
         &[
@@ -112,7 +112,7 @@ const VERDICTS: &[(&[Step], &[Step], Verdict, Verdict, u32)] = &[
         Verdict::Kept(C2),
         1,
     ),
-    // A drained node keeps nothing.
+    // An application moves from a drained node.
     (
         RUNNING,
         &[
@@ -123,7 +123,7 @@ const VERDICTS: &[(&[Step], &[Step], Verdict, Verdict, u32)] = &[
         Verdict::Kept(C2),
         1,
     ),
-    // It is passed over. Its claims are no load, also where nobody else can have the application.
+    // A drained node isn't chosen. Its claims aren't load, even if no other node can run the application.
     (
         RUNNING,
         &[FIRST_DOWN, (1, 1, Kind::Drain)],
@@ -131,7 +131,7 @@ const VERDICTS: &[(&[Step], &[Step], Verdict, Verdict, u32)] = &[
         Verdict::Nobody,
         0,
     ),
-    // A drain is of one incarnation.
+    // A drain applies to one incarnation.
     (
         RUNNING,
         &[
@@ -145,12 +145,12 @@ const VERDICTS: &[(&[Step], &[Step], Verdict, Verdict, u32)] = &[
     ),
 ];
 
-/// Whether this is the verdict on an application of the configuration.
+/// True if this is the verdict on an application.
 fn is_verdict(config: &Config, state: &State, app: u16, wanted: Verdict) -> bool {
     app < config.apps() && verdict(config, state, AppId(app)) == wanted
 }
 
-/// Whether these are the verdicts and the load.
+/// True if these are the verdicts and the load.
 fn are_judged(
     alloc: Global,
     before: &[Step],
@@ -175,7 +175,7 @@ fn verdicts_of_worked_cases(rt: HostRuntime) {
     }
 }
 
-/// Whether a node is eligible for the second application and runs it, or neither.
+/// True if the node is eligible for the second application and runs it, or if `wanted` is false and neither holds.
 fn is_at(config: &Config, state: &State, node: NodeId, wanted: bool) -> bool {
     let app = AppId(1);
     app.0 < config.apps()
@@ -183,7 +183,7 @@ fn is_at(config: &Config, state: &State, node: NodeId, wanted: bool) -> bool {
         && runs_at(config, state, app, node) == wanted
 }
 
-/// Whether c2@h alone is eligible for the second application and runs it.
+/// True if only c2@h is eligible for the second application and runs it.
 fn is_at_second(alloc: Global) -> Option<bool> {
     let config = read_config(alloc, TWO).ok()?;
     let state = state_after(alloc, RUNNING, &[])?;
@@ -199,7 +199,7 @@ fn listed_live_and_started_is_eligible(rt: HostRuntime) {
     assert!(rt; is_at_second(rt.alloc()) == Some(true));
 }
 
-/// Whether the second application is started and permitted at c2@h.
+/// True if the second application is started and permitted at c2@h.
 fn is_wished(config: &Config, state: &State) -> bool {
     let key = Key {
         app: AppId(1),
@@ -209,7 +209,7 @@ fn is_wished(config: &Config, state: &State) -> bool {
     key.app.0 < config.apps() && is_permitted(config, state, key) && is_started(state, key)
 }
 
-/// Whether it is held by c2@h, which is up.
+/// True if c2@h, which is up, holds the second application.
 fn is_held(alloc: Global) -> Option<bool> {
     let config = read_config(alloc, TWO).ok()?;
     let state = state_after(alloc, RUNNING, &[])?;
@@ -223,7 +223,7 @@ fn holder_is_up_started_and_permitted(rt: HostRuntime) {
     assert!(rt; is_held(rt.alloc()) == Some(true));
 }
 
-/// Verdicts, each with who is to claim.
+/// Verdict, and the node that should claim.
 const CANDIDATES: &[(Verdict, Option<NodeId>)] = &[
     (Verdict::Start(C1), Some(C1)),
     (Verdict::Failover(C2), Some(C2)),

@@ -1,14 +1,14 @@
-//! Rounds of ticks, once nothing more is commanded: what they settle, and how many of them it takes.
+//! Rounds of ticks without further commands: their results, and the number of rounds needed.
 use dac_base::{AppId, NodeId};
 use dac_config::{Config, read_config};
 use dac_core::{Command, Node, What, World, WorldEvent};
 use dac_placement::{Verdict, verdict};
 use std::alloc::Global;
 
-/// An application at c1@h, or else at c2@h or c3@h.
+/// An application at c1@h, else at c2@h or c3@h.
 const ONE: &[u8] = b"[{kernel,[{distributed,[{a,5000,[c1@h,{c2@h,c3@h}]}]}]}].";
 
-/// One, two and three applications, each at either of two nodes.
+/// One, two and three applications, each with two nodes of equal priority.
 const TUPLES: &[&[u8]] = &[
     b"[{kernel,[{distributed,[{a,[{c1@h,c2@h}]}]}]}].",
     b"[{kernel,[{distributed,[{a,[{c1@h,c2@h}]},{b,[{c1@h,c2@h}]}]}]}].",
@@ -23,7 +23,7 @@ const C3: NodeId = NodeId(2);
 
 const BOOT: What = What::Boot { now: 0 };
 
-/// Start wishes of the first application.
+/// Start requests of the first application.
 const START_AT_1: What = What::Command(Command::Start {
     app: AppId(0),
     node: C1,
@@ -47,10 +47,10 @@ const TO_2: What = What::Ship { to: C2 };
 
 const TO_3: What = What::Ship { to: C3 };
 
-/// What happens at a node.
+/// An event at a node.
 type Case = (NodeId, What);
 
-/// c1@h runs the application and goes down. The others know it, and have noted at their ticks that its claim is lost.
+/// c1@h runs the application and goes down. The others know it, and noted at their ticks that its claim is lost.
 const READY: &[Case] = &[
     (C1, BOOT),
     (C2, BOOT),
@@ -71,7 +71,7 @@ const READY: &[Case] = &[
     (C3, What::Tick { now: 2000 }),
 ];
 
-/// Both tick once what they noted has waited its time, and tell each other.
+/// Both tick after the failover wait, and ship to each other.
 const ROUND: &[Case] = &[
     (C2, What::Tick { now: 6000 }),
     (C3, What::Tick { now: 7000 }),
@@ -81,12 +81,10 @@ const ROUND: &[Case] = &[
     (C2, What::Deliver(5)),
 ];
 
-/// Adds an event.
 fn push(events: &mut Vec<WorldEvent>, node: NodeId, what: What) -> Option<()> {
     events.push(WorldEvent { node, what }).ok()
 }
 
-/// Adds all events.
 fn push_all(events: &mut Vec<WorldEvent>, cases: &[Case]) -> Option<()> {
     for (node, what) in cases {
         push(events, *node, *what)?;
@@ -94,7 +92,7 @@ fn push_all(events: &mut Vec<WorldEvent>, cases: &[Case]) -> Option<()> {
     Some(())
 }
 
-/// Whether the verdict on the first application is this one.
+/// True if this is the verdict on the first application in the node's state.
 fn is_verdict(config: &Config, node: &Node, wanted: Verdict) -> bool {
     match node.state() {
         Some(state) => config.apps() > 0 && verdict(config, state, AppId(0)) == wanted,
@@ -102,7 +100,7 @@ fn is_verdict(config: &Config, node: &Node, wanted: Verdict) -> bool {
     }
 }
 
-/// Whether each event is accepted, and then this is the verdict at c2@h and at c3@h.
+/// True if each event is accepted, and c2@h and c3@h then have this verdict.
 fn is_judged(alloc: Global, parts: &[&[Case]], wanted: Verdict) -> Option<bool> {
     let config = read_config(alloc, ONE).ok()?;
     let mut events = Vec::new(alloc);
@@ -123,7 +121,7 @@ fn a_round_settles_a_failover(rt: HostRuntime) {
     assert!(rt; is_judged(rt.alloc(), &[READY, ROUND], Verdict::Kept(C2)) == Some(true));
 }
 
-/// Each of two nodes tells the other, after so many times before.
+/// Two nodes ship to each other, for the `before + 1`st time.
 fn tell(events: &mut Vec<WorldEvent>, before: u8) -> Option<()> {
     let shipped = 2 * u64::from(before);
     push(events, C1, TO_2)?;
@@ -132,7 +130,7 @@ fn tell(events: &mut Vec<WorldEvent>, before: u8) -> Option<()> {
     push(events, C1, What::Deliver(shipped + 2))
 }
 
-/// A node comes up, and each application is started there.
+/// Boots a node and starts each application there.
 fn come_up(events: &mut Vec<WorldEvent>, node: NodeId, apps: u16) -> Option<()> {
     push(events, node, BOOT)?;
     for app in 0..apps {
@@ -148,7 +146,7 @@ fn come_up(events: &mut Vec<WorldEvent>, node: NodeId, apps: u16) -> Option<()> 
     Some(())
 }
 
-/// Two nodes are ready, and so many rounds are run: both tick before they hear of each other's claims.
+/// Events that boot two nodes and run `rounds` rounds, in which both tick before they receive each other's claims.
 fn rounds_of(alloc: Global, apps: u16, rounds: u8) -> Option<Vec<WorldEvent>> {
     let mut events = Vec::new(alloc);
     come_up(&mut events, C1, apps)?;
@@ -162,7 +160,7 @@ fn rounds_of(alloc: Global, apps: u16, rounds: u8) -> Option<Vec<WorldEvent>> {
     Some(events)
 }
 
-/// How many applications somebody is to claim, by what the node knows.
+/// The number of applications that somebody should claim, by the node's state.
 fn count_unsettled(config: &Config, node: &Node) -> Option<usize> {
     let state = node.state()?;
     let apps = 0..config.apps();
@@ -172,7 +170,7 @@ fn count_unsettled(config: &Config, node: &Node) -> Option<usize> {
     )
 }
 
-/// How many applications are left unsettled at each of two nodes after so many rounds, where each event is accepted.
+/// The number of unsettled applications at each of two nodes after `rounds` rounds.
 fn left_after(alloc: Global, config: &Config, rounds: u8) -> Option<(usize, usize)> {
     let events = rounds_of(alloc, config.apps(), rounds)?;
     let (world, answers) = World::run(alloc, config, &events).ok()?;
@@ -185,7 +183,7 @@ fn left_after(alloc: Global, config: &Config, rounds: u8) -> Option<(usize, usiz
     ))
 }
 
-/// Whether each round settles one application, until none is left.
+/// True if each round settles one application until none is left.
 fn settle_one_by_one(alloc: Global, text: &[u8], apps: u8) -> Option<bool> {
     let config = read_config(alloc, text).ok()?;
     for rounds in 0..=apps {
@@ -207,10 +205,11 @@ fn as_many_rounds_as_applications_may_be_needed(rt: HostRuntime) {
     }
 }
 
-/// An application at c1@h, or else at c2@h or c3@h, and one at c2@h alone.
+/// An application at c1@h, else at c2@h or c3@h, and one at c2@h only.
 const TWO: &[u8] = b"[{kernel,[{distributed,[{a,5000,[c1@h,{c2@h,c3@h}]},{b,[c2@h]}]}]}].";
 
-/// C2@h and c3@h are up and know the same. Both may run the first application, and c2@h the second; nobody claimed one.
+/// Both running nodes, c2@h and c3@h, know the same. Both can run the first application, c2@h also the second, and
+/// nobody claimed either.
 const UNCLAIMED: &[Case] = &[
     (C2, BOOT),
     (C3, BOOT),
@@ -229,7 +228,7 @@ const UNCLAIMED: &[Case] = &[
     (C2, What::Deliver(2)),
 ];
 
-/// Both tick before they hear of each other's claims.
+/// Both tick before they receive each other's claims.
 const FIRST_ROUND: &[Case] = &[
     (C2, TICK),
     (C3, TICK),
@@ -241,7 +240,7 @@ const FIRST_ROUND: &[Case] = &[
 
 const SECOND_ROUND: &[Case] = &[(C2, TICK), (C3, TICK)];
 
-/// Whether the node knows that c2@h keeps each application.
+/// True if the node's verdict is that c2@h keeps each application.
 fn knows_all_kept(config: &Config, node: &Node) -> bool {
     match node.state() {
         Some(state) => {
@@ -252,7 +251,7 @@ fn knows_all_kept(config: &Config, node: &Node) -> bool {
     }
 }
 
-/// Whether two rounds leave every application kept, where each event is accepted.
+/// True if each event of two rounds is accepted, and every application is kept.
 fn are_kept(alloc: Global) -> Option<bool> {
     let config = read_config(alloc, TWO).ok()?;
     let mut events = Vec::new(alloc);

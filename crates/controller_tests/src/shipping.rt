@@ -1,5 +1,4 @@
-//! What nodes ship once deltas are dropped or they are made ready for a ship, and which acknowledgements and messages they pass
-//! over or refuse.
+//! Ships after deltas were dropped or after a warm-up, and messages and acknowledgements that are ignored or refused.
 use crate::nodes::{FIRST, ONE, SECOND, boot_second, hears_starts, message, step};
 use crate::steps::dot;
 use dac_base::NodeId;
@@ -9,7 +8,7 @@ use dac_origins::Origin;
 use dac_wire::{Packet, decode, encode};
 use std::alloc::Global;
 
-/// A message of the first node to the second that brings nothing, and acknowledges so many deltas.
+/// A message of the first node to the second without a state, which acknowledges `number` deltas.
 fn acknowledgement(number: u64) -> Message {
     Message {
         from: dot(0, 1, 1).origin,
@@ -21,7 +20,7 @@ fn acknowledgement(number: u64) -> Message {
     }
 }
 
-/// The second node with two deltas, its own boot and that of the first, after the first acknowledged so many.
+/// The second node with two deltas, its own boot and the first node's, after the first acknowledged `number`.
 fn node_after_ack(alloc: Global, config: &Config, number: u64) -> Option<Node> {
     let mut node = boot_second(alloc, config)?;
     let _up = step(config, &mut node, Event::Hear(message(alloc)?)).ok()?;
@@ -37,8 +36,8 @@ fn ship(config: &Config, node: &mut Node) -> Option<Message> {
     }
 }
 
-/// Whether the second node ships its whole state to the first. The first acknowledged so many deltas before the
-/// second heard of each of its starts below this counter.
+/// True if the second node ships its whole state to the first, which acknowledged `number` deltas before the second
+/// received starts up to counter `end`.
 fn ships_whole(alloc: Global, number: u64, end: u64) -> Option<bool> {
     let config = read_config(alloc, ONE).ok()?;
     let mut node = node_after_ack(alloc, &config, number)?;
@@ -55,7 +54,7 @@ fn whole_once_the_oldest_of_256_deltas_is_dropped(rt: HostRuntime) {
     assert!(rt; ships_whole(rt.alloc(), 2, 2 + 257) == Some(true));
 }
 
-/// Whether a copy of the second node that is made ready for it ships the same interval of nine starts as the node itself.
+/// True if a warmed copy of the second node ships the same interval of nine starts as the node itself.
 fn ships_the_same_once_ready(alloc: Global) -> Option<bool> {
     let config = read_config(alloc, ONE).ok()?;
     let mut node = node_after_ack(alloc, &config, 2)?;
@@ -80,7 +79,7 @@ fn an_acknowledgement_of_more_deltas_than_there_are_is_passed_over(rt: HostRunti
     assert!(rt; ships_whole(rt.alloc(), 3, 3) == Some(true));
 }
 
-/// What the second node acknowledges to the first once it heard that the first has so many deltas.
+/// The second node's acknowledgement after a message of the first with `up_to` deltas.
 fn acknowledges(alloc: Global, up_to: u64) -> Option<Option<u64>> {
     let config = read_config(alloc, ONE).ok()?;
     let mut node = boot_second(alloc, &config)?;
@@ -91,7 +90,7 @@ fn acknowledges(alloc: Global, up_to: u64) -> Option<Option<u64>> {
     Some(number_of(answer.ack))
 }
 
-/// How many deltas were got.
+/// The number of acknowledged deltas.
 fn number_of(ack: Option<(Origin, u64)>) -> Option<u64> {
     match ack {
         Some((_, number)) => Some(number),
@@ -107,7 +106,7 @@ fn as_many_deltas_are_acknowledged_as_there_can_be(rt: HostRuntime) {
     }
 }
 
-/// Whether the second node refuses a message to this node and to this incarnation alone, as it is for another one.
+/// True if the second node refuses a message to this node and incarnation as `NotForMe`.
 fn is_for_another(alloc: Global, last: u64, to: NodeId, only: Option<u64>) -> Option<bool> {
     let config = read_config(alloc, ONE).ok()?;
     let mut node = Node::off(alloc, last);
@@ -126,14 +125,14 @@ fn messages_for_others_are_refused(rt: HostRuntime) {
     assert!(rt; is_for_another(rt.alloc(), 1, SECOND, Some(2)) == Some(false));
 }
 
-/// The whole state that the second node ships once it boots after this last incarnation.
+/// The whole state that the second node ships after a boot that follows incarnation `last`.
 fn ship_whole(alloc: Global, config: &Config, last: u64) -> Option<Message> {
     let mut node = Node::off(alloc, last);
     let _up = step(config, &mut node, Event::Boot { now: 0 }).ok()?;
     ship(config, &mut node)
 }
 
-/// Whether that message is of this incarnation, and is read from its bytes again.
+/// True if that message has incarnation `inc`, and is read again from its bytes.
 fn is_read_again(alloc: Global, last: u64, inc: u64) -> Option<bool> {
     let config = read_config(alloc, ONE).ok()?;
     let message = ship_whole(alloc, &config, last)?;

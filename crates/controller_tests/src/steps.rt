@@ -1,36 +1,36 @@
-//! States of a few operations, which are said as plain steps.
+//! States of a few operations, written as steps.
 use dac_base::{AppId, NoMemory, NodeId};
 use dac_lattice::{Bottom, Lattice};
 use dac_origins::{Dot, Origin};
 use dac_state::{Act, DotList, How, Key, Op, State};
 use std::alloc::Global;
 
-/// Three nodes and two applications, the second at the second node alone.
+/// Three nodes and two applications, the second at the second node only.
 pub const TWO: &[u8] = b"[{kernel,[{distributed,[{a,5000,[c1@h,{c2@h,c3@h}]},{b,[c2@h]}]}]}].";
 
-/// What an incarnation of a node does.
+/// An act of a node's incarnation.
 #[derive(Clone, Copy)]
 pub enum Kind {
-    /// It comes up.
+    /// The node comes up.
     Up,
-    /// It declares this incarnation of a node down.
+    /// The node declares this incarnation of a node down.
     Down(u8, u64),
-    /// The application is to be started there.
+    /// A start of the application at the node itself.
     Start(u16),
-    /// It is to be stopped there.
+    /// A stop of the application at the node itself.
     Stop(u16),
-    /// It isn't permitted there.
+    /// Forbids the application at the node itself.
     Forbid(u16),
-    /// It is drained.
+    /// Drains the node itself.
     Drain,
-    /// It claims the application at a term.
+    /// Claims the application: its term, cause and previous node.
     Claim(u16, u64, How, Option<NodeId>),
 }
 
-/// A step at an incarnation of a node.
+/// Node, incarnation and act.
 pub type Step = (u8, u64, Kind);
 
-/// A dot of an incarnation of a node.
+/// A dot of a node's incarnation.
 pub fn dot(node: u8, inc: u64, n: u64) -> Dot {
     let node = NodeId(node);
     Dot {
@@ -39,12 +39,12 @@ pub fn dot(node: u8, inc: u64, n: u64) -> Dot {
     }
 }
 
-/// The counter of a start of an application.
+/// The counter of an application's start.
 fn start_of(app: u16) -> u64 {
     10 + u64::from(app)
 }
 
-/// The counter of a step, which no other step of its incarnation has.
+/// The counter of a step, different for each act of an incarnation.
 fn counter_of(kind: Kind) -> u64 {
     match kind {
         Kind::Up => 1,
@@ -57,7 +57,7 @@ fn counter_of(kind: Kind) -> u64 {
     }
 }
 
-/// The dots that a step replaces: a stop that of the start there.
+/// The dots that a step replaces: for a stop, that of the start.
 fn over(alloc: Global, step: Step) -> Result<DotList, NoMemory> {
     let (node, inc, kind) = step;
     let mut dots = Vec::new(alloc);
@@ -67,7 +67,7 @@ fn over(alloc: Global, step: Step) -> Result<DotList, NoMemory> {
     Ok(DotList::new(dots))
 }
 
-/// An application at an incarnation of a node.
+/// An application at a node's incarnation.
 fn key(app: u16, node: u8, inc: u64) -> Key {
     Key {
         app: AppId(app),
@@ -113,10 +113,10 @@ fn act(step: Step, over: DotList) -> Act {
     }
 }
 
-/// A step by an operation with a counter of its own: the node, the incarnation, the counter and what it does.
+/// An operation with any counter: node, incarnation, counter and act.
 pub type Forged = (u8, u64, u64, Kind);
 
-/// What an operation means alone.
+/// The delta of an operation.
 fn delta_of(alloc: Global, operation: Forged) -> Option<State> {
     let (node, inc, n, kind) = operation;
     let step = (node, inc, kind);
@@ -125,12 +125,12 @@ fn delta_of(alloc: Global, operation: Forged) -> Option<State> {
     State::delta_of(alloc, &op).ok()
 }
 
-/// What has a meaning alone.
+/// A value with a delta.
 trait Means: Copy {
-    /// Where meanings are joined.
+    /// The lattice of the deltas.
     type All: Lattice;
 
-    /// What it means alone, where there is memory.
+    /// The delta, or `None` if an allocation fails.
     fn alone(self, alloc: Global) -> Option<Self::All>;
 }
 
@@ -151,7 +151,7 @@ impl Means for Forged {
     }
 }
 
-/// What these mean joined to what there is.
+/// The join of a state with several deltas.
 fn with<M: Means>(alloc: Global, before: M::All, parts: &[M]) -> Option<M::All> {
     let mut all = before;
     for part in parts {
@@ -160,13 +160,13 @@ fn with<M: Means>(alloc: Global, before: M::All, parts: &[M]) -> Option<M::All> 
     Some(all)
 }
 
-/// What these steps mean, and then these.
+/// The state after two lists of steps.
 pub fn state_after(alloc: Global, before: &[Step], then: &[Step]) -> Option<State> {
     let state = with(alloc, State::bottom(alloc), before)?;
     with(alloc, state, then)
 }
 
-/// What these operations mean.
+/// The state of these operations.
 pub fn meaning_of(alloc: Global, operations: &[Forged]) -> Option<State> {
     with(alloc, State::bottom(alloc), operations)
 }

@@ -1,5 +1,4 @@
-//! Waits of an application that belongs to c1@h, or else to c2@h or c3@h after five seconds; and start gates of three
-//! nodes.
+//! Failover waits of an application at c1@h, else after five seconds at c2@h or c3@h; and start gates of three nodes.
 use crate::steps::{Kind, Step, state_after};
 use dac_base::AppId;
 use dac_config::{Config, read_config};
@@ -7,10 +6,10 @@ use dac_decide::{Board, Opening, Waits, gate};
 use dac_state::{How, State};
 use std::alloc::Global;
 
-/// The application's time is five seconds.
+/// An application with a failover wait of five seconds.
 const FAILOVER: &[u8] = b"[{kernel,[{distributed,[{a,5000,[c1@h,{c2@h,c3@h}]}]}]}].";
 
-/// The nodes came up, c1@h ran the application, and went down.
+/// All nodes came up, and c1@h ran the application and went down.
 const LOST: &[Step] = &[
     (0, 1, Kind::Up),
     (1, 1, Kind::Up),
@@ -22,7 +21,7 @@ const LOST: &[Step] = &[
     (2, 1, Kind::Down(0, 1)),
 ];
 
-/// Then c2@h ran it too, and went down.
+/// First c1@h and then c2@h ran the application and went down.
 const LOST_AGAIN: &[Step] = &[
     (0, 1, Kind::Up),
     (1, 1, Kind::Up),
@@ -36,7 +35,7 @@ const LOST_AGAIN: &[Step] = &[
     (2, 1, Kind::Down(1, 1)),
 ];
 
-/// Instead, c1@h came up again.
+/// c1@h ran the application, went down and came up again.
 const BACK: &[Step] = &[
     (0, 1, Kind::Up),
     (2, 1, Kind::Up),
@@ -48,18 +47,18 @@ const BACK: &[Step] = &[
     (0, 2, Kind::Start(0)),
 ];
 
-/// c2@h alone is up, and the application is started there.
+/// Only c2@h is up, and the application is started there.
 const STARTED: &[Step] = &[(1, 1, Kind::Up), (1, 1, Kind::Start(0))];
 
-/// c2@h alone is up, and runs it.
+/// Only c2@h is up, and runs the application.
 const RUNNING: &[Step] = &[
     (1, 1, Kind::Up),
     (1, 1, Kind::Start(0)),
     (1, 1, Kind::Claim(0, 1, How::Normal, None)),
 ];
 
-/// What is noted at which moments; then whether what the steps mean is due at a moment. Failovers wait from the first note
-/// on, another claim waits anew, who returns has it at once, and only failovers wait.
+/// Notes with their times; then steps, a time, and whether the verdict is due then. A failover waits from its first
+/// note, another lost claim begins a new wait, a returning node claims at once, and nothing else waits.
 const DUES: &[(&[(&[Step], u64)], &[Step], u64, bool)] = &[
     (&[], LOST, 9000, false),
     (&[(LOST, 1000), (LOST, 5999)], LOST, 5999, false),
@@ -72,7 +71,7 @@ const DUES: &[(&[(&[Step], u64)], &[Step], u64, bool)] = &[
     (&[], RUNNING, 0, false),
 ];
 
-/// The waits after these notes, each of what some steps mean, at its moment.
+/// The waits after these notes, each of the steps' state at its time.
 fn waits_after(alloc: Global, config: &Config, notes: &[(&[Step], u64)]) -> Option<Waits> {
     let mut waits = Waits::new(alloc, config).ok()?;
     for (steps, now) in notes {
@@ -82,13 +81,13 @@ fn waits_after(alloc: Global, config: &Config, notes: &[(&[Step], u64)]) -> Opti
     waits.copy().ok()
 }
 
-/// Whether what is to become of the application is due.
+/// True if the verdict on the application is due.
 fn is_due(config: &Config, waits: &Waits, state: &State, now: u64) -> bool {
     let app = AppId(0);
     app.0 < config.apps() && waits.due(config, state, app, now)
 }
 
-/// Whether what these steps mean is due at a moment, after these notes.
+/// True if the verdict in the steps' state is due at this time, after these notes.
 fn is_due_after(alloc: Global, notes: &[(&[Step], u64)], steps: &[Step], now: u64) -> Option<bool> {
     let config = read_config(alloc, FAILOVER).ok()?;
     let waits = waits_after(alloc, &config, notes)?;
@@ -104,7 +103,7 @@ fn failovers_wait(rt: HostRuntime) {
     }
 }
 
-/// Whether a note of what these steps mean would change nothing after these notes.
+/// True if noting the steps' state would change nothing after these notes.
 fn are_quiet_after(alloc: Global, notes: &[(&[Step], u64)], steps: &[Step]) -> Option<bool> {
     let config = read_config(alloc, FAILOVER).ok()?;
     let waits = waits_after(alloc, &config, notes)?;
@@ -120,7 +119,7 @@ fn quiet_waits(rt: HostRuntime) {
     assert!(rt; are_quiet_after(rt.alloc(), &[(LOST, 1000)], RUNNING) == Some(false));
 }
 
-/// Three nodes, of which the second is mandatory and the third optional.
+/// Three nodes, the second mandatory and the third optional.
 const FIVE_SECONDS: &[u8] =
     b"[{kernel,[{distributed,[{a,[c1@h]}]},{sync_nodes_mandatory,[c2@h]},{sync_nodes_optional,[c3@h]},{sync_nodes_timeout,5000}]}].";
 
@@ -129,14 +128,14 @@ const FOREVER: &[u8] =
 
 const NO_TIME: &[u8] = b"[{kernel,[{distributed,[{a,[c1@h]}]},{sync_nodes_mandatory,[c2@h]}]}].";
 
-/// The first nodes to come up.
+/// Steps in which the first nodes come up.
 const FIRST: &[Step] = &[(0, 1, Kind::Up)];
 
 const FIRST_TWO: &[Step] = &[(0, 1, Kind::Up), (1, 1, Kind::Up)];
 
 const ALL: &[Step] = &[(0, 1, Kind::Up), (1, 1, Kind::Up), (2, 1, Kind::Up)];
 
-/// Which nodes came up under a configuration, and what becomes of a node so many milliseconds after its boot.
+/// Configuration, steps, milliseconds since boot, and the state of the start gate.
 const GATES: &[(&[u8], &[Step], u32, Opening)] = &[
     (FIVE_SECONDS, FIRST, 4999, Opening::Shut),
     (FIVE_SECONDS, FIRST, 5000, Opening::GiveUp),
@@ -147,7 +146,7 @@ const GATES: &[(&[u8], &[Step], u32, Opening)] = &[
     (FOREVER, FIRST, u32::MAX, Opening::Shut),
 ];
 
-/// What becomes of a node so many milliseconds after its boot.
+/// The state of the start gate `elapsed` milliseconds after a boot at 1000.
 fn opening(alloc: Global, text: &[u8], steps: &[Step], elapsed: u32) -> Option<Opening> {
     let config = read_config(alloc, text).ok()?;
     let state = state_after(alloc, steps, &[])?;

@@ -18,7 +18,7 @@ const BOOT: What = What::Boot { now: 0 };
 
 const TICK: What = What::Tick { now: 0 };
 
-/// A wish that the application be started at the first node.
+/// A start of the application at the first node.
 const START: What = What::Command(Command::Start {
     app: AppId(0),
     node: P,
@@ -34,8 +34,8 @@ const START_AT_R: What = What::Command(Command::Start {
     node: R,
 });
 
-/// An answer in short. Of an operation its counter is said alone, and of a message its addressee. Of a tick it is how
-/// much it claimed and how much it passed.
+/// A short form of a result: an operation's counter, a message's receiver, or how many applications a tick claimed and
+/// passed.
 #[derive(Clone, Copy, PartialEq, Eq)]
 enum Answer {
     Booted(u64),
@@ -52,10 +52,10 @@ enum Answer {
     Refused(Refusal),
 }
 
-/// What happens at a node, and the answer.
+/// An event at a node, and its result.
 type Case = (NodeId, What, Answer);
 
-/// Messages and operations that come, and some that aren't there.
+/// Deliveries of messages and operations, some of which don't exist.
 const TELLING: &[Case] = &[
     (P, What::Crash, Answer::Refused(Refusal::Off)),
     (P, BOOT, Answer::Booted(1)),
@@ -73,8 +73,8 @@ const TELLING: &[Case] = &[
     (R, What::Crash, Answer::Crashed),
 ];
 
-/// All nodes are started and tell each other, and the first ticks: before it heard of the others, and then twice at one
-/// moment.
+/// All nodes are started and exchange messages. The first ticks before it hears of the others, and then twice at one
+/// time.
 const STARTING: &[Case] = &[
     (P, BOOT, Answer::Booted(1)),
     (Q, BOOT, Answer::Booted(1)),
@@ -125,10 +125,10 @@ const GIVING_UP: &[Case] = &[
     (P, What::Boot { now: 6000 }, Answer::Booted(1)),
 ];
 
-/// Runs, and how many operations and messages each leaves.
+/// Events, and the numbers of operations and messages after them.
 const RUNS: &[(&[Case], usize, usize)] = &[(TELLING, 4, 2), (STARTING, 7, 12), (GIVING_UP, 2, 0)];
 
-/// What an answer says.
+/// The short form of a result.
 fn answer_of(answer: &Result<Reply, WorldFault>) -> Answer {
     match answer {
         Ok(reply) => said_by(reply),
@@ -136,7 +136,7 @@ fn answer_of(answer: &Result<Reply, WorldFault>) -> Answer {
     }
 }
 
-/// What a reply says.
+/// The short form of a reply.
 fn said_by(reply: &Reply) -> Answer {
     match reply {
         Reply::Booted(operation) => Answer::Booted(operation.dot().n),
@@ -152,7 +152,7 @@ fn said_by(reply: &Reply) -> Answer {
     }
 }
 
-/// What a fault says.
+/// The short form of a fault.
 fn said_of(fault: WorldFault) -> Answer {
     match fault {
         WorldFault::NoSuchNode => Answer::NoSuchNode,
@@ -162,7 +162,6 @@ fn said_of(fault: WorldFault) -> Answer {
     }
 }
 
-/// The events alone.
 fn events(alloc: Global, cases: &[Case]) -> Option<Vec<WorldEvent>> {
     let mut events = Vec::new(alloc);
     for (node, what, _) in cases {
@@ -176,7 +175,7 @@ fn events(alloc: Global, cases: &[Case]) -> Option<Vec<WorldEvent>> {
     Some(events)
 }
 
-/// Whether these are the answers to the events.
+/// True if the results are those of the cases.
 fn are_answered(cases: &[Case], answers: &[Result<Reply, WorldFault>]) -> bool {
     for (i, (_, _, wanted)) in cases.iter().enumerate() {
         let Some(answer) = answers.get(i) else {
@@ -189,7 +188,7 @@ fn are_answered(cases: &[Case], answers: &[Result<Reply, WorldFault>]) -> bool {
     answers.len() == cases.len()
 }
 
-/// Whether a run of the events answers each, and has issued and shipped so many.
+/// True if a run has the cases' results, and leaves these numbers of operations and messages.
 fn runs(
     alloc: Global,
     config: &Config,
@@ -202,7 +201,6 @@ fn runs(
     Some(kept && are_answered(cases, &answers))
 }
 
-/// Whether each run goes so.
 fn all_run(alloc: Global) -> Option<bool> {
     let config = read_config(alloc, EXAMPLE).ok()?;
     for (cases, operations, messages) in RUNS {

@@ -1,4 +1,4 @@
--- The orders of the numbers of nodes and applications, in which only equal numbers tie, and their codes.
+-- Orders of node and application numbers, in which only equal numbers tie, and their encodings.
 use Rattle.std.specs.Prelude.{ℕ, refl}
 use Rattle.std.specs.declared.cmp.Ordering.{Ordering}
 use Rattle.std.specs.Ordering.{nat_cmp}
@@ -6,11 +6,11 @@ use Rattle.std.specs.Coded.{Coded, code_by, coded_ℕ}
 use Rattle.dac_base.specs.declared.NodeId.{NodeId}
 use Rattle.dac_base.specs.declared.AppId.{AppId}
 
--- nodes by their numbers
+-- nodes ordered by number
 abbrev pub node_cmp : NodeId → NodeId → Ordering
 node_cmp a b = nat_cmp a.0 b.0
 
--- applications by their numbers
+-- applications ordered by number
 abbrev pub app_cmp : AppId → AppId → Ordering
 app_cmp a b = nat_cmp a.0 b.0
 

@@ -1,4 +1,4 @@
--- What the limits are, so that none of them can change unseen.
+-- The values of the limits, so that no limit can change unnoticed.
 use Rattle.std.specs.Prelude.{◌≡◌, ◌^◌, refl}
 use Rattle.dac_base.specs.declared.limits.TheConstants.{MAX_NODES, MAX_APPS, MAX_REPLACED, MAX_INCARNATION, MAX_COUNTER}
 

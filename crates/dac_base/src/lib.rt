@@ -1,8 +1,7 @@
-//! What every crate of the controller speaks of: numbers of nodes and applications, limits, and running out of memory.
+//! Numbers of nodes and applications, limits, and the out-of-memory error, for all crates of the controller.
 //!
-//! A configuration numbers its nodes in the byte order of their names and its applications in the order
-//! of the file, both from 0. These numbers are small types of their own, so that neither can stand for
-//! the other.
+//! A configuration numbers its nodes in the byte order of their names, and its applications in file order, both from 0.
+//! Each kind of number is a type of its own, so that the two can't be confused.
 #![tactic(auto)]
 
 pub use limits::{MAX_APPS, MAX_COUNTER, MAX_INCARNATION, MAX_NODES, MAX_REPLACED};
@@ -10,7 +9,7 @@ use std::alloc::{AllocError, AllocFailed};
 
 mod limits;
 
-/// Memory was refused. A call that changes one value has then left it as it was.
+/// An allocation failed. A call that changes one value leaves it unchanged then.
 #[derive(Clone, Copy, Debug, PartialEq, Eq, Hash)]
 pub struct NoMemory;
 
@@ -26,10 +25,10 @@ impl<T: Drop> From<AllocFailed<T>> for NoMemory {
     }
 }
 
-/// A node, by its number: its place among the names of all nodes in byte order, from 0.
+/// A node's number: its index among the names of all nodes in byte order, from 0.
 #[derive(Clone, Copy, Debug, PartialEq, Eq, PartialOrd, Ord, Hash)]
 pub struct NodeId(pub u8);
 
-/// An application, by its number: its place in the configuration file, from 0.
+/// An application's number: its index in the configuration file, from 0.
 #[derive(Clone, Copy, Debug, PartialEq, Eq, PartialOrd, Ord, Hash)]
 pub struct AppId(pub u16);

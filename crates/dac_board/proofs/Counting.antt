@@ -1,4 +1,4 @@
--- Applications by their numbers, and tests of two parts.
+-- Applications by number, and conjunctions of two tests.
 use Rattle.std.proofs.Common.{◌≡◌, ℕ, Bool, true, false, ◌&&◌, not, eqb, refl, sym, ap}
 use Rattle.std.proofs.lemmas.Bool.{eqb-true, eqb-false}
 use Rattle.dac_base.specs.declared.AppId.{AppId}

@@ -1,4 +1,4 @@
--- Lists of places, filled one after another.
+-- Lists filled place by place.
 use Rattle.std.proofs.Common.{◌≡◌, ℕ, zero, suc, add-one, subst, ext_get_or, ◌+◌, ◌<◌, ◌≤◌, Bool, true, false, cond, List, [], ◌∷◌, ◌++◌, length, get_or, set, refl, sym, ap, ◌∙◌, arith, get_or-set_same, get_or-set_other}
 use Rattle.std.specs.Prelude.{map as list_map, filter, nat_lt}
 use Rattle.std.proofs.lemmas.Bool.{ltb-true, ltb-false}
@@ -26,7 +26,7 @@ module _ {I X : Type 0} (numbered : ℕ → I) (f : I → X) where
   pub filled_by : (xs : List X) (n : ℕ) (d : X) → length xs ≡ n → ((k : ℕ) → k < n → get_or xs k d ≡ f (numbered k)) → xs ≡ filled n
   filled_by xs n d long h = ext_get_or d xs (filled n) (long ∙ sym (length_filled n)) (λ k lt. h k (omega arith) ∙ sym (filled_at n k d (omega arith)))
 
--- of two tests that agree at the first n, as many pass
+-- if two tests agree at the first n, the same number pass
 pub alike_below : {I : Type 0} (numbered : ℕ → I) (p q : I → Bool) (n : ℕ) → ((k : ℕ) → k < n → p (numbered k) ≡ q (numbered k)) → filter p (list_map numbered (range_with_len 0 n)) ≡ filter q (list_map numbered (range_with_len 0 n))
 alike_below numbered p q zero h = refl
 alike_below numbered p q (suc n) h = subst (λ m. filter p (list_map numbered (range_with_len 0 m)) ≡ filter q (list_map numbered (range_with_len 0 m))) (add-one n)
@@ -60,31 +60,31 @@ module _ {I : Type 0} (numbered : ℕ → I) (p : I → Bool) where
   ] refl
 
 module _ {I X : Type 0} (numbered : ℕ → I) (f : I → X) where
-  -- one place more has its value
+  -- a loop that sets place n extends the filled part by one
   pub one_more : (xs : List X) (n : ℕ) (x d : X) → n < length xs → x ≡ f (numbered n) → ((k : ℕ) → k < n → get_or xs k d ≡ f (numbered k)) → (k : ℕ) → k < n + 1 → get_or (set xs n x) k d ≡ f (numbered k)
   one_more xs n x d inside is done k lt = elim (nat_lt k n) as (λ b. nat_lt k n ≡ b → get_or (set xs n x) k d ≡ f (numbered k)) [
     | true ↦ λ e. get_or-set_other xs n k x d (λ same. let below : k < n = ltb-true k n e in omega (arith, same, below)) ∙ done k (ltb-true k n e)
     | false ↦ λ e. let here : n ≡ k = omega (arith, ltb-false k n e) in subst (λ m. get_or (set xs n x) m d ≡ f (numbered m)) here (get_or-set_same xs n x d inside ∙ is)
   ] refl
 
-  -- the same where the place has it already
+  -- a loop that leaves place n alone extends the filled part by one if the place has its value already
   pub one_kept : (xs : List X) (n : ℕ) (d : X) → get_or xs n d ≡ f (numbered n) → ((k : ℕ) → k < n → get_or xs k d ≡ f (numbered k)) → (k : ℕ) → k < n + 1 → get_or xs k d ≡ f (numbered k)
   one_kept xs n d is done k lt = elim (nat_lt k n) as (λ b. nat_lt k n ≡ b → get_or xs k d ≡ f (numbered k)) [
     | true ↦ λ e. done k (ltb-true k n e)
     | false ↦ λ e. let here : n ≡ k = omega (arith, ltb-false k n e) in subst (λ m. get_or xs m d ≡ f (numbered m)) here is
   ] refl
 
-  -- the places after it are as before
+  -- setting place n leaves later places unchanged
   pub rest_kept : (xs : List X) (n k : ℕ) (x d : X) → n + 1 ≤ k → get_or (set xs n x) k d ≡ get_or xs k d
   rest_kept xs n k x d le = get_or-set_other xs n k x d (λ same. omega (arith, same, le))
 
--- what a list has at a place doesn't hang on the value for places that it lacks
+-- a read within a list doesn't depend on the default
 pub get_any : {X : Type 0} (xs : List X) (i : ℕ) (d e : X) → i < length xs → get_or xs i d ≡ get_or xs i e
 get_any [] i d e lt = absurd (omega arith)
 get_any (x ∷ xs) zero d e lt = refl
 get_any (x ∷ xs) (suc i) d e lt = get_any xs i d e (omega arith)
 
--- the sum over more of them is no less
+-- a sum over more items is no smaller
 pub more_summed : {I : Type 0} (numbered : ℕ → I) (f : I → ℕ) (m n : ℕ) → m ≤ n → sum_by f (list_map numbered (range_with_len 0 m)) ≤ sum_by f (list_map numbered (range_with_len 0 n))
 more_summed numbered f m zero le = let same : m ≡ zero = omega arith in subst (λ k. sum_by f (list_map numbered (range_with_len 0 k)) ≤ sum_by f (list_map numbered (range_with_len 0 zero))) (sym same) (omega arith)
 more_summed numbered f m (suc n) le = elim (nat_lt n m) as (λ b. nat_lt n m ≡ b → sum_by f (list_map numbered (range_with_len 0 m)) ≤ sum_by f (list_map numbered (range_with_len 0 (suc n)))) [

@@ -1,4 +1,5 @@
--- The least rank is of the group of the one that leads, and where the verdict is settled by groups alone it is the same for each such rank.
+-- The least rank is in the lead's group, and if groups alone settle the verdict, each rank of that group gives the same
+-- one.
 use Rattle.std.proofs.Common.{◌≡◌, ℕ, ◌+◌, ◌<◌, Bool, true, false, cond, List, [], ◌∷◌, ◌++◌, length, take, get_or, Option, Some, None, refl, sym, ap, subst, ◌∙◌, arith, take-suc, add-one}
 use Rattle.std.specs.Prelude.{◌==◌, nat_lt}
 use Rattle.std.specs.List.{filter_map, reduce}
@@ -20,7 +21,7 @@ use Rattle.dac_board.specs.Boards.{RowValue}
 use Rattle.dac_board.specs.Rows.{load_on, rank_on, first_on}
 use Rattle.dac_board.specs.Leads.{beside, lead_with, IsLead, Leads}
 
--- the first of one node more
+-- the first choice after one more node
 pub first_more : (rows : List RowValue) (app : AppId) (spots : List (Option Spot)) (place : ℕ) → place < length spots
     → first_on rows app (take (place + 1) spots) ≡ join_options (ord_min rank_cmp) (first_on rows app (take place spots)) (rank_on rows app (get_or spots place None))
 first_more rows app spots place within =
@@ -45,7 +46,7 @@ module _ (lead : Lead) (spot : Spot) (r : Rank) (load : ℕ) where
   abbrev by_test : Bool → Bool → Lead
   by_test earlier same = cond earlier (record { spot = spot; alone = true }) (cond same (record { spot = lead.spot; alone = false }) lead)
 
-  -- one of an earlier group, of the same group, and of a later group
+  -- a node of an earlier group, of the same group, and of a later group
   earlier : is_lt (rank_cmp q r) ≡ true → IsLead (by_test true (spot.group == lead.spot.group)) (Some (cond (is_lt (rank_cmp q r)) q r))
   earlier e = record { rank = q; first = ap (λ b. Some (cond b q r)) e; group = refl; alone = λ _. refl }
 
@@ -75,7 +76,7 @@ module _ (lead : Lead) (spot : Spot) (r : Rank) (load : ℕ) where
       (subst (λ b. IsLead (by_test false b) (Some (cond (is_lt (rank_cmp q r)) q r))) (sym (false_from_ne_true (spot.group == lead.spot.group) (not_same spot.group lead.spot.group more)))
       (later (ap (λ o. is_lt (ordering_then o (ordering_then (nat_cmp load r.load) (node_cmp spot.node r.node)))) is) of_r alone))
 
--- one node more
+-- the lead after one more node
 pub lead_more : (rows : List RowValue) (app : AppId) (lead : Option Lead) (first : Option Rank) (spot : Option Spot) → Leads lead first → Leads (lead_with lead spot) (join_options (ord_min rank_cmp) first (rank_on rows app spot))
 lead_more rows app None None None leads = leads
 lead_more rows app None (Some r) None leads = leads

@@ -1,4 +1,4 @@
--- A change that keeps an application leaves who is eligible for it, and how it stands, as before.
+-- A change that keeps an application leaves its eligible nodes and its standing unchanged.
 use Rattle.std.proofs.Common.{◌≡◌, false, not, cond, ◌&&◌, List, [], ◌∷◌, Option, Some, None, option_map, refl, ap, ◌∙◌}
 use Rattle.std.specs.Prelude.{map as list_map, is_some, ◌==◌, if◌then◌else◌}
 use Rattle.std.specs.Option.{option_map_or}
@@ -17,7 +17,7 @@ use Rattle.dac_board.specs.Boards.{spot_of, spots_of}
 use Rattle.dac_board.specs.Grown.{KeepsApp}
 use Rattle.dac_board.proofs.Untouched.{alike_allowed, alike_started}
 
--- ---- what is kept
+-- ---- eligibility and standing
 
 module _ (table : Table) (old new : StateValue) (app : AppId) (kept : KeepsApp old new app) where
   allowed : (key : Key) → key.app ≡ app → is_allowed_at table old key ≡ is_allowed_at table new key
@@ -39,7 +39,7 @@ module _ (table : Table) (old new : StateValue) (app : AppId) (kept : KeepsApp o
   pub kept_spots : spots_of table old app ≡ spots_of table new app
   kept_spots = kept_each (nodes_of table)
 
-  -- it stands alike at any holder
+  -- the standing at any holder is unchanged
   same_at : (o : Origin) → standing_at table old app o ≡ standing_at table new app o
   same_at o = λ i.
       if not (option_map_or (λ inc. inc == o.inc) (live_at (kept.lives i) o.node) false) then Lost

@@ -1,4 +1,4 @@
--- What a board that shows a state says is what the definitions say of the state.
+-- A board that shows a state agrees with the definitions for that state.
 use Rattle.std.proofs.Common.{◌≡◌, ℕ, ◌<◌, Bool, true, false, not, cond, ◌&&◌, List, [], ◌∷◌, length, get_or, Option, Some, None, option_map, refl, sym, ap, ◌∙◌, arith, eqb}
 use Rattle.std.specs.Prelude.{map as list_map, filter, is_some, if◌then◌else◌}
 use Rattle.std.specs.List.{range_with_len, filter_map, reduce, cons_option}
@@ -25,13 +25,13 @@ use Rattle.dac_placement.specs.laws.FirstChoice.{first_below, first_parts}
 use Rattle.dac_board.proofs.Filling.{length_filled, filled_at, alike_below}
 
 module _ (table : Table) (s : StateValue) where
-  -- ---- where an application runs
+  -- ---- running at a node
 
   module _ (app : AppId) (node : NodeId) where
     abbrev wanted : ℕ → Bool
     wanted inc = is_allowed_at table s (key_at app node inc) && is_started_at s (key_at app node inc)
 
-    -- at the incarnation that is live, eligible is listed, allowed and started
+    -- at the live incarnation, eligible means listed, allowed and started
     eligible_at : (inc : ℕ) → live_at s.lives node ≡ Some inc → is_eligible table s app node ≡ (is_some (group_of table app node) && wanted inc)
     eligible_at inc live = ap (λ o. is_some (group_of table app node) && option_map_or wanted o false) live
 
@@ -47,14 +47,14 @@ module _ (table : Table) (s : StateValue) where
   and_false true = refl
   and_false false = refl
 
-  -- the holder is there, or elsewhere
+  -- the holder is this node, or another one
   at_holder : (app : AppId) (node : NodeId) (o : Origin) (b : Bool) → (o.node.0 ≡ node.0 → is_eligible table s app o.node ≡ b) → ((eqb o.node.0 node.0 && true) && is_eligible table s app node) ≡ (eqb o.node.0 node.0 && b)
   at_holder app node o b here = elim (eqb o.node.0 node.0) as (λ t. eqb o.node.0 node.0 ≡ t → ((t && true) && is_eligible table s app node) ≡ (t && b)) [
     | true ↦ λ e. let same = eqb-true o.node.0 node.0 e in ap (is_eligible table s app) (λ i. record { 0 = sym same i }) ∙ here same
     | false ↦ λ e. refl
   ] refl
 
-  -- where the holder is live
+  -- if the holder is live
   runs_if_up : (app : AppId) (node : NodeId) (o : Origin) → live_at s.lives o.node ≡ Some o.inc → (started allowed : Bool) → is_started_at s (key_of app o) ≡ started → is_allowed_at table s (key_of app o) ≡ allowed
       → ((eqb o.node.0 node.0 && true) && is_eligible table s app node) ≡ row_runs node (record { spots = []; standing = if not started then Stopped o.node else if not allowed then Barred else Upheld o.node; group = group_held table app (if not started then Stopped o.node else if not allowed then Barred else Upheld o.node) })
   runs_if_up app node o live false allowed is may =
@@ -76,7 +76,7 @@ module _ (table : Table) (s : StateValue) where
   runs_if_held app node None = refl
   runs_if_held app node (Some o) = runs_by_holder app node o (is_up s o) refl
 
-  -- a row runs where its application does
+  -- a row runs at a node exactly when its application does
   pub runs_same : (app : AppId) (node : NodeId) → row_runs node (row_of table s app) ≡ runs_at table s app node
   runs_same app node = sym (runs_if_held app node (holder_of s app))
 

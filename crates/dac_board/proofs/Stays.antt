@@ -1,4 +1,4 @@
--- What doesn't move isn't touched.
+-- Unmarked pairs and nodes aren't touched.
 use Rattle.std.proofs.Common.{◌≡◌, ◌<◌, ◌≤◌, ◌-◌, ◌*◌, ◌%◌, ◌^◌, ℕ, Bool, true, false, List, length, get_or, set, nat_eq, bit_or, inl, inr, refl, sym, ap, subst, ◌∙◌, arith, get_or-set_same, get_or-set_other}
 use Rattle.std.proofs.lemmas.Bool.{cases_eq, false_from_ne_true, false≢true, eqb-true, eq-eqb}
 use Rattle.std.specs.Int.{bit_at}
@@ -17,7 +17,7 @@ use Rattle.dac_board.specs.Touched.{origin_of, is_touched}
 use Rattle.dac_board.specs.Grown.{KeepsPair, KeepsApp, NodeStays}
 use Rattle.dac_board.proofs.Untouched.{touched_words}
 
--- a node that stays isn't touched for an application whose permits and starts are as before
+-- a node that stays isn't touched for an application whose permits and starts are unchanged
 pub untouched_by : (table : Table) (old new : StateValue) (app : AppId) (node : NodeId) → KeepsPair old new app node → NodeStays old new node → is_touched table old new app node ≡ false
 untouched_by table old new app node keeps stays = false_from_ne_true (is_touched table old new app node) (λ e.
     elim ((touched_words table old new app node).0 e).differs [
@@ -25,14 +25,14 @@ untouched_by table old new app node keeps stays = false_from_ne_true (is_touched
       | inr h ↦ h.2 (record { permits = keeps.permits (key_at app node h.0) refl refl; starts = keeps.starts (key_at app node h.0) refl refl; drains = stays.drains h.0 h.1 })
     ])
 
--- where lives and drains are as before too, all stands alike for the application
+-- if lives and drains are unchanged too, the states stand alike for the application
 pub keeps_app : (old new : StateValue) (app : AppId) → ((node : NodeId) → KeepsPair old new app node) → old.lives ≡ new.lives → old.drains ≡ new.drains → KeepsApp old new app
 keeps_app old new app keeps lives drains = record {
   lives = lives;
   alike = λ key at. record { permits = (keeps key.node).permits key at refl; starts = (keeps key.node).starts key at refl; drains = ap (drains_at (origin_of key)) drains };
 }
 
--- what holds of each node that isn't marked, once one place is marked anew or not
+-- a property of all unmarked nodes still holds after one more place is marked or left
 pub stays_once : (P : NodeId → Type 0) (moved : List Bool) (place : ℕ) (b : Bool) → ((node : NodeId) → node.0 < 64 → get_or moved node.0 false ≡ false → P node) → length moved ≡ 64 → place < 64
     → (b ≡ false → P (record { 0 = place })) → (node : NodeId) → node.0 < 64 → get_or (set moved place b) node.0 false ≡ false → P node
 stays_once P moved place b before long inside here node lt unmarked = elim (cases_eq node.0 place) [
@@ -42,7 +42,7 @@ stays_once P moved place b before long inside here node lt unmarked = elim (case
 
 -- ---- bits
 
--- a word without marks marks no node
+-- a zero word marks no node
 pub none_marked : (word node : ℕ) → word ≡ 0 → is_marked word node ≡ false
 none_marked word node none = ap (λ n. nat_eq (bit_at n (node % 64)) 1) none ∙ ap (λ b. nat_eq b 1) (bit_at-zero (node % 64))
 
@@ -56,7 +56,7 @@ with_more n k i p e = elim (nat_eq i k) as (λ t. nat_eq i k ≡ t → bit_at (w
   | false ↦ λ t. bit_at_set_other w64 n k p i (λ same. false≢true (sym t ∙ eq-eqb i k same)) ∙ e
 ] refl
 
--- once the bit of a place is set, what isn't marked wasn't, and isn't at that place
+-- after a bit is set, an unmarked pair was unmarked before, and is another pair
 pub marked_more : (words : List ℕ) (app node n : ℕ) (k : ℕ × ℕ) → app < length words → n ≡ get_or words app 0 → is_moved (set words app (with_bit n (node % 64))) k ≡ false
     → (is_moved words k ≡ false) × ((app, node) ≡ k → ⊥)
 marked_more words app node n k inside is unmarked = elim (cases_eq k.0 app) [
@@ -74,6 +74,6 @@ marked_more words app node n k inside is unmarked = elim (cases_eq k.0 app) [
   )
 ]
 
--- what has no word is marked
+-- an application without a word is marked at each node
 pub beyond_marked : (words : List ℕ) (k : ℕ × ℕ) → length words ≤ k.0 → is_moved words k ≡ true
 beyond_marked words k past = ap (λ w. is_marked w k.1) (get_or_past words k.0 (2 ^ 64 - 1) past) ∙ ap (λ b. nat_eq b 1) (bit_at_ones 64 (k.1 % 64) (omega arith))

@@ -1,4 +1,4 @@
--- What isn't touched is eligible as before.
+-- Eligibility is unchanged at a pair that isn't touched.
 use Rattle.std.proofs.Common.{◌≡◌, ◌↔◌, ℕ, Bool, true, false, not, cond, ◌&&◌, ◌||◌, List, Option, Some, None, option_map, ◌⊎◌, inl, inr, refl, sym, ap, subst, ◌∙◌}
 use Rattle.std.specs.Prelude.{is_some}
 use Rattle.std.specs.List.{list_any}
@@ -76,7 +76,7 @@ flag_compared Up Down = refl
 flag_compared Down Up = refl
 flag_compared Down Down = refl
 
--- and so is that of lists of votes
+-- the derived `==` of lists of votes is this test
 pub votes_compared : (xs ys : List (Dot × Flag)) → pointwise (λ (p : Dot × Flag) (q : Dot × Flag). are_same p.0 q.0 && eq-value.it p.1 q.1) xs ys ≡ pointwise same_vote xs ys
 votes_compared xs ys = λ i. pointwise (λ (p : Dot × Flag) (q : Dot × Flag). are_same p.0 q.0 && flag_compared p.1 q.1 i) xs ys
 
@@ -90,7 +90,7 @@ same_starts xs ys =
       λ e. lists.1 (ap in_order e),
     )
 
--- ---- a key is wished by the starts at it alone
+-- ---- whether a key is wished depends only on the starts at it
 
 wished_with : (key : Key) (v w : WishesValue) → dots_at key v.standing ≡ dots_at key w.standing → is_wished key v ≡ true → is_wished key w ≡ true
 wished_with key v w same h =
@@ -100,7 +100,7 @@ wished_with key v w same h =
 pub wished_by_starts : (key : Key) (s t : StateValue) → dots_at key s.starts ≡ dots_at key t.starts → is_wished key (wishes_of s) ≡ is_wished key (wishes_of t)
 wished_by_starts key s t same = both_ways _ _ (wished_with key (wishes_of s) (wishes_of t) same) (wished_with key (wishes_of t) (wishes_of s) (sym same))
 
--- ---- where two states stand alike
+-- ---- two states that stand alike
 
 module _ (old new : StateValue) (key : Key) where
   alike_decides : (stand_alike old new key ≡ true → StandAlike old new key) × (StandAlike old new key → stand_alike old new key ≡ true)
@@ -158,7 +158,7 @@ module _ (table : Table) (old new : StateValue) (app : AppId) (node : NodeId) wh
   pub same_spot : is_touched table old new app node ≡ false → spot_of table old app node ≡ spot_of table new app node
   same_spot e = ap (λ b. cond b (option_map (λ group. record { group = group; node = node }) (group_of table app node)) None) (same_eligible e)
 
--- ---- the tests of what is touched say what is meant
+-- ---- the tests agree with the definition of touched
 
 negate : (b : Bool) (P : Type 0) → (b ≡ true → P) × (P → b ≡ true) → (not b ≡ true) ↔ (¬ P)
 negate true P both = (λ e. absurd (false≢true e), λ no. absurd (no (both.0 refl)))
@@ -207,7 +207,7 @@ touched_words table old new app node = (
     differs = either _ _ _ _ (negate _ _ (life_decides (map.get old.lives node) (map.get new.lives node)))
         (λ e. with_live.0 ((if_live old new app node (live_at new.lives node)).0 e), λ h. (if_live old new app node (live_at new.lives node)).1 (with_live.1 h))
 
--- what no list has isn't touched
+-- a pair outside the application's list isn't touched
 pub untouched_outside : (table : Table) (old new : StateValue) (app : AppId) (node : NodeId) → group_of table app node ≡ None → is_touched table old new app node ≡ true → ⊥
 untouched_outside table old new app node outside touched =
     let listed = (and_parts (is_some (group_of table app node)) _ touched).0 in

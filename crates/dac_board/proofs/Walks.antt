@@ -1,4 +1,4 @@
--- Two lists of entries that are walked through together: what is left of both decides what was passed.
+-- Two lists of entries that are walked through together: the invariant compares their rests.
 use Rattle.std.proofs.Common.{◌≡◌, ℕ, ◌<◌, true, false, cond, List, [], ◌∷◌, length, drop, Option, None, Some, MatchOption, refl, sym, ap, ◌∙◌, arith, add-one, true≢false}
 use Rattle.std.specs.Prelude.{is_some}
 use Rattle.std.specs.Borrow.{Bor}
@@ -38,7 +38,7 @@ module _ {X : Type 0} (k : ℕ × ℕ) where
   pub new_passed : (old new next : List (Key × X)) (e : Key × X) → new ≡ e ∷ drop 1 new → next ≡ drop 1 new → (place_of e.0 ≡ k → ⊥) → IsSameOf k old next → IsSameOf k old new
   new_passed old new next e is passed other same = λ q at. same q at ∙ ap (find key_cmp q) passed ∙ sym (ap (find key_cmp q) is ∙ passes q e (drop 1 new) at other)
 
-  -- nothing of the application is at an entry that is passed
+  -- an entry that is passed is at another place
   pub absent_passed : (now next : List (Key × X)) (e : Key × X) → now ≡ e ∷ next → (place_of e.0 ≡ k → ⊥) → AtEachKey key_cmp (IsAbsent k) next → AtEachKey key_cmp (IsAbsent k) now
   absent_passed now next e is other none = λ q at. ap (find key_cmp q) is ∙ passes q e next at other ∙ none q at
 
@@ -62,12 +62,12 @@ module _ {X : Type 0} (k : ℕ × ℕ) where
       ∙ by_key q e f (drop 1 old) (drop 1 new) at keys values (ap (find key_cmp q) (sym passed) ∙ same q at ∙ ap (find key_cmp q) gone)
       ∙ sym (ap (find key_cmp q) also)
 
-  -- nothing of the application is left on either side
+  -- no entry of the application is left in either list
   pub same_absent : (old new : List (Key × X)) → AtEachKey key_cmp (IsAbsent k) old → AtEachKey key_cmp (IsAbsent k) new → IsSameOf k old new
   same_absent old new none also = λ q at. none q at ∙ sym (also q at)
 
 module _ {E : Type 0} where
-  -- one fewer is left
+  -- the rest is shorter by one
   pub one_fewer : (now next : List E) (e : E) → now ≡ e ∷ next → length next < length now
   one_fewer now next e is =
       let long = ap length is ∙ sym (add-one (length next)) in
@@ -76,7 +76,7 @@ module _ {E : Type 0} where
   pub passed_one : (now next : List E) (e : E) → now ≡ e ∷ drop 1 now → next ≡ drop 1 now → now ≡ e ∷ next
   passed_one now next e is passed = is ∙ ap (λ l. e ∷ l) (sym passed)
 
-  -- two lists whose first elements are equal
+  -- two lists with equal first elements
   pub same_first : (old new next after : List E) (e f : E) → old ≡ e ∷ next → new ≡ f ∷ after → e ≡ f → next ≡ after → old ≡ new
   same_first old new next after e f is also same rest = is ∙ (λ i. same i ∷ rest i) ∙ sym also
 
@@ -84,7 +84,7 @@ module _ {E : Type 0} where
   none_left now None first e = first
   none_left now (Some b) first e = absurd (true≢false e)
 
--- ---- what stands at a key, by the entries
+-- ---- reads at a key, from the entries
 
 module _ {K : Type 0} {R : K → K → Ordering} (total : IsTotalOrder R) (exact : CmpEqualImpliesEq R) where
   votes_found : (votes : Votes R) (key : K) → store_at [] (find R key (votes_by_key R votes)) ≡ votes_at R key votes

@@ -1,6 +1,5 @@
--- Decisions that are kept up. A board keeps of each application how it stands at its holder and which nodes may run
--- it. It shows a state where it keeps what the definitions of placement say of that state. Then it gives the state's
--- verdicts and loads.
+-- Boards. A board stores the standing of each application at its holder and its eligible nodes. It shows a state if
+-- these are what the definitions of placement say of that state; then it has the state's verdicts and loads.
 use Rattle.std.specs.Prelude.{◌≡◌, ℕ, Bool, true, false, List, map as list_map, Option, None, if◌then◌else◌}
 use Rattle.std.specs.Option.{option_map}
 use Rattle.dac_base.specs.declared.NodeId.{NodeId}
@@ -12,19 +11,19 @@ use Rattle.dac_placement.specs.declared.standing.Standing.TheVariants.{Unclaimed
 use Rattle.dac_placement.specs.Placement.{is_eligible, standing_of, apps_of, nodes_of}
 use Rattle.dac_board.specs.declared.spot.Spot.{Spot}
 
--- one application: node by node the group of each that may run it, how it stands at its holder, and the group of the
--- holder where all is well there
+-- one application: node by node the group of each eligible one, its standing, and the group of the holder if it is
+-- upheld
 pub record RowValue : Type 0 where
   pub spots : List (Option Spot)
   pub standing : Standing
   pub group : Option ℕ
 
--- the applications in the order of the file, and how often it was asked whether a node may run one
+-- the applications in the order of the file, and the number of evaluations of a pair
 pub record BoardValue : Type 0 where
   pub rows : List RowValue
   pub looked : ℕ
 
--- the node with its group, where it may run the application
+-- the node with its group, if it is eligible
 abbrev pub spot_of : Table → StateValue → AppId → NodeId → Option Spot
 spot_of table s app node =
     if is_eligible table s app node then option_map (λ group. record { group = group; node = node }) (group_of table app node)
@@ -33,7 +32,7 @@ spot_of table s app node =
 abbrev pub spots_of : Table → StateValue → AppId → List (Option Spot)
 spots_of table s app = list_map (spot_of table s app) (nodes_of table)
 
--- the group of the holder, where all is well there
+-- the group of the holder if it is upheld
 abbrev pub group_held : Table → AppId → Standing → Option ℕ
 group_held table app Unclaimed = None
 group_held table app Lost = None
@@ -41,7 +40,7 @@ group_held table app (Stopped n) = None
 group_held table app Barred = None
 group_held table app (Upheld n) = group_of table app n
 
--- whether the incarnation that holds the application isn't live
+-- whether the holder's incarnation isn't live
 abbrev pub is_lost_at : Standing → Bool
 is_lost_at Unclaimed = false
 is_lost_at Lost = true
@@ -49,7 +48,7 @@ is_lost_at (Stopped n) = false
 is_lost_at Barred = false
 is_lost_at (Upheld n) = false
 
--- what a board that shows a state keeps of an application
+-- the row of an application in a board that shows the state
 abbrev pub row_of : Table → StateValue → AppId → RowValue
 row_of table s app = record {
   spots = spots_of table s app;
@@ -60,6 +59,6 @@ row_of table s app = record {
 abbrev pub rows_of : Table → StateValue → List RowValue
 rows_of table s = list_map (row_of table s) (apps_of table)
 
--- The board shows the state under the configuration: it keeps of each application what the definitions say.
+-- The board shows the state under the configuration: each row is what the definitions say of its application.
 abbrev pub Shows : Table → BoardValue → StateValue → Type 0
 Shows table board s = board.rows ≡ rows_of table s

@@ -1,4 +1,4 @@
--- What stays as it is where a state came to be another one.
+-- The parts that a change of state leaves unchanged.
 use Rattle.std.specs.Prelude.{◌≡◌, ℕ, ◌<◌, IsTrue, false, get_or}
 use Rattle.std.specs.FinMap as map
 use Rattle.dac_base.specs.declared.AppId.{AppId}
@@ -19,18 +19,18 @@ pub record KeepsPair (old new : StateValue) (app : AppId) (node : NodeId) : Type
   pub permits : (key : Key) → key.app ≡ app → key.node ≡ node → permits_at key old.permits ≡ permits_at key new.permits
   pub starts : (key : Key) → key.app ≡ app → key.node ≡ node → dots_at key old.starts ≡ dots_at key new.starts
 
--- the node has the same life, and the same drains stand at its live incarnation
+-- the node's life is unchanged, and the same drains stand at its live incarnation
 pub record NodeStays (old new : StateValue) (node : NodeId) : Type 0 where
   pub life : map.get old.lives node ≡ map.get new.lives node
   pub drains : (inc : ℕ) → IsLive new.lives node inc
       → drains_at (origin node inc) old.drains ≡ drains_at (origin node inc) new.drains
 
--- the states have the same lives, and they stand alike at each key of the application
+-- lives are unchanged, and the states stand alike at each key of the application
 pub record KeepsApp (old new : StateValue) (app : AppId) : Type 0 where
   pub lives : old.lives ≡ new.lives
   pub alike : (key : Key) → key.app ≡ app → StandAlike old new key
 
--- all that is said to be as it was is so: permits and starts for the application, nodes, and claims
+-- whatever the change claims to leave unchanged is unchanged: permits and starts of the application, nodes, and claims
 pub record IsGrown (g : Grown) (app : AppId) : Type 0 where
   pub keeps : (node : NodeId) → is_marked g.pairs node.0 ≡ false → KeepsPair g.old.now g.new.now app node
   pub lives : IsTrue g.is_still → g.old.now.lives ≡ g.new.now.lives

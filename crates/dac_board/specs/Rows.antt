@@ -1,5 +1,5 @@
--- What the rows of a board say, whether it shows a state or not: who runs where, loads and verdicts. Of a board that
--- shows a state they say what the definitions of placement do.
+-- Where applications run, loads and verdicts, computed from the rows of any board. For a board that shows a state they
+-- agree with the definitions of placement.
 use Rattle.std.specs.Prelude.{ℕ, Bool, false, not, ◌&&◌, ◌==◌, List, [], length, get_or, slice_get, map as list_map, filter, Option, None, Some, is_some, if◌then◌else◌}
 use Rattle.std.specs.List.{range_with_len, filter_map, reduce}
 use Rattle.std.specs.Option.{option_map, option_map_or}
@@ -19,7 +19,7 @@ use Rattle.dac_board.specs.Boards.{RowValue}
 abbrev pub no_row : RowValue
 no_row = record { spots = []; standing = Unclaimed; group = None }
 
--- the application runs at the node: it is upheld there, and the list has the node
+-- the application is upheld at the node, and its list names the node
 abbrev pub holds_at : NodeId → Option ℕ → Standing → Bool
 holds_at node group Unclaimed = false
 holds_at node group Lost = false
@@ -43,7 +43,7 @@ abbrev pub load_on : List RowValue → AppId → NodeId → ℕ
 load_on rows app node =
     length (filter (λ other. not (other.0 == app.0) && row_runs node (row_at rows other)) (apps_on rows))
 
--- where a node that may run the application stands among them
+-- the rank of an eligible node
 abbrev pub rank_on : List RowValue → AppId → Option Spot → Option Rank
 rank_on rows app spot =
     option_map (λ (p : Spot). record { group = p.group; load = load_on rows app p.node; node = p.node }) spot

@@ -1,4 +1,4 @@
--- What a change of state touches: the pairs of an application and a node at which it may change who is eligible.
+-- The pairs of an application and a node that a change of state touches: those at which eligibility can change.
 use Rattle.std.specs.Prelude.{◌≡◌, ◌⊎◌, ℕ, Bool, false, true, not, ◌&&◌, ◌||◌, length, filter, Option, None, Some, IsSome, is_some, if◌then◌else◌}
 use Rattle.std.specs.List.{sum_by}
 use Rattle.std.specs.Option.{option_map_or}
@@ -17,30 +17,30 @@ use Rattle.dac_chains.specs.declared.lives.Life.{Life}
 use Rattle.dac_chains.specs.Lives.{life_cmp, IsLive, live_at}
 use Rattle.dac_wishes.specs.declared.key.Key.{Key}
 use Rattle.dac_wishes.specs.Writes.{dots_at}
-use Rattle.dac_wishes.specs.PermissionsValue.{says_true, permits_at}
+use Rattle.dac_wishes.specs.PermissionsValue.{is_permitting, permits_at}
 use Rattle.dac_wishes.specs.DrainsValue.{origin, drains_at}
 use Rattle.dac_meaning.specs.StateValue.{StateValue}
 use Rattle.dac_placement.specs.Placement.{key_at, apps_of, nodes_of}
 
--- the incarnation that a key is of
+-- the incarnation of a key
 abbrev pub origin_of : Key → Origin
 origin_of key = origin key.node key.inc
 
--- at the key the same permits and starts stand in both states, and at its incarnation the same
--- drains, with their values
+-- in both states the same permits and starts stand at the key, and the same drains, with their values, at its
+-- incarnation
 pub record StandAlike (old new : StateValue) (key : Key) : Type 0 where
   pub permits : permits_at key old.permits ≡ permits_at key new.permits
   pub starts : dots_at key old.starts ≡ dots_at key new.starts
   pub drains : drains_at (origin_of key) old.drains ≡ drains_at (origin_of key) new.drains
 
--- The application's list has the node. The node's life differs between the states, or the states don't stand alike for
--- the application at the incarnation that is live in the new one.
+-- The application's list names the node, and either its life differs between the states, or the states don't stand
+-- alike for the application at the incarnation that is live in the new one.
 pub record IsTouched (table : Table) (old new : StateValue) (app : AppId) (node : NodeId) : Type 0 where
   pub listed : IsSome (group_of table app node)
   pub differs : ¬ (map.get old.lives node ≡ map.get new.lives node)
       ⊎ ((inc : ℕ) × IsLive new.lives node inc × ¬ StandAlike old new (key_at app node inc))
 
--- ---- the same as tests
+-- ---- as tests
 
 abbrev pub same_life : Option Life → Option Life → Bool
 same_life None None = true
@@ -49,7 +49,7 @@ same_life (Some l) None = false
 same_life (Some l) (Some m) = is_eq (life_cmp l m)
 
 abbrev pub same_flag : Flag → Flag → Bool
-same_flag f g = if says_true f then says_true g else not (says_true g)
+same_flag f g = if is_permitting f then is_permitting g else not (is_permitting g)
 
 abbrev pub same_vote : Dot × Flag → Dot × Flag → Bool
 same_vote p q = are_same p.0 q.0 && same_flag p.1 q.1

@@ -1,4 +1,4 @@
-//! Decisions that are kept up.
+//! Boards.
 ghost use Rattle.std.specs.Prelude.{◌≡◌, ◌<◌, ◌≤◌, ◌+◌, ◌^◌, IfOk, IsTrue, ◌↔◌, Some, None, length};
 ghost use Rattle.dac_base.specs.declared.AppId.{AppId as App};
 ghost use Rattle.dac_base.specs.declared.NodeId.{NodeId as Named};
@@ -21,11 +21,11 @@ use dac_placement::{Rank, Standing, State, Verdict, lesser};
 use std::alloc::Global;
 use std::marker::Model;
 
-/// The verdicts and loads of a state, kept up as the state grows.
+/// The verdicts and loads of a state, maintained while the state grows.
 ///
-/// A board keeps which nodes may run each application and how the application stands at its holder. When the state
-/// takes something in, the board looks again only at pairs of an application and a node that this touches. Contracts
-/// say which states a board shows under a configuration; of these it gives the verdicts and the loads.
+/// A board stores which nodes are eligible for each application and its standing at its holder. When the state merges a
+/// delta, the board re-evaluates only the pairs of an application and a node that the delta touches. Contracts say
+/// which states a board shows under a configuration; for these it returns the verdicts and the loads.
 #[derive(Drop)]
 pub struct Board {
     rows: Vec<Row>,
@@ -44,7 +44,7 @@ impl Model for Board {
 }
 
 impl Board {
-    /// The board of a state. [`NoMemory`] is the only error.
+    /// The board of a state.
     pub fn new(alloc: Global, config: &Config, state: &State) -> Result<Self, NoMemory>
         ensures { IfOk result (λ board. Shows config.now board state.now) }
     {
@@ -57,7 +57,7 @@ impl Board {
         Ok(Board { rows, looked })
     }
 
-    /// What is to become of an application, by the state that is shown. It takes no memory.
+    /// The verdict of an application in the state shown.
     pub fn verdict(&self, app: AppId) -> Verdict
         ensures value { (table : Table) (s : StateValue) → Shows table self.now s
             → app.0 < app_count table → result ≡ verdict_of table s app }
@@ -65,7 +65,7 @@ impl Board {
         verdict_on(&self.rows, app)
     }
 
-    /// How many other applications run at a node, by the state that is shown. It takes no memory.
+    /// How many other applications run at a node in the state shown.
     pub fn load(&self, app: AppId, node: NodeId) -> u32
         ensures { (table : Table) (s : StateValue) → Shows table self.now s
             → result ≡ load_of table s app node }
@@ -73,7 +73,7 @@ impl Board {
         load_on(&self.rows, app, node)
     }
 
-    /// Whether an application's holder is lost, by the state that is shown. It takes no memory.
+    /// Whether an application's holder is lost in the state shown.
     pub fn is_lost(&self, app: AppId) -> bool
         ensures { (table : Table) (s : StateValue) → Shows table self.now s → app.0 < app_count table
             → result ≡ is_lost_at (standing_of table s app) }
@@ -84,25 +84,25 @@ impl Board {
         }
     }
 
-    /// How often it was looked whether a node may run an application, since the board was made; the greatest number
-    /// stays. It takes no memory.
+    /// How many times a pair of an application and a node was evaluated since the board was made; the count saturates
+    /// at the greatest number.
     pub fn looked(&self) -> u64
         ensures { result ≡ self.now.looked }
     {
         self.looked
     }
 
-    /// Takes up that the state `old`, which is shown, was joined with `delta`, which gave `new`. Where `old` is below
-    /// `new`, `new` itself can be given for `delta`. It walks once through what stands in both states, and looks again only
-    /// at pairs of an application and a node that this touches, at each once. It takes no memory.
+    /// Updates the board, which shows `old`, after `old` was joined with `delta`, which gave `new`. If `old` is below
+    /// `new`, `new` itself can be passed for `delta`. It walks once through both states' standing operations, and
+    /// evaluates each touched pair of an application and a node once.
     pub fn absorb(&mut self, config: &Config, old: &State, new: &State, delta: &State)
         ensures shows { Shows config.now self.old old.now → new.now ≡ join old.now delta.now
             → Shows config.now self.new new.now }
-        // Whatever the state came to be, the board shows it.
+        // Whatever the new state is, the board shows it.
         ensures all { Shows config.now self.old old.now → Shows config.now self.new new.now }
         ensures few { self.new.looked ≤ self.old.looked + touched config.now old.now new.now }
         ensures rises { self.old.looked ≤ self.new.looked }
-        // what is counted
+        // the definition of the pairs that are counted
         ensures pairs { (app : App) (node : Named)
             → IsTrue (is_touched config.now old.now new.now app node)
             ↔ IsTouched config.now old.now new.now app node }
@@ -131,7 +131,7 @@ impl Board {
         self.looked = looked;
     }
 
-    /// An equal board, with memory of its own. [`NoMemory`] is the only error.
+    /// An equal board that shares nothing with this one.
     pub fn copy(&self) -> Result<Self, NoMemory>
         ensures { IfOk result (λ copied. copied ≡ self.now) }
     {
@@ -146,7 +146,7 @@ impl Board {
     }
 }
 
-/// How many rows but one run at a node.
+/// How many rows other than the application's run at a node.
 fn load_on(rows: &[Row], app: AppId, node: NodeId) -> u32
     requires { length rows.now < 2 ^ 16 }
     ensures { result ≡ load_on rows.now app node }
@@ -162,7 +162,7 @@ fn load_on(rows: &[Row], app: AppId, node: NodeId) -> u32
     load
 }
 
-/// Where a node that may run an application stands among them.
+/// The rank of an eligible node.
 fn rank_on(rows: &[Row], app: AppId, spot: Option<Spot>) -> Option<Rank>
     requires { length rows.now < 2 ^ 16 }
     ensures { result ≡ rank_on rows.now app spot }
@@ -189,8 +189,8 @@ fn first_on(rows: &[Row], app: AppId, spots: &[Option<Spot>]) -> Option<Rank>
     first
 }
 
-/// The verdict of an application, by its row and those of the others. Loads are asked for only where two nodes that may
-/// run it share the first group, and it isn't left where it is.
+/// The verdict of an application, by its row and those of the others. Loads are computed only if two eligible nodes
+/// share the first group and the verdict depends on which one is first.
 fn verdict_on(rows: &[Row], app: AppId) -> Verdict
     requires { length rows.now < 2 ^ 16 }
     ensures { result ≡ row_verdict rows.now app }
@@ -208,7 +208,7 @@ fn verdict_on(rows: &[Row], app: AppId) -> Verdict
     }
 }
 
-/// Whether the incarnation that holds an application isn't live, where it stands so.
+/// Whether this is the standing of an application whose holder isn't live.
 fn is_lost_at(standing: Standing) -> bool
     ensures { result ≡ is_lost_at standing }
 {

@@ -1,4 +1,4 @@
-//! The verdict of a row, where no load is asked for it.
+//! Verdicts of rows that don't depend on loads.
 ghost use Rattle.std.specs.Prelude.{◌≡◌, Some};
 ghost use Rattle.dac_placement.specs.Placement.{is_less};
 ghost use Rattle.dac_board.specs.Rows.{verdict_on};
@@ -9,8 +9,8 @@ use crate::leading::{Lead, leader};
 use crate::spot::Spot;
 use dac_placement::{Rank, Standing, Verdict};
 
-/// The verdict of an application that stands so, with its holder in this group and these nodes that may run it, where it is
-/// the same whoever of the leading group comes first.
+/// The verdict of an application of this standing, with its holder in this group and these eligible nodes, if any first
+/// choice in the leading group gives the same verdict.
 pub(crate) fn settled_verdict(
     standing: Standing,
     group: Option<u16>,
@@ -32,7 +32,7 @@ pub(crate) fn settled_verdict(
     }
 }
 
-/// Whether the verdict is the same whoever of the leading group comes first.
+/// Whether any first choice in the leading group gives the same verdict.
 fn is_settled(standing: Standing, group: Option<u16>, lead: Lead) -> bool
     ensures { result ≡ is_settled standing group lead }
 {
@@ -43,7 +43,7 @@ fn is_settled(standing: Standing, group: Option<u16>, lead: Lead) -> bool
     }
 }
 
-/// Whether a group is earlier than the other that is there.
+/// Whether a group is earlier than the other, if there is another.
 fn is_before(early: u16, late: Option<u16>) -> bool
     ensures { result ≡ is_less (Some early) late }
 {
@@ -53,7 +53,7 @@ fn is_before(early: u16, late: Option<u16>) -> bool
     }
 }
 
-/// The verdict, where the application stands so, with its holder in this group, and this is the first choice.
+/// The verdict, given the standing, the holder's group and the first choice.
 pub(crate) fn verdict_by(standing: Standing, group: Option<u16>, first: Option<Rank>) -> Verdict
     ensures { result ≡ verdict_on standing group first }
 {

@@ -1,4 +1,4 @@
-//! Who comes first by groups alone, before any load is asked for.
+//! The first node by groups alone, found before any load is computed.
 ghost use Rattle.std.specs.Prelude.{◌≡◌, List};
 ghost use Rattle.dac_base.specs.declared.AppId.{AppId as App};
 ghost use Rattle.dac_board.specs.Boards.{RowValue};
@@ -7,16 +7,16 @@ ghost use Rattle.dac_board.specs.Leads.{Leads, beside, lead_with};
 
 use crate::spot::Spot;
 
-/// A node that may run an application, and none that may is of an earlier group.
+/// An eligible node such that no eligible node is in an earlier group.
 #[derive(Clone, Copy, Debug, PartialEq, Eq)]
 pub(crate) struct Lead {
-    /// The node, the first of its group by name.
+    /// The first such node in its group by name.
     pub spot: Spot,
-    /// Whether no other node that may run the application is of its group.
+    /// Whether no other eligible node is in its group.
     pub alone: bool,
 }
 
-/// Who leads these nodes, whatever runs where, if there are any.
+/// The lead among these nodes, if there are any. It doesn't depend on loads.
 pub(crate) fn leader(spots: &[Option<Spot>]) -> Option<Lead>
     ensures { (rows : List RowValue) (app : App) → Leads result (first_on rows app spots.now) }
 {
@@ -27,7 +27,7 @@ pub(crate) fn leader(spots: &[Option<Spot>]) -> Option<Lead>
     lead
 }
 
-/// Who leads where a later node comes, if it may run the application.
+/// The lead after a later node, if that one is eligible.
 fn lead_with(lead: Option<Lead>, spot: Option<Spot>) -> Option<Lead>
     ensures { result ≡ lead_with lead spot }
 {
@@ -38,7 +38,7 @@ fn lead_with(lead: Option<Lead>, spot: Option<Spot>) -> Option<Lead>
     }
 }
 
-/// Who leads where a later node that may run the application comes.
+/// The lead after a later eligible node.
 fn beside(lead: Lead, spot: Spot) -> Lead
     ensures { result ≡ beside lead spot }
 {

@@ -1,12 +1,13 @@
-//! Decisions that are kept up: the verdicts and loads of a state, while the state grows.
+//! The board: a materialized view of the verdicts and loads of a state, maintained incrementally while the state grows.
 //!
-//! A [`Board`] keeps, of each application of a configuration, which nodes may run it and how it stands at its holder.
-//! When the state takes something in, the board looks again only at the pairs of an application and a node that this
-//! touches: where the node's life changes, or what stands at its live incarnation for the application or of drains. It
-//! counts how often it looks. Contracts say which states a board shows under a configuration. Of these it gives the
-//! verdicts and the loads of `dac_placement`, and takes no memory for it.
+//! A [`Board`] stores, for each application of a configuration, which nodes are eligible for it and its standing at its
+//! holder. When the state merges a delta, the board re-evaluates only the pairs of an application and a node that the
+//! delta touches: the node's life changes, or the permits, starts or drains that stand at its live incarnation. It
+//! counts these evaluations. Contracts say which states a board shows under a configuration; for these it returns the
+//! verdicts and the loads of `dac_placement`.
 //!
-//! No call but [`Board::new`] and [`Board::copy`] takes memory.
+//! Only [`Board::new`] and [`Board::copy`] allocate. Their only error is `NoMemory`, which leaves their arguments
+//! unchanged.
 #![tactic(auto)]
 
 mod board;

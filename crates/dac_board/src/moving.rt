@@ -1,4 +1,4 @@
-//! Which applications a change may move.
+//! The applications and nodes that a change of state can affect.
 ghost use Rattle.std.specs.Prelude.{◌≡◌, ◌<◌, ◌+◌, ℕ, get_or, true, false, length};
 ghost use Rattle.dac_base.specs.declared.AppId.{AppId as App};
 ghost use Rattle.dac_base.specs.declared.limits.TheConstants.{MAX_APPS as MOST_APPS, MAX_NODES as MOST_NODES};
@@ -18,26 +18,25 @@ use dac_state::{Key, State};
 use dac_store::{DotFun, DotSet, DotStore, Entries};
 use std::cmp::Ordering;
 
-/// That a state came to be another one.
+/// A change of state, with the parts that it can affect.
 #[derive(Clone, Copy)]
 pub(crate) struct Grown<'a> {
     /// The state before.
     pub(crate) old: &'a State,
     /// The state now.
     pub(crate) new: &'a State,
-    /// By the number of a node, whether it may move.
+    /// By the number of a node, whether its life or the drains at its live incarnation can differ.
     pub(crate) nodes: &'a [bool; MAX_NODES],
-    /// A bit for each node at which permits or starts for one application may differ.
+    /// A bit for each node at which permits or starts of one application can differ.
     pub(crate) pairs: u64,
-    /// All lives and drains are as before.
+    /// All lives and drains are unchanged.
     pub(crate) is_still: bool,
-    /// All claims are as before.
+    /// All claims are unchanged.
     pub(crate) is_claimed_alike: bool,
 }
 
-/// Which nodes may move where a state came to be another one. Of the others the life is the same in both, and so are the
-/// drains that stand at the live incarnation. Only the first `count` nodes are looked at, and none where all lives and drains are
-/// as before.
+/// The nodes that a change of state can affect. Every other node has an unchanged life, and the same drains stand at
+/// its live incarnation. Only the first `count` nodes are compared, and none if all lives and drains are unchanged.
 pub(crate) fn nodes_moved(
     old: &State,
     new: &State,
@@ -59,7 +58,7 @@ pub(crate) fn nodes_moved(
     moved
 }
 
-/// Whether a node moves: its life differs, or what stands of drains at its live incarnation.
+/// Whether a node's life differs, or the drains that stand at its live incarnation.
 fn node_moves(old: &State, new: &State, node: NodeId) -> bool
     ensures { result ≡ false → NodeStays old.now new.now node }
 {
@@ -80,7 +79,7 @@ fn same_drains_at(old: &State, new: &State, node: NodeId, inc: u64) -> bool
     old.drains().dots(node, inc) == new.drains().dots(node, inc)
 }
 
-/// Whether a node of this number is marked in a word.
+/// Whether the node of this number is marked in a word.
 pub(crate) fn is_marked(word: u64, number: u8) -> bool
     ensures { result ≡ is_marked word number }
 {
@@ -98,8 +97,8 @@ pub(crate) fn is_claimed_anew(old: &State, new: &State, app: AppId) -> bool
     }
 }
 
-/// Which applications may be moved at which nodes where a state came to be another one: a bit for each node. Of the others all
-/// permits and starts that stand are the same in both. It walks once through what stands in both, and takes no memory.
+/// The pairs of an application and a node whose permits or starts can differ, as a bit for each node. At every other
+/// pair the same permits and starts stand in both states. It walks once through both.
 pub(crate) fn moved_by(old: &State, new: &State) -> [u64; MAX_APPS]
     ensures { (app : App) (node : Node) → app.0 < MOST_APPS
         → is_moved result (app.0, node.0) ≡ false → KeepsPair old.now new.now app node }
@@ -114,7 +113,7 @@ pub(crate) fn moved_by(old: &State, new: &State) -> [u64; MAX_APPS]
     moved
 }
 
-/// Whether a change from one state to another may move a node: a life differs, or what stands of drains.
+/// Whether a life, or the drains that stand, differ between two states.
 pub(crate) fn moves_nodes(old: &State, new: &State) -> bool
     ensures lives { result ≡ false → old.now.lives ≡ new.now.lives }
     ensures drains { result ≡ false → old.now.drains ≡ new.now.drains }
@@ -158,7 +157,7 @@ fn same_starts(one: &DotSet, other: &DotSet) -> bool
     one.is_same(other)
 }
 
-/// Counts an application as moved at a node.
+/// Marks an application at a node.
 fn count_moved(moved: &mut [u64; MAX_APPS], key: Key)
     ensures before { (k : ℕ × ℕ) → is_moved moved.new k ≡ false → is_moved moved.old k ≡ false }
     ensures own { (k : ℕ × ℕ) → is_moved moved.new k ≡ false → place_of key ≡ k → ⊥ }
@@ -169,7 +168,7 @@ fn count_moved(moved: &mut [u64; MAX_APPS], key: Key)
     }
 }
 
-/// Counts an application as moved at a node, unless it is said to be the same.
+/// Marks an application at a node unless the entries there are the same.
 fn count_moved_unless(moved: &mut [u64; MAX_APPS], key: Key, same: bool)
     ensures before { (k : ℕ × ℕ) → is_moved moved.new k ≡ false → is_moved moved.old k ≡ false }
     ensures own { (k : ℕ × ℕ) → is_moved moved.new k ≡ false → place_of key ≡ k → same ≡ true }
@@ -179,7 +178,7 @@ fn count_moved_unless(moved: &mut [u64; MAX_APPS], key: Key, same: bool)
     }
 }
 
-/// Counts each application as moved at a key of which the permits of two states differ.
+/// Marks each application at a key whose permits differ between two states.
 fn mark_permits(
     moved: &mut [u64; MAX_APPS],
     old: Entries<'_, Key, DotFun<Flag>>,
@@ -195,7 +194,8 @@ fn mark_permits(
     rest_of_permits(moved, after);
 }
 
-/// Passes the entry of the lesser key, or one of each list where both are of one key. Says whether both had one.
+/// Consumes the entry of the lesser key, or one of each list if both have one key. Returns whether both lists had an
+/// entry.
 fn pass_permits(
     moved: &mut [u64; MAX_APPS],
     old: &mut Entries<'_, Key, DotFun<Flag>>,
@@ -232,7 +232,7 @@ fn pass_permits(
     }
 }
 
-/// Counts each application as moved of which permits stand.
+/// Marks each application at the keys of these entries.
 fn rest_of_permits(moved: &mut [u64; MAX_APPS], entries: Entries<'_, Key, DotFun<Flag>>)
     ensures before { (k : ℕ × ℕ) → is_moved moved.new k ≡ false → is_moved moved.old k ≡ false }
     ensures gone { (k : ℕ × ℕ) → is_moved moved.new k ≡ false
@@ -244,7 +244,7 @@ fn rest_of_permits(moved: &mut [u64; MAX_APPS], entries: Entries<'_, Key, DotFun
     }
 }
 
-/// Counts each application as moved at a key of which the starts of two states differ.
+/// Marks each application at a key whose starts differ between two states.
 fn mark_starts(
     moved: &mut [u64; MAX_APPS],
     old: Entries<'_, Key, DotSet>,
@@ -260,7 +260,8 @@ fn mark_starts(
     rest_of_starts(moved, after);
 }
 
-/// Passes the entry of the lesser key, or one of each list where both are of one key. Says whether both had one.
+/// Consumes the entry of the lesser key, or one of each list if both have one key. Returns whether both lists had an
+/// entry.
 fn pass_starts(
     moved: &mut [u64; MAX_APPS],
     old: &mut Entries<'_, Key, DotSet>,
@@ -297,7 +298,7 @@ fn pass_starts(
     }
 }
 
-/// Counts each application as moved of which starts stand.
+/// Marks each application at the keys of these entries.
 fn rest_of_starts(moved: &mut [u64; MAX_APPS], entries: Entries<'_, Key, DotSet>)
     ensures before { (k : ℕ × ℕ) → is_moved moved.new k ≡ false → is_moved moved.old k ≡ false }
     ensures gone { (k : ℕ × ℕ) → is_moved moved.new k ≡ false

@@ -1,4 +1,4 @@
-//! One application on a board.
+//! The row of one application on a board.
 ghost use Rattle.std.specs.Prelude.{◌≡◌, ◌<◌, ◌≤◌, ◌+◌, IfOk, true, false};
 ghost use Rattle.dac_base.specs.declared.limits.TheConstants.{MAX_NODES as MOST_NODES};
 ghost use Rattle.dac_config.specs.Table.{app_count};
@@ -19,14 +19,13 @@ use dac_placement::{Standing, State, Verdict, standing_of};
 use std::alloc::Global;
 use std::marker::Model;
 
-/// One application: which nodes may run it, node by node, and how it stands at its holder, with the holder's group
-/// where all is well there.
+/// One application: its eligible nodes, node by node, its standing, and the holder's group if the holder is upheld.
 #[derive(Drop)]
 pub(crate) struct Row {
     spots: Vec<Option<Spot>>,
     standing: Standing,
     group: Option<u16>,
-    /// The verdict, where no load is asked for it.
+    /// The verdict if it doesn't depend on loads.
     settled: Option<Verdict>,
 }
 
@@ -43,7 +42,7 @@ impl Model for Row {
 }
 
 impl Row {
-    /// What a state says of an application. [`NoMemory`] is the only error.
+    /// The row of an application in a state.
     pub(crate) fn new(
         alloc: Global,
         config: &Config,
@@ -70,7 +69,7 @@ impl Row {
         })
     }
 
-    /// Takes up that a state came to be another one. The nodes that this doesn't touch aren't looked at.
+    /// Updates the row after a change of state. Nodes that the change doesn't touch aren't evaluated.
     pub(crate) fn absorb(
         &mut self,
         config: &Config,
@@ -98,7 +97,7 @@ impl Row {
         self.settled = settled_verdict(self.standing, self.group, &self.spots);
     }
 
-    /// Takes up how the application stands at its holder, and what its nodes make of that.
+    /// Recomputes the standing, the holder's group and the settled verdict.
     fn set_standing(&mut self, config: &Config, state: &State, app: AppId)
         requires { app.0 < app_count config.now }
         ensures spots { self.new.spots ≡ self.old.spots }
@@ -111,35 +110,35 @@ impl Row {
         self.settled = settled_verdict(self.standing, self.group, &self.spots);
     }
 
-    /// Which nodes may run it, node by node.
+    /// The eligible nodes, node by node; `None` for any other.
     pub(crate) fn spots(&self) -> &[Option<Spot>]
         ensures { result.now ≡ self.now.spots }
     {
         self.spots.as_slice()
     }
 
-    /// The verdict, where no load is asked for it.
+    /// The verdict if it doesn't depend on loads.
     pub(crate) fn settled(&self) -> Option<Verdict>
         ensures { IsSettled result self.now.standing self.now.group self.now.spots }
     {
         self.settled
     }
 
-    /// How it stands at its holder.
+    /// The application's standing at its holder.
     pub(crate) fn standing(&self) -> Standing
         ensures { result ≡ self.now.standing }
     {
         self.standing
     }
 
-    /// The group of the holder, where all is well there.
+    /// The group of the holder if it is upheld.
     pub(crate) fn group(&self) -> Option<u16>
         ensures { result ≡ self.now.group }
     {
         self.group
     }
 
-    /// Whether it runs at a node.
+    /// Whether the application runs at a node.
     pub(crate) fn runs(&self, node: NodeId) -> bool
         ensures { result ≡ row_runs node self.now }
     {
@@ -149,7 +148,7 @@ impl Row {
         }
     }
 
-    /// An equal row, with memory of its own. [`NoMemory`] is the only error.
+    /// An equal row that shares nothing with this one.
     pub(crate) fn copy(&self) -> Result<Self, NoMemory>
         ensures { IfOk result (λ copied. copied ≡ self.now) }
     {
@@ -162,7 +161,7 @@ impl Row {
     }
 }
 
-/// Looks again at the nodes that a change of state touches.
+/// Re-evaluates the nodes that a change of state touches.
 fn look_again(
     spots: &mut Vec<Option<Spot>>,
     config: &Config,
@@ -187,7 +186,7 @@ fn look_again(
     }
 }
 
-/// Whether a change of state touches a node. Where it is known not to, nothing is looked at.
+/// Whether a change of state touches a node. A node that the change leaves unmarked isn't evaluated.
 fn is_touched_by(config: &Config, change: &Grown<'_>, app: AppId, node: NodeId) -> bool
     requires listed { app.0 < app_count config.now }
     requires few { node.0 < MOST_NODES }
@@ -202,7 +201,7 @@ fn is_touched_by(config: &Config, change: &Grown<'_>, app: AppId, node: NodeId) 
     is_touched(config, change.old, change.new, app, node)
 }
 
-/// The group of the holder, where all is well there.
+/// The group of the holder if it is upheld.
 fn group_held(config: &Config, app: AppId, standing: Standing) -> Option<u16>
     requires { app.0 < app_count config.now }
     ensures { result ≡ group_held config.now app standing }

@@ -1,4 +1,4 @@
-//! Where a node that may run an application stands.
+//! Eligible nodes with their groups.
 ghost use Rattle.std.specs.Prelude.{◌≡◌, ◌<◌, ◌≤◌, ◌+◌};
 ghost use Rattle.dac_config.specs.Table.{app_count};
 ghost use Rattle.dac_board.specs.Boards.{spot_of};
@@ -7,17 +7,17 @@ use dac_base::{AppId, NodeId};
 use dac_config::Config;
 use dac_placement::{State, eligible};
 
-/// A node that may run an application.
+/// A node that is eligible for an application.
 #[derive(Clone, Copy, Debug, PartialEq, Eq)]
 pub(crate) struct Spot {
-    /// Its group in the application's list.
+    /// The node's group in the application's list, from 0.
     pub group: u16,
-    /// Its number.
+    /// The node's number.
     pub node: NodeId,
 }
 
-/// Looks whether a node may run an application, and where its group is. A node outside the application's list
-/// isn't looked at; any other look counts once, until the count is at its greatest.
+/// The node's spot, if it is eligible. Each evaluation of a listed node adds one to `looked`, which saturates; a node
+/// outside the application's list isn't evaluated.
 pub(crate) fn look(
     config: &Config,
     state: &State,

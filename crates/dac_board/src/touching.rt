@@ -1,4 +1,4 @@
-//! What a change of state touches.
+//! Pairs that a change of state touches.
 ghost use Rattle.std.specs.Prelude.{◌≡◌, ◌<◌};
 ghost use Rattle.dac_config.specs.Table.{app_count};
 ghost use Rattle.dac_board.specs.Touched.{is_touched, stand_alike};
@@ -7,8 +7,8 @@ use dac_base::{AppId, NodeId};
 use dac_config::Config;
 use dac_state::{Key, State};
 
-/// Whether the application's list has the node, and the node's life differs between two states, or what stands for
-/// the application or of drains at the node's live incarnation. It takes no memory.
+/// Whether the application's list names the node, and its life, or the permits, starts or drains that stand at its live
+/// incarnation, differ between two states.
 pub(crate) fn is_touched(
     config: &Config,
     old: &State,

@@ -1,4 +1,4 @@
--- What is known of a row that was read, whatever the bytes were.
+-- The facts about a row that was read, whatever the bytes were.
 use Rattle.std.specs.Prelude.{◌≡◌, ℕ, zero, suc, ◌+◌, ◌-◌, ◌^◌, ◌≤◌, ◌⊎◌, true, false, ◌||◌, cond, nat_lt, nat_eq, List, [], ◌∷◌, ◌++◌, length, Option, Some, None, Result, Ok, Err, Bool, IsTrue, ◌↔◌, refl}
 use Rattle.std.specs.FinSet as set
 use Rattle.std.specs.Int.{w32, w64}
@@ -22,7 +22,6 @@ use Rattle.dac_bytes.specs.Items.{with_front}
 use Rattle.dac_bytes.specs.laws.Items.{Fails-on}
 use Rattle.dac_bytes.specs.laws.Takes.{bind_ok, guard_ok, wanted_ok, ok_is}
 
--- further counters rise
 further_rise : (count low : ℕ) (r : Rest) (x : List ℕ × Rest) → items_at further_at (λ n. n) count low r ≡ Ok x → (rises_on low x.0 ≡ true) × (length x.0 ≡ count)
 unfolding items_at further_at
 further_rise zero low r x e = subst (λ (x : List ℕ × Rest). (rises_on low x.0 ≡ true) × (length x.0 ≡ 0)) (ok_is ([], r) x e) (refl, refl)
@@ -36,7 +35,7 @@ further_rise (suc count) low r x e =
     let above : nat_lt low a.0.0 ≡ true = subst (λ (n : ℕ × Rest). nat_lt low n.0 ≡ true) t.1 t.0 in
     subst (λ (x : List ℕ × Rest). (rises_on low x.0 ≡ true) × (length x.0 ≡ suc count)) (ok_is (a.0.0 ∷ c.0.0, c.0.1) x c.2) (and_from _ _ above rest.0, ap suc rest.1)
 
--- there is one at least where there is no other dot
+-- there is at least one further counter if there is no other dot
 count_some : (upto : ℕ) (r : Rest) (count : ℕ × Rest) → further_count_at upto r ≡ Ok count → upto ≡ 0 → 1 ≤ count.0
 unfolding range_at
 count_some upto r count e none =
@@ -54,7 +53,7 @@ origin_above version nodes before r origin e =
     let t = wanted_ok (is_above origin_cmp before a.0.0) BadOrder r a.0 origin a.2 in
     subst (λ (o : Origin × Rest). is_above origin_cmp before o.0 ≡ true) t.1 t.0
 
--- what is known of a row
+-- the facts about a row, given the previous origin
 pub record CanCome (before : Option Origin) (row : Row) : Type 0 where
   pub above : is_above origin_cmp before row.origin ≡ true
   pub rises : rises_on (row.upto + 1) row.further ≡ true
@@ -75,7 +74,7 @@ row_comes version nodes before r x e =
 
 -- ---- the rows so far
 
--- of the rows so far this is the last origin, where there is one
+-- the last origin of the rows so far, if any
 abbrev pub IsLast : Option Origin → List Row → Type 0
 IsLast None rows = rows ≡ []
 IsLast (Some o) rows = (x : Origin) → has_key origin_cmp (origins rows) x ≡ true → (x ≡ o) ⊎ (origin_cmp x o ≡ Less)
@@ -100,7 +99,7 @@ last_more rows row can x h = has_last rows can.above x h
       | inr past ↦ has_last rows (λ o e. below o (or_right _ _ e)) x past
     ]
 
--- ---- the set of the rows that are read
+-- ---- the set of the rows
 
 pub no_rows : rows_of set.empty ≡ []
 no_rows = ap rows_of (is_dots_in set.empty [] (λ q. set.contains-empty dot_cmp q)) ∙ kept_are [] (record { each = tt; rising = refl })
@@ -109,14 +108,13 @@ front_none : {X : Type 0} (x : Field (List X)) → with_front [] x ≡ x
 front_none (Ok x) = refl
 front_none (Err e) = refl
 
--- before any row
 pub starts : (version : Version) (nodes count : ℕ) (r : Rest) (dots : Dots) → dots ≡ set.empty → with_front (rows_of dots) (items_at (row_at version nodes) (λ (row : Row). Some row.origin) (count - 0) None r) ≡ items_at (row_at version nodes) (λ (row : Row). Some row.origin) count None r
 starts version nodes count r dots is =
     let none : rows_of dots ≡ [] = ap rows_of is ∙ no_rows in
     let all : count - 0 ≡ count = omega arith in
     (λ i. with_front (none i) (items_at (row_at version nodes) (λ (row : Row). Some row.origin) (all i) None r)) ∙ front_none (items_at (row_at version nodes) (λ (row : Row). Some row.origin) count None r)
 
--- one row more was read and pushed
+-- one more row was read and added
 pub pushed : (before : Option Origin) (old new : Dots) (row : Row) (b : Bool) → IsLast before (rows_of old) → CanCome before row → (IsTrue b ↔ CanFollow (rows_of old) row) → rows_of new ≡ cond b (rows_of old ++ row ∷ []) (rows_of old) → rows_of new ≡ rows_of old ++ row ∷ []
 pushed before old new row b last can says is = is ∙ ap (λ b. cond b (rows_of old ++ row ∷ []) (rows_of old)) (says.1 (can_follow before (rows_of old) row last can))
 

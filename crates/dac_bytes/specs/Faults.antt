@@ -1,9 +1,9 @@
--- How a fault is shown.
+-- Numbers and names of faults.
 use Rattle.std.specs.Prelude.{ℕ, List, codes}
 use Rattle.dac_bytes.specs.declared.fault.ReadFaultKind.{ReadFaultKind}
 use Rattle.dac_bytes.specs.declared.fault.ReadFaultKind.TheVariants.{Short, BadNumber, BadOrder, BadName, NotInList, NotKnown, Trailing, NoMemory}
 
--- the number in the program's output
+-- a kind's number in the program's output
 abbrev pub number_of : ReadFaultKind → ℕ
 number_of Short = 1
 number_of BadNumber = 2
@@ -14,7 +14,7 @@ number_of NotKnown = 6
 number_of Trailing = 7
 number_of NoMemory = 8
 
--- the name in the program's output
+-- a kind's name in the program's output
 abbrev pub name_of : ReadFaultKind → List ℕ
 name_of Short = codes "Short"
 name_of BadNumber = codes "BadNumber"

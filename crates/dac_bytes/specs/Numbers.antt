@@ -1,4 +1,4 @@
--- Numbers as bytes, the highest byte first. A number that doesn't fit is written by its lowest bits.
+-- Numbers as big-endian bytes. A number that doesn't fit is truncated to its low bits.
 use Rattle.std.specs.Prelude.{ℕ, List}
 use Rattle.std.specs.Int.{w8, w16, w32, w64, to_be_bytes}
 

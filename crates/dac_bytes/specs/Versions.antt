@@ -1,16 +1,16 @@
--- The versions of the bytes. They differ in how an incarnation is written: in four bytes, or in eight.
+-- The versions of the bytes. They differ in the width of an incarnation: four bytes, or eight.
 use Rattle.std.specs.Prelude.{ℕ, ◌-◌, ◌^◌}
 use Rattle.std.specs.Int.{Width, w32, w64}
 use Rattle.dac_base.specs.declared.limits.TheConstants.{MAX_INCARNATION}
 use Rattle.dac_bytes.specs.declared.version.Version.{Version}
 use Rattle.dac_bytes.specs.declared.version.Version.TheVariants.{One, Two}
 
--- how many bytes an incarnation has
+-- the width of an incarnation
 abbrev pub incarnation_width : Version → Width
 incarnation_width One = w32
 incarnation_width Two = w64
 
--- the greatest incarnation that is read
+-- the maximum incarnation that is read
 abbrev pub highest_incarnation : Version → ℕ
 highest_incarnation One = 2 ^ 32 - 1
 highest_incarnation Two = MAX_INCARNATION

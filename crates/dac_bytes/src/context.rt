@@ -1,4 +1,4 @@
-//! Contexts as bytes: by origin, how far its counters go without a gap, and the further ones.
+//! Contexts as bytes: per origin the contiguous counters from 1, and the further ones.
 ghost use Rattle.std.specs.Prelude.{◌≡◌, ◌++◌, IfOk, OnOk, length};
 ghost use Rattle.dac_dots.specs.Rows.{AreRowsOf, rows_of};
 ghost use Rattle.dac_bytes.specs.Spelling.{context_bytes, row_bytes};
@@ -20,7 +20,6 @@ fn write_numbers(mut writer: ByteWriter, numbers: &[u64]) -> Result<ByteWriter, 
     Ok(writer)
 }
 
-/// The row of an origin.
 #[tactic(auto, unfolding(crate::specs::Spelling::row_bytes))]
 fn write_row(
     writer: ByteWriter,
@@ -43,7 +42,7 @@ fn write_row(
     Ok(written)
 }
 
-/// The rows of a context, of which there are so many.
+/// The `rows` rows of a context.
 fn write_rows(
     mut writer: ByteWriter,
     version: Version,
@@ -63,9 +62,9 @@ fn write_rows(
 }
 
 impl ByteWriter {
-    /// A context: how many origins have dots, and for each origin in rising order its row. A row is how far its
-    /// counters go 1, 2, 3, .. without a gap, and the further ones in rising order. So each set of dots is written in
-    /// one way.
+    /// A context: the number of origins with dots, and per origin, in ascending order, its row. A row is the greatest n
+    /// such that the counters 1 to n are all in the context, and the further counters in ascending order, so that each
+    /// set of dots has one spelling.
     #[tactic(auto, unfolding(crate::specs::Spelling::context_bytes))]
     pub fn write_context(self, version: Version, context: &Context) -> Result<Self, NoMemory>
         ensures ok { IfOk result (λ written. written ≡ self ++ context_bytes version context.now) }

@@ -1,4 +1,4 @@
-//! Why bytes can't be read.
+//! The faults of bytes.
 
 ghost use Rattle.std.specs.Prelude.{◌≡◌};
 ghost use Rattle.dac_bytes.specs.declared.fault.ReadFaultKind.TheVariants.{NoMemory};
@@ -7,42 +7,41 @@ use std::alloc::{AllocError, AllocFailed};
 use std::error::Error;
 use std::fmt;
 
-/// What is wrong at an offset of the bytes. The number of each kind is its place in this list, from 1, and
-/// its name and number are part of the program's output.
+/// A kind of fault. Its number is its position in this list, from 1. Number and name are part of the program's output.
 ///
-/// The readers of this crate answer the first four and the last. The others are for those who read what is
-/// made of such fields.
+/// The readers of this crate return the first four and the last. The others are for readers of data that is made of
+/// such fields.
 #[derive(Clone, Copy, Debug, PartialEq, Eq, Hash)]
 pub enum ReadFaultKind {
-    /// The bytes end before this field does.
+    /// The bytes end within this field.
     Short = 1,
     /// A number is out of its range.
     BadNumber,
-    /// An item isn't above the one before it.
+    /// An item isn't greater than the one before it.
     BadOrder,
     /// No node or application has this number.
     BadName,
-    /// A node isn't in the list of the application.
+    /// A node isn't in the application's list.
     NotInList,
-    /// A dot that is heard, or that stands, isn't among those that are known.
+    /// A heard dot, or the dot of an entry, isn't among the known dots.
     NotKnown,
-    /// Bytes come after the last field.
+    /// Bytes follow the last field.
     Trailing,
-    /// Memory was refused; nothing is said of the bytes.
+    /// Out of memory. It carries no information about the bytes.
     NoMemory,
 }
 
 impl ReadFaultKind {
     ghost use Rattle.dac_bytes.specs.Faults.{name_of, number_of};
 
-    /// The number that stands for it in the program's output, 1 to 8.
+    /// The kind's number in the program's output, 1 to 8.
     pub fn number(self) -> u8
         ensures { result ≡ number_of self }
     {
         self as u8
     }
 
-    /// Its name in the program's output, which is also what `Display` prints.
+    /// The kind's name in the program's output, which `Display` prints too.
     pub fn name(self) -> &'static str
         ensures { result.now ≡ name_of self }
     {
@@ -72,17 +71,17 @@ impl fmt::Display for ReadFaultKind {
 
 impl Error for ReadFaultKind {}
 
-/// The first fault of some bytes, from left to right. `Display` prints it as `NAME at P`.
+/// The first fault of a sequence of bytes, from left to right. `Display` prints it as `NAME at P`.
 #[derive(Clone, Copy, Debug, PartialEq, Eq, Hash)]
 pub struct ReadFault {
-    /// What is wrong.
+    /// The kind of fault.
     pub kind: ReadFaultKind,
-    /// Where: the offset of a byte, from 0; 0 for `NoMemory`.
+    /// The offset of a byte, from 0; 0 for `NoMemory`.
     pub at: usize,
 }
 
 impl ReadFault {
-    /// What is wrong, and where.
+    /// A fault of this kind at this offset.
     pub fn new(kind: ReadFaultKind, at: usize) -> Self
         ensures { (result.kind ≡ kind) × (result.at ≡ at) }
     {

@@ -1,19 +1,19 @@
-//! Numbers, origins, dots and causal contexts as bytes, written and read.
+//! Numbers, origins, dots and causal contexts as bytes: a writer and a reader.
 //!
-//! All numbers are big-endian. An origin is five bytes, a dot thirteen; in [`Version::Two`] they are nine and
-//! seventeen. A context is a version vector with the dots beyond it. By origin it says how far the counters go 1,
-//! 2, 3, .. without a gap, and the further ones. Each call of [`ByteWriter`] appends exactly the bytes that this
-//! crate's `specs/` give the value, so a value has one spelling. Of a context it is proved that its rows tell which
-//! dots it has.
+//! All numbers are big-endian. An origin has five bytes and a dot thirteen; in [`Version::Two`] nine and seventeen. A
+//! context is a version vector with a cloud: per origin the greatest n such that the counters 1 to n are all in the
+//! context, and the further counters. Each call of [`ByteWriter`] appends exactly the bytes that this crate's `specs/`
+//! define for the value, so that a value has one spelling. The rows of a context are proved to determine its dots.
 //!
-//! Each call of [`ByteReader`] gives exactly the value that its bytes spell, or the first fault from left to right.
-//! The fault and the offset of its byte are as the reading functions of `specs/` have them. The contract of
-//! [`laws::fields_have_one_spelling`] says that what is read of a field is spelled so and is in range. It also says
-//! that what is in range is read from its spelling. So of each field, and of contexts, there is one spelling that is
+//! Each call of [`ByteReader`] returns exactly the value that its bytes spell, or the first fault from left to right
+//! with its offset, as the reading functions of `specs/` define them. By the contract of
+//! [`laws::fields_have_one_spelling`] a field that is read has the spelling of its value, which is in range, and each
+//! value in range is read from its spelling. Therefore each field, and each context, has exactly one spelling that is
 //! read.
 //!
-//! `NoMemory` stands at 0, and says nothing of the bytes. A count that doesn't fit its field is written by
-//! its lowest bits. Reading a context reserves nothing for a count.
+//! `NoMemory` has offset 0 and carries no information about the bytes. A count that doesn't fit its field is truncated
+//! to its low bits. Reading a context reserves nothing for a count, because counts in bytes can be false. Functions
+//! that neither take an allocator nor return `Result<_, NoMemory>` allocate nothing.
 #![tactic(auto)]
 
 mod context;

@@ -1,4 +1,4 @@
-//! Bytes that are being read: numbers, nodes, origins and dots.
+//! The reader of bytes: numbers, nodes, origins and dots.
 ghost use Rattle.std.specs.Prelude.{◌≡◌, ◌↔◌, ◌≤◌, IfOk, IsTrue, [], length};
 ghost use Rattle.std.specs.Int.{w8, w16, w32, w64};
 ghost use Rattle.dac_bytes.specs.Versions.{highest_incarnation, incarnation_width};
@@ -10,10 +10,10 @@ use dac_base::{MAX_COUNTER, MAX_INCARNATION, NodeId};
 use dac_origins::{Dot, Origin};
 use std::marker::Model;
 
-/// The rest of some bytes that are being read, and the offset of its first byte. Contracts see these two.
+/// The bytes that remain to be read, and the offset of the first. Contracts see both.
 ///
-/// Each call takes the reader and gives it back with what it read, after the field. A field that the bytes
-/// end in is `Short` at its first byte.
+/// Each call consumes the reader and returns it, after the field, with the value. A field that the bytes end in is
+/// `Short` at its first byte.
 #[derive(Debug, Drop)]
 pub struct ByteReader<'a> {
     at: usize,
@@ -32,14 +32,14 @@ impl<'a> Model for ByteReader<'a> {
 }
 
 impl<'a> ByteReader<'a> {
-    /// All of the bytes, from offset 0.
+    /// A reader of all these bytes, from offset 0.
     pub fn new(bytes: &'a [u8]) -> Self
         ensures { result ≡ whole bytes.now }
     {
         ByteReader { at: 0, rest: bytes }
     }
 
-    /// What is after the first so many bytes.
+    /// A reader of the bytes after the first `count`.
     pub fn after(bytes: &'a [u8], count: usize) -> Self
         requires { count ≤ length bytes.now }
         ensures { result ≡ after count (whole bytes.now) }
@@ -62,7 +62,7 @@ impl<'a> ByteReader<'a> {
         self.rest.is_empty()
     }
 
-    /// The next so many bytes, and what is after them.
+    /// The next `count` bytes, and the reader after them.
     fn take(self, count: usize) -> Result<(&'a [u8], ByteReader<'a>), ReadFault>
         ensures exact { Reads (λ x. (x.0.now, x.1)) result (taken count self.entry) }
         ensures real { IsOfBytes result }
@@ -90,7 +90,7 @@ impl<'a> ByteReader<'a> {
         Ok((bytes[0], rest))
     }
 
-    /// A number in two bytes, the high one first.
+    /// A number in two bytes.
     pub fn read_u16(self) -> Result<(u16, ByteReader<'a>), ReadFault>
         ensures exact { result ≡ number_at w16 self.entry }
         ensures real { IsOfBytes result }
@@ -99,7 +99,7 @@ impl<'a> ByteReader<'a> {
         Ok((u16::from_be_bytes([bytes[0], bytes[1]]), rest))
     }
 
-    /// A number in four bytes, the highest one first.
+    /// A number in four bytes.
     pub fn read_u32(self) -> Result<(u32, ByteReader<'a>), ReadFault>
         ensures exact { result ≡ number_at w32 self.entry }
         ensures real { IsOfBytes result }
@@ -108,7 +108,7 @@ impl<'a> ByteReader<'a> {
         Ok((u32::from_be_bytes([b[0], b[1], b[2], b[3]]), rest))
     }
 
-    /// A number in eight bytes, the highest one first.
+    /// A number in eight bytes.
     pub fn read_u64(self) -> Result<(u64, ByteReader<'a>), ReadFault>
         ensures exact { result ≡ number_at w64 self.entry }
         ensures real { IsOfBytes result }
@@ -118,7 +118,7 @@ impl<'a> ByteReader<'a> {
         Ok((number, rest))
     }
 
-    /// A number in one byte from low to high. Another is `BadNumber` at its byte.
+    /// A number in one byte, from `low` to `high`. Any other is `BadNumber` at its byte.
     #[tactic(auto, unfolding(crate::specs::Reading::range_at))]
     pub fn read_u8_in(self, low: u8, high: u8) -> Result<(u8, ByteReader<'a>), ReadFault>
         ensures exact { result ≡ range_at w8 low high self.entry }
@@ -133,7 +133,7 @@ impl<'a> ByteReader<'a> {
         Ok((number, rest))
     }
 
-    /// A number in four bytes from low to high. Another is `BadNumber` at its first byte.
+    /// A number in four bytes, from `low` to `high`. Any other is `BadNumber` at its first byte.
     #[tactic(auto, unfolding(crate::specs::Reading::range_at))]
     pub fn read_u32_in(self, low: u32, high: u32) -> Result<(u32, ByteReader<'a>), ReadFault>
         ensures exact { result ≡ range_at w32 low high self.entry }
@@ -148,7 +148,7 @@ impl<'a> ByteReader<'a> {
         Ok((number, rest))
     }
 
-    /// A number in eight bytes from low to high. Another is `BadNumber` at its first byte.
+    /// A number in eight bytes, from `low` to `high`. Any other is `BadNumber` at its first byte.
     #[tactic(auto, unfolding(crate::specs::Reading::range_at))]
     pub fn read_u64_in(self, low: u64, high: u64) -> Result<(u64, ByteReader<'a>), ReadFault>
         ensures exact { result ≡ range_at w64 low high self.entry }
@@ -163,7 +163,7 @@ impl<'a> ByteReader<'a> {
         Ok((number, rest))
     }
 
-    /// A node in one byte. One that isn't below the number of nodes is `BadName` at its byte.
+    /// A node in one byte. A number of `nodes` or more is `BadName` at its byte.
     #[tactic(auto, unfolding(crate::specs::Reading::node_at))]
     pub fn read_node(self, nodes: u8) -> Result<(NodeId, ByteReader<'a>), ReadFault>
         ensures exact { result ≡ node_at nodes self.entry }
@@ -178,7 +178,7 @@ impl<'a> ByteReader<'a> {
         }
     }
 
-    /// An incarnation from a least one on, in four or in eight bytes.
+    /// An incarnation of at least `least`, in four or eight bytes.
     fn read_incarnation_from(
         self,
         version: Version,
@@ -200,8 +200,7 @@ impl<'a> ByteReader<'a> {
         }
     }
 
-    /// An incarnation, in four or in eight bytes. 0, and one above the greatest, is `BadNumber` at its
-    /// first byte.
+    /// An incarnation, in four or eight bytes. 0, or more than the version's maximum, is `BadNumber` at its first byte.
     pub fn read_incarnation(self, version: Version) -> Result<(u64, ByteReader<'a>), ReadFault>
         ensures exact { result ≡ incarnation_at version self.entry }
         ensures real { IsOfBytes result }
@@ -210,8 +209,7 @@ impl<'a> ByteReader<'a> {
         Ok(read)
     }
 
-    /// An incarnation, or 0, in four or in eight bytes. One above the greatest is `BadNumber` at its first
-    /// byte.
+    /// An incarnation or 0, in four or eight bytes. More than the version's maximum is `BadNumber` at its first byte.
     pub fn read_incarnation_or_zero(
         self,
         version: Version,
@@ -223,7 +221,7 @@ impl<'a> ByteReader<'a> {
         Ok(read)
     }
 
-    /// A counter of a dot in eight bytes. 0, and one above 2^62, is `BadNumber` at its first byte.
+    /// A dot's counter in eight bytes. 0, or more than 2^62, is `BadNumber` at its first byte.
     pub fn read_counter(self) -> Result<(u64, ByteReader<'a>), ReadFault>
         ensures exact { result ≡ counter_at self.entry }
         ensures real { IsOfBytes result }
@@ -232,7 +230,7 @@ impl<'a> ByteReader<'a> {
         Ok(read)
     }
 
-    /// Who issued an operation: the node in one byte and its incarnation.
+    /// The origin of an operation: its node in one byte, and its incarnation.
     #[tactic(auto, unfolding(crate::specs::Reading::origin_at))]
     pub fn read_origin(
         self,
@@ -247,7 +245,7 @@ impl<'a> ByteReader<'a> {
         Ok((Origin { node, inc }, rest))
     }
 
-    /// The name of an operation: its origin and its counter in eight.
+    /// The dot of an operation: its origin, and its counter in eight bytes.
     #[tactic(auto, unfolding(crate::specs::Reading::dot_at))]
     pub fn read_dot(self, version: Version, nodes: u8) -> Result<(Dot, ByteReader<'a>), ReadFault>
         ensures exact { result ≡ dot_at version nodes self.entry }
@@ -258,8 +256,7 @@ impl<'a> ByteReader<'a> {
         Ok((Dot { origin, n }, rest))
     }
 
-    /// An origin that is above the one before it, where there is one. Another is `BadOrder` at its first
-    /// byte.
+    /// An origin greater than the previous one, if any. Any other is `BadOrder` at its first byte.
     #[tactic(auto, unfolding(crate::specs::Reading::origin_above_at))]
     pub fn read_origin_above(
         self,
@@ -279,7 +276,7 @@ impl<'a> ByteReader<'a> {
         }
     }
 
-    /// A dot that is above the one before it, where there is one. Another is `BadOrder` at its first byte.
+    /// A dot greater than the previous one, if any. Any other is `BadOrder` at its first byte.
     #[tactic(auto, unfolding(crate::specs::Reading::dot_above_at))]
     pub fn read_dot_above(
         self,

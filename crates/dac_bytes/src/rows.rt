@@ -1,4 +1,4 @@
-//! Contexts that are read, row by row.
+//! Reads contexts row by row.
 ghost use Rattle.std.specs.Prelude.{◌≡◌, ◌+◌, ◌++◌, ℕ, IfOk, List, Ok, None, Some, length};
 ghost use Rattle.dac_origins.specs.Dots.{Dots};
 ghost use Rattle.dac_dots.specs.Rows.{rows_of};
@@ -15,7 +15,7 @@ use dac_dots::Context;
 use dac_origins::Origin;
 use std::alloc::Global;
 
-/// The dots of one origin as they are read: the counters 1 to `upto`, and the further ones.
+/// The dots of one origin, as read: the counters 1 to `upto`, and the further ones.
 #[derive(Drop)]
 struct ReadRow {
     origin: Origin,
@@ -23,7 +23,7 @@ struct ReadRow {
     further: Vec<u64>,
 }
 
-/// A further counter, above the one before it.
+/// A further counter, greater than the previous one.
 #[tactic(auto, unfolding(crate::specs::Reading::further_at))]
 fn read_further<'a>(reader: ByteReader<'a>, before: u64) -> Result<(u64, ByteReader<'a>), ReadFault>
     ensures exact { result ≡ further_at before reader.entry }
@@ -38,7 +38,7 @@ fn read_further<'a>(reader: ByteReader<'a>, before: u64) -> Result<(u64, ByteRea
     }
 }
 
-/// So many further counters, the first above `before`.
+/// `count` further counters, the first greater than `before`.
 fn read_counters<'a>(
     reader: ByteReader<'a>,
     alloc: Global,
@@ -59,7 +59,7 @@ fn read_counters<'a>(
     Ok((counters, rest))
 }
 
-/// The row of an origin above the one before it.
+/// The row of an origin greater than the previous one.
 #[tactic(auto, unfolding(crate::specs::Reading::row_at))]
 fn read_row<'a>(
     reader: ByteReader<'a>,
@@ -85,7 +85,7 @@ fn read_row<'a>(
     Ok((row, rest))
 }
 
-/// So many rows, their origins in rising order: the set that has them.
+/// The context of `count` rows, in ascending order of their origins.
 fn read_counted_rows<'a>(
     reader: ByteReader<'a>,
     alloc: Global,
@@ -108,7 +108,6 @@ fn read_counted_rows<'a>(
     Ok((context, rest))
 }
 
-/// The rows of a context.
 #[tactic(auto, unfolding(crate::specs::Reading::rows_at))]
 fn read_rows<'a>(
     reader: ByteReader<'a>,
@@ -123,7 +122,7 @@ fn read_rows<'a>(
     Ok(rows)
 }
 
-/// The set of the dots of the rows that are read.
+/// The context of the rows that are read.
 fn read_set<'a>(
     reader: ByteReader<'a>,
     alloc: Global,
@@ -136,25 +135,25 @@ fn read_set<'a>(
 }
 
 impl<'a> ByteReader<'a> {
-    /// A context of dots whose nodes are below the number of nodes. The first field that isn't in form is the fault,
-    /// at its first byte. An origin that isn't above the one before it is `BadOrder`. So is a further counter that
-    /// isn't above the one before it, or continues those without a gap. An origin without dots is `BadNumber` at its
-    /// number of further counters.
+    /// A context whose nodes are below `nodes`. The first malformed field is the fault, at its first byte. An origin
+    /// that isn't greater than the previous one is `BadOrder`. So is a further counter that isn't greater than the
+    /// previous one, or that continues the contiguous counters. An origin without dots is `BadNumber` at its number of
+    /// further counters.
     ///
-    /// Memory is taken for what was read, and nothing is reserved for a count.
+    /// Allocates for the rows that were read, and reserves nothing for a count.
     pub fn read_context(
         self,
         alloc: Global,
         version: Version,
         nodes: u8,
     ) -> Result<(Context, ByteReader<'a>), ReadFault>
-        // Which context or fault it is, unless memory runs out.
+        // The definition determines the context or the fault, unless memory runs out.
         ensures exact { Gives (λ x. x) result (context_at version nodes self.entry) }
-        // What is read of bytes is spelled so, and its dots and counts are in range.
+        // The returned context has these bytes as its spelling, and its dots and counts are in range.
         ensures found { IsBytes self.entry.bytes
             → IfOk result (λ x. Takes self.entry (context_bytes version x.0) x.1
             × IsContext version nodes x.0) }
-        // What is spelled so is read, unless memory runs out.
+        // A context in range is read from its spelling, unless memory runs out.
         ensures again { (dots : Dots) (rest : List ℕ) → IsContext version nodes dots
             → self.entry.bytes ≡ context_bytes version dots ++ rest
             → Gives (λ x. x) result (Ok (

@@ -1,6 +1,6 @@
 //! The versions of the bytes.
 
-/// How incarnations are written. All else of the bytes of numbers, dots and contexts is the same in both.
+/// How incarnations are written. Numbers, dots and contexts are otherwise equal in both versions.
 #[derive(Clone, Copy, Debug, PartialEq, Eq, Hash)]
 pub enum Version {
     /// In four bytes.

@@ -1,4 +1,4 @@
-//! Bytes that are being written: numbers, origins and dots.
+//! The writer of bytes: numbers, origins and dots.
 ghost use Rattle.std.specs.Prelude.{◌≡◌, [], ◌∷◌, ◌++◌, IfOk};
 ghost use Rattle.dac_bytes.specs.Numbers.{u8_bytes, u16_bytes, u32_bytes, u64_bytes};
 ghost use Rattle.dac_bytes.specs.Spelling.{dot_bytes, incarnation_bytes, origin_bytes};
@@ -10,10 +10,10 @@ use dac_origins::{Dot, Origin};
 use std::alloc::Global;
 use std::marker::Model;
 
-/// Bytes that are being written. Contracts see their list.
+/// The bytes written so far. Contracts see their list.
 ///
-/// Each call takes the writer and gives it back with more bytes at its end. Where memory is refused the
-/// writer is gone, and its bytes with it; that is the only error of each call.
+/// Each call consumes the writer and returns it with bytes appended. `NoMemory`, the only error of each call, discards
+/// the writer with its bytes.
 #[derive(Debug, Drop)]
 pub struct ByteWriter {
     bytes: Vec<u8>,
@@ -28,7 +28,7 @@ impl Model for ByteWriter {
 }
 
 impl ByteWriter {
-    /// No bytes yet.
+    /// A writer without bytes.
     pub fn new(alloc: Global) -> Self
         ensures { result ≡ [] }
     {
@@ -37,12 +37,12 @@ impl ByteWriter {
         }
     }
 
-    /// Where the memory comes from.
+    /// The allocator of the bytes, for copies of the rows of a context.
     pub(crate) fn allocator(&self) -> Global {
         *self.bytes.allocator()
     }
 
-    /// What was written.
+    /// Returns the bytes written.
     pub fn into_bytes(self) -> Vec<u8>
         ensures { result.items ≡ self }
     {
@@ -50,7 +50,7 @@ impl ByteWriter {
         bytes
     }
 
-    /// Bytes as they are.
+    /// Appends these bytes unchanged.
     pub fn write_bytes(mut self, bytes: &[u8]) -> Result<Self, NoMemory>
         ensures { IfOk result (λ written. written ≡ self ++ bytes.now) }
     {
@@ -67,7 +67,7 @@ impl ByteWriter {
         Ok(written)
     }
 
-    /// A number in two bytes, the high one first.
+    /// A number in two bytes.
     #[tactic(auto, unfolding(crate::specs::Numbers::u16_bytes))]
     pub fn write_u16(self, n: u16) -> Result<Self, NoMemory>
         ensures { IfOk result (λ written. written ≡ self ++ u16_bytes n) }
@@ -76,7 +76,7 @@ impl ByteWriter {
         Ok(written)
     }
 
-    /// A number in four bytes, the highest one first.
+    /// A number in four bytes.
     #[tactic(auto, unfolding(crate::specs::Numbers::u32_bytes))]
     pub fn write_u32(self, n: u32) -> Result<Self, NoMemory>
         ensures { IfOk result (λ written. written ≡ self ++ u32_bytes n) }
@@ -85,7 +85,7 @@ impl ByteWriter {
         Ok(written)
     }
 
-    /// A number in eight bytes, the highest one first.
+    /// A number in eight bytes.
     #[tactic(auto, unfolding(crate::specs::Numbers::u64_bytes))]
     pub fn write_u64(self, n: u64) -> Result<Self, NoMemory>
         ensures { IfOk result (λ written. written ≡ self ++ u64_bytes n) }
@@ -94,7 +94,7 @@ impl ByteWriter {
         Ok(written)
     }
 
-    /// A number of things in one byte: its lowest 8 bits.
+    /// A count in one byte: its low 8 bits.
     #[tactic(auto, unfolding(crate::specs::Numbers::u8_bytes))]
     pub fn write_count_u8(self, count: usize) -> Result<Self, NoMemory>
         ensures { IfOk result (λ written. written ≡ self ++ u8_bytes count) }
@@ -103,7 +103,7 @@ impl ByteWriter {
         Ok(written)
     }
 
-    /// A number of things in two bytes: its lowest 16 bits.
+    /// A count in two bytes: its low 16 bits.
     #[tactic(auto, unfolding(crate::specs::Numbers::u16_bytes))]
     pub fn write_count_u16(self, count: usize) -> Result<Self, NoMemory>
         ensures { IfOk result (λ written. written ≡ self ++ u16_bytes count) }
@@ -112,7 +112,7 @@ impl ByteWriter {
         Ok(written)
     }
 
-    /// A number of things in four bytes: its lowest 32 bits.
+    /// A count in four bytes: its low 32 bits.
     #[tactic(auto, unfolding(crate::specs::Numbers::u32_bytes))]
     pub fn write_count_u32(self, count: usize) -> Result<Self, NoMemory>
         ensures { IfOk result (λ written. written ≡ self ++ u32_bytes count) }
@@ -121,7 +121,7 @@ impl ByteWriter {
         Ok(written)
     }
 
-    /// An incarnation: its lowest 32 bits in four bytes, or all of it in eight.
+    /// An incarnation: its low 32 bits in four bytes, or all of it in eight.
     #[tactic(auto, unfolding(crate::specs::Spelling::incarnation_bytes, crate::specs::Numbers::u32_bytes, crate::specs::Numbers::u64_bytes))]
     pub fn write_incarnation(self, version: Version, inc: u64) -> Result<Self, NoMemory>
         ensures { IfOk result (λ written. written ≡ self ++ incarnation_bytes version inc) }
@@ -138,7 +138,7 @@ impl ByteWriter {
         }
     }
 
-    /// Who issued an operation: the node in one byte and its incarnation.
+    /// The origin of an operation: its node in one byte, and its incarnation.
     pub fn write_origin(self, version: Version, origin: Origin) -> Result<Self, NoMemory>
         ensures { IfOk result (λ written. written ≡ self ++ origin_bytes version origin) }
     {
@@ -148,7 +148,7 @@ impl ByteWriter {
         }
     }
 
-    /// The name of an operation: its origin and its counter in eight bytes.
+    /// The dot of an operation: its origin, and its counter in eight bytes.
     pub fn write_dot(self, version: Version, dot: Dot) -> Result<Self, NoMemory>
         ensures { IfOk result (λ written. written ≡ self ++ dot_bytes version dot) }
     {
@@ -159,7 +159,6 @@ impl ByteWriter {
     }
 }
 
-/// An origin as version one has it.
 #[tactic(auto, unfolding(crate::specs::Spelling::origin_bytes, crate::specs::Spelling::incarnation_bytes, crate::specs::Numbers::u8_bytes))]
 fn short_origin(origin: Origin) -> [u8; 5]
     ensures { result ≡ origin_bytes One origin }
@@ -169,7 +168,6 @@ fn short_origin(origin: Origin) -> [u8; 5]
     [node[0], inc[4], inc[5], inc[6], inc[7]]
 }
 
-/// An origin as version two has it.
 #[tactic(auto, unfolding(crate::specs::Spelling::origin_bytes, crate::specs::Spelling::incarnation_bytes, crate::specs::Numbers::u8_bytes))]
 fn long_origin(origin: Origin) -> [u8; 9]
     ensures { result ≡ origin_bytes Two origin }
@@ -181,7 +179,6 @@ fn long_origin(origin: Origin) -> [u8; 9]
     ]
 }
 
-/// A dot as version one has it.
 #[tactic(auto, unfolding(crate::specs::Spelling::dot_bytes, crate::specs::Spelling::origin_bytes, crate::specs::Spelling::incarnation_bytes, crate::specs::Numbers::u8_bytes, crate::specs::Numbers::u64_bytes))]
 fn short_dot(dot: Dot) -> [u8; 13]
     ensures { result ≡ dot_bytes One dot }
@@ -194,7 +191,6 @@ fn short_dot(dot: Dot) -> [u8; 13]
     ]
 }
 
-/// A dot as version two has it.
 #[tactic(auto, unfolding(crate::specs::Spelling::dot_bytes, crate::specs::Spelling::origin_bytes, crate::specs::Spelling::incarnation_bytes, crate::specs::Numbers::u8_bytes, crate::specs::Numbers::u64_bytes))]
 fn long_dot(dot: Dot) -> [u8; 17]
     ensures { result ≡ dot_bytes Two dot }

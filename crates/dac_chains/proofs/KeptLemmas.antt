@@ -1,4 +1,4 @@
--- Maps to greatest values, by the lists of entries that they are kept in.
+-- Maps to greatest values, in terms of the entries that store them.
 use Rattle.std.proofs.Common.{◌≡◌, true, false, ◌&&◌, cond, List, [], ◌∷◌, Option, Some, None, option_map, ◌↔◌, refl, sym, ap, ◌∙◌, subst}
 use Rattle.std.specs.Prelude.{T}
 use Rattle.std.specs.declared.cmp.Ordering.{Ordering}
@@ -61,7 +61,7 @@ module _ {K V : Type 0} (R : K → K → Ordering) where
     | false ↦ find-unwrapped k es
   ]
 
-  -- the wrappers of values are nothing to the order of keys
+  -- unwrapping values keeps the order of keys
   below_unwrapped : (k : K) (es : List (K × Max V)) → below_all R k (unwrapped es) ≡ below_all R k es
   below_unwrapped k [] = refl
   below_unwrapped k (e ∷ es) = ap (λ b. is_lt (R k e.0) && b) (below_unwrapped k es)
@@ -71,11 +71,11 @@ module _ {K V : Type 0} (R : K → K → Ordering) where
   is_sorted-unwrapped (e ∷ es) = λ i. below_unwrapped e.0 es i && is_sorted-unwrapped es i
 
 module _ {K V : Type 0} {R : K → K → Ordering} (keys : IsTotalOrder R) (exact : CmpEqualImpliesEq R) where
-  -- what the map has at a key
+  -- the value of the map at a key
   pub get-kept : (es : List (K × Max V)) (k : K) → map.get (kept {R = R} es) k ≡ option_map value_of (find R k es)
   get-kept es k = map.get-from_entries keys (unwrapped es) k ∙ find-unwrapped R k es
 
-  -- the join of the entries is the greater of the maps
+  -- the join of the entries stores the greater map
   pub kept-join : (own cmp : V → V → Ordering) → own ≡ cmp → (xs ys : List (K × Max V)) → T (is_sorted R xs) → T (is_sorted R ys)
       → kept {R = R} (join_maps R (greatest own) xs ys) ≡ greater cmp (kept xs) (kept ys)
   kept-join own cmp same xs ys g h = map.same_map keys exact _ _ (λ k.
@@ -85,7 +85,7 @@ module _ {K V : Type 0} {R : K → K → Ordering} (keys : IsTotalOrder R) (exac
       ∙ (λ i. join_options (ord_max (same i)) (sym (get-kept xs k) i) (sym (get-kept ys k) i))
       ∙ sym (get-greater keys exact cmp (kept xs) (kept ys) k))
 
-  -- the order of the entries is that of the maps
+  -- entries are ordered as their maps are
   pub below-kept : (own cmp : V → V → Ordering) → own ≡ cmp → (xs ys : List (K × Max V)) → IsMapBelow R (at_most own) xs ys ↔ AreNotAbove {R = R} cmp (kept xs) (kept ys)
   below-kept own cmp same xs ys =
       let at : K → Type 0 = λ k. IsOptionBelow (IsAtMost own) (option_map value_of (find R k xs)) (option_map value_of (find R k ys)) in
@@ -94,7 +94,7 @@ module _ {K V : Type 0} {R : K → K → Ordering} (keys : IsTotalOrder R) (exac
         λ h k. within_to own (find R k xs) (find R k ys) (subst (λ (X : Type 0). X) (sym (is k)) (h k)),
       )
 
-  -- equal entries are equal maps
+  -- entries are equal exactly if their maps are
   pub equal-kept : (xs ys : List (K × Max V)) → T (is_sorted R xs) → T (is_sorted R ys) → (xs ≡ ys) ↔ (kept {R = R} xs ≡ kept ys)
   equal-kept xs ys g h = (
     λ e. ap kept e,

@@ -1,4 +1,4 @@
--- A map that has one entry is below another map exactly if its value isn't above what that one has at the key.
+-- A map with one entry is below another map exactly if its value isn't greater than the other's at the key.
 use Rattle.std.proofs.Common.{◌≡◌, true, false, cond, Option, Some, None, ◌↔◌, refl, sym, ap, ◌∙◌, subst}
 use Rattle.std.specs.declared.cmp.Ordering.{Ordering}
 use Rattle.std.specs.Ordering.{eq_by_cmp, is_eq}
@@ -24,6 +24,6 @@ module _ {K T : Type 0} {R : K → K → Ordering} (keys : IsTotalOrder R) (exac
     λ h. subst (λ x. IsOptionBelow (IsAtMost cmp) x (map.get s k)) (at k v k ∙ ap (λ b. cond b (Some v) None) (ap is_eq (tied_itself keys k))) (h k),
   )
 
-  -- nothing said is below all
+  -- no report is below all
   pub nothing_below : (s : map.FinMap R T) → AreNotAbove cmp (alone {R = R} None) s
   nothing_below s k = subst (λ x. IsOptionBelow (IsAtMost cmp) x (map.get s k)) (sym (map.get-empty R k)) tt

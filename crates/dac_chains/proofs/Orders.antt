@@ -1,4 +1,4 @@
--- The derived orders of lives and claims are the ones that are meant.
+-- The derived orders of lives and claims are the intended ones.
 use Rattle.std.proofs.Common.{◌≡◌, refl}
 use Rattle.std.specs.Ordering.{nat_cmp, ordering_then}
 use Rattle.std.specs.Option.{option_cmp}

@@ -1,6 +1,6 @@
--- The greatest claim of each application. Who claims an application says that it runs there, and how it came there:
--- started or moved, after a failover or by a takeover. (The ways are those of OTP's distributed applications. The
--- order of claims is this project's own.)
+-- The greatest claim of each application. A claim records that its issuer runs the application, and how it came there:
+-- started or moved, after a failover or by a takeover. (The ways are those of OTP's distributed applications. The order
+-- of claims is this project's own.)
 use Rattle.std.specs.Prelude.{◌≡◌, ℕ, List, Option, None, Some, refl}
 use Rattle.std.proofs.Common.{zero, suc}
 use Rattle.std.specs.declared.cmp.Ordering.{Ordering}
@@ -21,39 +21,39 @@ use Rattle.dac_chains.specs.declared.claims.Claim.{Claim}
 use Rattle.dac_chains.specs.declared.claims.ClaimAct.{ClaimAct}
 use Rattle.dac_chains.specs.declared.claims.ClaimAct.TheVariants.{Claim as Claimed, Other}
 
--- the place of a way to claim
+-- the rank of a way to claim
 abbrev pub rank : How → ℕ
 rank Normal = 0
 rank Failover = 1
 rank Takeover = 2
 
--- normal, then failover, then takeover
+-- the order of ways: normal, failover, takeover
 abbrev pub how_cmp : How → How → Ordering
 how_cmp x y = nat_cmp (rank x) (rank y)
 
--- by how, and then by the node that it was taken from, none first
+-- ordered by way, then by the previous node, none first
 abbrev pub manner_cmp : (How → How → Ordering) → How × Option NodeId → How × Option NodeId → Ordering
 manner_cmp hows x y = ordering_then (hows x.0 y.0) (option_cmp node_cmp x.1 y.1)
 
--- by term, node and incarnation of the claimer, how, and the node that it was taken from, none first
+-- claims ordered by term, the claimer's node and incarnation, way, and the previous node, none first
 abbrev pub claim_cmp : Claim → Claim → Ordering
 claim_cmp a b = ordering_then (nat_cmp a.term b.term)
     (ordering_then (origin_cmp a.origin b.origin) (manner_cmp how_cmp (a.how, a.from) (b.how, b.from)))
 
--- for each application that was claimed, a claim
+-- a claim for each application that was claimed
 abbrev pub Claims : Type 0
 Claims = map.FinMap app_cmp Claim
 
--- what an operation says of which application: its issuer claims it
-abbrev pub said_claim : Dot → ClaimAct → Option (AppId × Claim)
-said_claim d (Claimed app term how from) = Some (app, record { term = term; origin = d.origin; how = how; from = from })
-said_claim d Other = None
+-- the claim that an operation makes, with its application, if any
+abbrev pub claim_report : Dot → ClaimAct → Option (AppId × Claim)
+claim_report d (Claimed app term how from) = Some (app, record { term = term; origin = d.origin; how = how; from = from })
+claim_report d Other = None
 
--- the greatest claim of an application by some operations, and none where they don't claim it
+-- the greatest claim of the application among those of the operations, or None if there is none
 abbrev pub IsGreatestClaimOf : AppId → List (Dot × ClaimAct) → Option Claim → Type 0
-IsGreatestClaimOf app os claim = IsGreatest claim_cmp (IsSaid said_claim os app) claim
+IsGreatestClaimOf app os claim = IsGreatest claim_cmp (IsSaid claim_report os app) claim
 
--- each application has its greatest claim by the operations
+-- each application has its greatest claim among those of the operations
 abbrev pub AreGreatestClaims : List (Dot × ClaimAct) → Claims → Type 0
 AreGreatestClaims os claims = (app : AppId) → IsGreatestClaimOf app os (map.get claims app)
 
@@ -67,11 +67,11 @@ how_at-rank Normal = refl
 how_at-rank Failover = refl
 how_at-rank Takeover = refl
 
--- a way to claim as a number
+-- a way to claim encoded as a number
 abbrev pub coded_how : Coded How
 coded_how = code_by ℕ coded_ℕ rank how_at how_at-rank
 
--- a claim as a tuple
+-- a claim encoded as a tuple
 abbrev pub coded_claim : Coded Claim
 coded_claim =
     code_by (ℕ × (Origin × (How × Option NodeId))) (coded× coded_ℕ (coded× coded_origin (coded× coded_how (coded_option coded_node))))

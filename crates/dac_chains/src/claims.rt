@@ -8,7 +8,7 @@ use dac_lattice::{Bottom, Dot, Lattice, MapKey, MapOf, Max, Origin, Piece};
 use std::alloc::Global;
 use std::marker::Model;
 
-/// How an application came to the node that claims it. The ways are ordered as they stand here.
+/// How an application came to the node that claims it. Ordered as declared here.
 #[derive(Clone, Copy, Debug, PartialEq, Eq, PartialOrd, Ord, Hash)]
 pub enum How {
     /// It was started, or moved by a permission.
@@ -19,18 +19,18 @@ pub enum How {
     Takeover,
 }
 
-/// That an incarnation of a node runs an application.
+/// A record that an incarnation of a node runs an application.
 ///
-/// Claims are ordered by term, and then by the node and the incarnation that claims. Then comes how, and last the
-/// node that it was taken from, none first. Later claims have greater terms. Nodes that were out of touch may make
-/// claims of one term: between those the order of the names decides.
+/// Claims are ordered by term, then by the claiming node and its incarnation, then by how it came there, and last by
+/// the previous node, none first. A later claim has a greater term. Nodes separated by a network partition can make
+/// claims with the same term: between those the order of the node names decides.
 #[derive(Clone, Copy, Debug, PartialEq, Eq, PartialOrd, Ord, Hash)]
 pub struct Claim {
-    /// Which claim of the application it was, from 1.
+    /// The term (epoch) of the claim among those of the application, from 1.
     pub term: u64,
-    /// Who claims it.
+    /// The incarnation that claims the application.
     pub origin: Origin,
-    /// How it came there.
+    /// How the application came there.
     pub how: How,
     /// The node that it was taken from, unless it was started or moved.
     pub from: Option<NodeId>,
@@ -43,12 +43,12 @@ impl MapKey for Claim {
     ghost exact = { exact_claims ⟦<How as Ord>⟧.cmp exact_derived };
 }
 
-/// What an operation does to claims.
+/// The part of an operation that concerns claims.
 #[derive(Clone, Copy, Debug, PartialEq, Eq)]
 pub enum ClaimAct {
-    /// Its issuer claims an application.
+    /// The issuer claims an application.
     Claim {
-        /// The application.
+        /// The application claimed.
         app: AppId,
         /// The term of the claim.
         term: u64,
@@ -57,17 +57,17 @@ pub enum ClaimAct {
         /// The node that it was taken from, unless it was started or moved.
         from: Option<NodeId>,
     },
-    /// Nothing.
+    /// Concerns no claim.
     Other,
 }
 
-/// For each application that was claimed, its greatest claim. Contracts see it as a finite map from
-/// applications to claims.
+/// The greatest claim of each application that was claimed. Contracts treat it as a finite map from applications to
+/// claims.
 pub struct Claims {
     claims: MapOf<AppId, Max<Claim>>,
 }
 
-/// Written out: a drop is one call for a proof, wherever it stands.
+/// Explicit, so that a proof treats each drop as one call.
 impl Drop for Claims {
     fn drop(self) {
         let Claims { claims: _claims } = self;
@@ -90,7 +90,7 @@ impl Model for Claims {
 }
 
 impl Claims {
-    /// One application has this claim, and no other is claimed. [`NoMemory`] is the only error.
+    /// A single claim.
     pub fn one(alloc: Global, app: AppId, claim: Claim) -> Result<Self, NoMemory>
         ensures { IfOk result (λ claims. claims ≡ map.insert map.empty app claim) }
     {
@@ -184,19 +184,19 @@ impl Piece for Claims {
     ghost use Rattle.dac_base.specs.laws.Ids.{apps_total, exact_apps};
     ghost use Rattle.dac_chains.specs.Greatest.{alone};
     ghost use Rattle.dac_chains.specs.laws.Greatest.{greatest_piece};
-    ghost use Rattle.dac_chains.specs.Claims.{AreGreatestClaims, how_cmp, said_claim};
+    ghost use Rattle.dac_chains.specs.Claims.{AreGreatestClaims, how_cmp, claim_report};
     ghost use Rattle.dac_chains.specs.laws.Claims.{claims_total, exact_hows, exact_claims};
 
     type Act = ClaimAct;
 
     ghost fits = { λ _ _. Unit {0} };
 
-    ghost delta = { λ dot act. alone (said_claim dot act) };
+    ghost delta = { λ dot act. alone (claim_report dot act) };
 
     ghost means = { AreGreatestClaims };
 
     ghost piece_laws = { greatest_piece apps_total exact_apps claims_total
-        (exact_claims how_cmp exact_hows) said_claim };
+        (exact_claims how_cmp exact_hows) claim_report };
 
     fn delta(alloc: Global, dot: Dot, act: &ClaimAct) -> Result<Self, NoMemory> {
         match act {

@@ -1,9 +1,9 @@
-//! Whether what is kept is above what one operation says. The tests take no memory.
+//! Whether a piece already contains the effect of an operation.
 ghost use Rattle.std.specs.Prelude.{◌≡◌, ◌↔◌, Some, IsTrue};
 ghost use Rattle.std.specs.Ordering.{is_le};
 ghost use Rattle.dac_chains.specs.Greatest.{AreNotAbove, alone};
-ghost use Rattle.dac_chains.specs.Lives.{life_cmp, said_life};
-ghost use Rattle.dac_chains.specs.Claims.{claim_cmp, said_claim};
+ghost use Rattle.dac_chains.specs.Lives.{life_cmp, life_report};
+ghost use Rattle.dac_chains.specs.Claims.{claim_cmp, claim_report};
 
 use crate::claims::{Claim, ClaimAct, Claims};
 use crate::lives::{Life, LifeAct, Lives};
@@ -11,10 +11,9 @@ use dac_base::{AppId, NodeId};
 use dac_lattice::{Dot, Flag};
 
 impl Lives {
-    /// Whether what an operation says of a node's life is below what is kept: to join it would change nothing. It takes
-    /// no memory.
+    /// Whether the delta of an operation is below these lives, so that joining it would change nothing.
     pub fn covers(&self, dot: Dot, act: LifeAct) -> bool
-        ensures { IsTrue result ↔ AreNotAbove life_cmp (alone (said_life dot act)) self.now }
+        ensures { IsTrue result ↔ AreNotAbove life_cmp (alone (life_report dot act)) self.now }
     {
         match act {
             LifeAct::Up => self.reaches(
@@ -35,7 +34,7 @@ impl Lives {
         }
     }
 
-    /// Whether the life of a node is this or a greater one.
+    /// Whether the node's life is at least this one.
     fn reaches(&self, node: NodeId, life: Life) -> bool
         ensures { IsTrue result ↔ AreNotAbove life_cmp (alone (Some (node, life))) self.now }
     {
@@ -47,9 +46,9 @@ impl Lives {
 }
 
 impl Claims {
-    /// Whether what an operation claims is below what is kept: to join it would change nothing. It takes no memory.
+    /// Whether the delta of an operation is below these claims, so that joining it would change nothing.
     pub fn covers(&self, dot: Dot, act: ClaimAct) -> bool
-        ensures { IsTrue result ↔ AreNotAbove claim_cmp (alone (said_claim dot act)) self.now }
+        ensures { IsTrue result ↔ AreNotAbove claim_cmp (alone (claim_report dot act)) self.now }
     {
         match act {
             ClaimAct::Claim {
@@ -70,7 +69,7 @@ impl Claims {
         }
     }
 
-    /// Whether the claim of an application is this or a greater one.
+    /// Whether the application's claim is at least this one.
     fn reaches(&self, app: AppId, claim: Claim) -> bool
         ensures { IsTrue result ↔ AreNotAbove claim_cmp (alone (Some (app, claim))) self.now }
     {
@@ -81,14 +80,14 @@ impl Claims {
     }
 }
 
-/// Whether a life isn't above another.
+/// Whether a life is less than or equal to another.
 fn is_life_within(life: Life, kept: Life) -> bool
     ensures { result ≡ is_le (life_cmp life kept) }
 {
     life.cmp(&kept).is_le()
 }
 
-/// Whether a claim isn't above another.
+/// Whether a claim is less than or equal to another.
 fn is_claim_within(claim: Claim, kept: Claim) -> bool
     ensures { result ≡ is_le (claim_cmp claim kept) }
 {

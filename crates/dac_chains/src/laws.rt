@@ -1,9 +1,9 @@
-//! The orders of claims and of lives, each as a clause of a function that does nothing.
+//! The orders of claims and of lives, each as a clause of an empty function.
 ghost use Rattle.dac_chains.specs.Orders.{ClaimsInWords, LivesInWords};
 
-/// The orders are what they say in words. A claim of a later term is above. At one term the claimer's node and then its
-/// incarnation decide, then how it came there, and last from where. A life of a later incarnation is above, and at one
-/// incarnation what is down is above what is up.
+/// The orders, spelled out. A claim with a later term is greater. With equal terms the claiming node decides, then its
+/// incarnation, then how the application came there, and last the previous node. A life of a later incarnation is
+/// greater, and at one incarnation down is greater than up.
 pub fn orders_in_words()
     ensures claims { ClaimsInWords }
     ensures lives { LivesInWords }

@@ -9,15 +9,15 @@ use dac_lattice::{Bottom, Dot, Flag, Lattice, MapKey, MapOf, Max, Piece};
 use std::alloc::Global;
 use std::marker::Model;
 
-/// What is said of a node: that one of its incarnations is up, or that it is down.
+/// A report about a node: that one of its incarnations is up, or that it is down.
 ///
-/// Lives are ordered by incarnation, and then Up below Down. What went down stays down, and the node comes up again
-/// as a later incarnation.
+/// Lives are ordered by incarnation, and at one incarnation up is below down. Therefore an incarnation that went down
+/// stays down, and the node comes up again only as a later incarnation.
 #[derive(Clone, Copy, Debug, PartialEq, Eq, PartialOrd, Ord, Hash)]
 pub struct Life {
-    /// Which of its incarnations.
+    /// The incarnation of the node.
     pub inc: u64,
-    /// Whether that one is up.
+    /// Whether that incarnation is up.
     pub flag: Flag,
 }
 
@@ -29,29 +29,29 @@ impl MapKey for Life {
     ghost exact = { exact_lives ⟦<Flag as Ord>⟧.cmp (exact_flags ⟦<Flag as Ord>⟧.cmp refl refl) };
 }
 
-/// What an operation does to lives.
+/// The part of an operation that concerns lives.
 #[derive(Clone, Copy, Debug, PartialEq, Eq)]
 pub enum LifeAct {
-    /// The incarnation that issued it came up.
+    /// The incarnation that issued the operation came up.
     Up,
     /// An incarnation of a node is declared down.
     Down {
-        /// The node.
+        /// The node of the incarnation.
         node: NodeId,
-        /// Which of its incarnations.
+        /// The incarnation declared down.
         inc: u64,
     },
-    /// Nothing.
+    /// Concerns no life.
     Other,
 }
 
-/// For each node of which something was said, its life: the greatest that was said of it. Contracts see it
-/// as a finite map from nodes to lives.
+/// The life of each node, the greatest reported. A node without a report is absent. Contracts treat it as a finite map
+/// from nodes to lives.
 pub struct Lives {
     lives: MapOf<NodeId, Max<Life>>,
 }
 
-/// Written out: a drop is one call for a proof, wherever it stands.
+/// Explicit, so that a proof treats each drop as one call.
 impl Drop for Lives {
     fn drop(self) {
         let Lives { lives: _lives } = self;
@@ -74,7 +74,7 @@ impl Model for Lives {
 }
 
 impl Lives {
-    /// One node has this life, and of no other anything was said. [`NoMemory`] is the only error.
+    /// The life of a single node.
     pub fn one(alloc: Global, node: NodeId, life: Life) -> Result<Self, NoMemory>
         ensures { IfOk result (λ lives. lives ≡ map.insert map.empty node life) }
     {
@@ -82,7 +82,7 @@ impl Lives {
         Ok(Lives { lives })
     }
 
-    /// The life of a node, if anything was said of it: which of its incarnations, and whether that one is up.
+    /// The life of a node, if any was reported: its incarnation, and whether that is up.
     pub fn life(&self, node: NodeId) -> Option<(u64, Flag)>
         ensures { result ≡ option_map inc_and_flag (map.get self.now node) }
     {
@@ -92,7 +92,7 @@ impl Lives {
         }
     }
 
-    /// The same as a [`Life`], which is the greatest that was said of the node.
+    /// The life of a node, if any was reported: the greatest.
     pub fn greatest_life(&self, node: NodeId) -> Option<Life>
         ensures { result ≡ map.get self.now node }
     {
@@ -102,7 +102,7 @@ impl Lives {
         }
     }
 
-    /// The incarnation of a node that is live: the one of its life, if it is up.
+    /// The live incarnation of a node: that of its life, if it is up.
     pub fn live(&self, node: NodeId) -> Option<u64>
         ensures value { result ≡ live_at self.now node }
         ensures exact { (i : ℕ) → (result ≡ Some i) ↔ IsLive self.now node i }
@@ -114,7 +114,7 @@ impl Lives {
         }
     }
 
-    /// The nodes of which something was said, in ascending order, each with its life.
+    /// The nodes with a report, in ascending order, each with its life.
     pub fn entries(&self) -> &[(NodeId, Max<Life>)]
         ensures { unwrapped result.now ≡ map.entries self.now }
     {
@@ -195,19 +195,19 @@ impl Piece for Lives {
     ghost use Rattle.dac_lattice.specs.laws.Flags.{flags_exact};
     ghost use Rattle.dac_chains.specs.Greatest.{alone};
     ghost use Rattle.dac_chains.specs.laws.Greatest.{greatest_piece};
-    ghost use Rattle.dac_chains.specs.Lives.{AreLives, said_life};
+    ghost use Rattle.dac_chains.specs.Lives.{AreLives, life_report};
     ghost use Rattle.dac_chains.specs.laws.Lives.{lives_total, exact_lives};
 
     type Act = LifeAct;
 
     ghost fits = { λ _ _. Unit {0} };
 
-    ghost delta = { λ dot act. alone (said_life dot act) };
+    ghost delta = { λ dot act. alone (life_report dot act) };
 
     ghost means = { AreLives };
 
     ghost piece_laws = { greatest_piece nodes_total exact_nodes lives_total
-        (exact_lives flag_cmp flags_exact) said_life };
+        (exact_lives flag_cmp flags_exact) life_report };
 
     fn delta(alloc: Global, dot: Dot, act: &LifeAct) -> Result<Self, NoMemory> {
         match act {

@@ -1,4 +1,5 @@
--- Why what a running node issues is an operation: its dot is new, and what it replaces is a short rising list.
+-- The operations that a running node issues have no fault: the dot is new, and the replaced dots are a short rising
+-- list.
 use Rattle.std.proofs.Common.{◌≡◌, ℕ, ◌<◌, ◌≤◌, ◌+◌, Bool, true, false, not, ◌||◌, List, length, Option, Some, None, refl, sym, subst, ◌∙◌, arith, true≢false}
 use Rattle.std.specs.Prelude.{◌==◌, if◌then◌else◌, MatchOption, is_some, nat_eq}
 use Rattle.std.specs.Option.{is_none}
@@ -28,14 +29,14 @@ use Rattle.dac_config.specs.Table.{Table, app_count}
 use Rattle.dac_placement.specs.Placement.{runner_of}
 use Rattle.dac_events.specs.declared.Command.{Command}
 use Rattle.dac_events.specs.declared.Command.TheVariants.{Down, Permit, Start, Stop, Drain, Takeover}
-use Rattle.dac_commands.specs.Commands.{KnowsItself, standing_starts, standing_permits, standing_drains, greatest_counter, next_term, claim_act, next_operation, live_or_none, live_key, live_origin, act_of}
+use Rattle.dac_commands.specs.Commands.{KnowsOwnBoot, standing_starts, standing_permits, standing_drains, greatest_counter, next_term, claim_act, next_operation, live_or_none, live_key, live_origin, act_of}
 use Rattle.dac_commands.specs.Causes.{refusal_of_command, too_many, terms_used_up, used_up}
 use Rattle.dac_commands.specs.laws.Written.{none_is, all_causes}
 use Rattle.dac_commands.specs.laws.Counters.{counter-greatest, next_none, next-is}
 use Rattle.dac_commands.specs.laws.Standing.{permits_at-rising, permits_at-has, drains_at-rising, drains_at-has}
 
 -- ---- causes that don't hold
--- an operation may be issued that replaces these dots
+-- an operation can replace these dots, and a counter is left
 pub record MayIssue (own : Origin) (s : StateValue) (over : List Dot) : Type 0 where
   pub few : too_many (length over) ≡ false
   pub left : used_up s own ≡ false
@@ -81,7 +82,7 @@ may_take t own s app e =
     let none = none_is (all_causes t own s (Takeover app)) e in
     record { named = leb-false (app_count t) app.0 none.1.0; terms = none.1.1.1.1.1.1.1.0; left = none.1.1.1.1.1.1.1.1.0 }
 
--- ---- what the code reads of these causes
+-- ---- the code's tests of these causes
 pub used_up-is : (s : StateValue) (own : Origin) (known : Dots) (next : Option Dot) → known ≡ s.known → MatchOption next (IsUsedUp known own) (IsNext known own) → used_up s own ≡ is_none next
 used_up-is s own known next is h = sym (next_none s.known own next (subst (λ k. MatchOption next (IsUsedUp k own) (IsNext k own)) is h))
 
@@ -103,25 +104,25 @@ fault_none d a p q r s = λ i. if p i then Some OwnDot else if q i then Some Bad
 abbrev next_of : Origin → StateValue → Dot
 next_of own s = dot own (greatest_counter own s.known + 1)
 
--- it isn't known
+-- the next dot isn't known
 next_unknown : (own : Origin) (s : StateValue) → set.contains s.known (next_of own s) ≡ true → ⊥
 next_unknown own s h = above (greatest_counter own s.known) (counter-greatest s.known (next_of own s) h)
   where
     above : (g : ℕ) → g + 1 ≤ g → ⊥
     above g h = omega arith
 
--- its counter isn't that of a boot
-next_later : (own : Origin) (s : StateValue) → KnowsItself own s → (greatest_counter own s.known + 1 == 1) ≡ false
+-- the next dot isn't that of a boot
+next_later : (own : Origin) (s : StateValue) → KnowsOwnBoot own s → (greatest_counter own s.known + 1 == 1) ≡ false
 next_later own s knows = false_from_ne_true _ (λ t. first_only (greatest_counter own s.known) (counter-greatest s.known (dot own 1) knows) (exact_unsigned_eq (greatest_counter own s.known + 1) 1 t))
   where
     first_only : (g : ℕ) → 1 ≤ g → g + 1 ≡ 1 → ⊥
     first_only g h e = omega arith
 
--- a short rising list is no bad list to replace
+-- a short rising list is a sound list of replaced dots
 good_over : (own : Origin) (s : StateValue) (over : List Dot) → IsRising dot_cmp over → MayIssue own s over → has_bad_over over ≡ false
 good_over own s over rising may = λ i. not (rising i) || may.few i
 
--- what stands at a key doesn't have the next dot among it
+-- the next dot isn't among those that stand at a key
 starts_apart : (own : Origin) (s : StateValue) (key : Key) → IsState s → has_key dot_cmp (standing_starts s key) (next_of own s) ≡ false
 starts_apart own s key is = false_from_ne_true _ (λ t.
     let there : set.contains (dots_at key s.starts) (next_of own s) ≡ true = sym (has_key-in_order dots_total exact_dots (dots_at key s.starts) (next_of own s)) ∙ t in
@@ -137,15 +138,15 @@ starts_rising : (s : StateValue) (key : Key) → IsRising dot_cmp (standing_star
 starts_rising s key = in_order-rising dots_total exact_dots (dots_at key s.starts)
 
 -- a claim replaces nothing
-pub claims_soundly : (own : Origin) (s : StateValue) (app : AppId) (how : How) (from : Option NodeId) → KnowsItself own s → fault_of (next_of own s) (claim_act s app how from) ≡ None
+pub claims_soundly : (own : Origin) (s : StateValue) (app : AppId) (how : How) (from : Option NodeId) → KnowsOwnBoot own s → fault_of (next_of own s) (claim_act s app how from) ≡ None
 claims_soundly own s app how from knows = fault_none (next_of own s) (Claims app (next_term s app) how from) refl refl (next_later own s knows) refl
 
--- what an accepted command issues is an operation, and a counter is left for it
+-- the act of an accepted command has no fault, and a counter is left for it
 pub record Issues (own : Origin) (s : StateValue) (a : Act) : Type 0 where
   pub left : used_up s own ≡ false
   pub sound : fault_of (next_operation s own a).dot a ≡ None
 
-pub issues : (t : Table) (own : Origin) (s : StateValue) (c : Command) → IsState s → KnowsItself own s → refusal_of_command t own s c ≡ None → Issues own s (act_of t s c)
+pub issues : (t : Table) (own : Origin) (s : StateValue) (c : Command) → IsState s → KnowsOwnBoot own s → refusal_of_command t own s c ≡ None → Issues own s (act_of t s c)
 issues t own s (Down node) is knows e =
     let may = may_declare t own s node e in
     record { left = may.left; sound = fault_none (next_of own s) (Downs node (live_or_none s node)) refl refl (next_later own s knows) may.other }

@@ -1,4 +1,4 @@
--- What a state tells of an application and a node, and the operation that a command issues.
+-- The parts of a state that commands use, and the operation that a command issues.
 use Rattle.std.specs.Prelude.{◌≡◌, ℕ, ◌+◌, true, cond, List, [], ◌∷◌, map as list_map, max, Option, unwrap_or}
 use Rattle.std.specs.Option.{option_map_or}
 use Rattle.std.specs.FinSet as set
@@ -28,16 +28,16 @@ use Rattle.dac_placement.specs.Placement.{runner_of}
 use Rattle.dac_events.specs.declared.Command.{Command}
 use Rattle.dac_events.specs.declared.Command.TheVariants.{Down, Permit, Start, Stop, Drain, Takeover}
 
--- ---- what a state tells
--- the state knows the operation of the incarnation's own boot
-abbrev pub KnowsItself : Origin → StateValue → Type 0
-KnowsItself origin s = set.contains s.known (dot origin 1) ≡ true
+-- ---- parts of a state
+-- the state knows the dot of the incarnation's own boot
+abbrev pub KnowsOwnBoot : Origin → StateValue → Type 0
+KnowsOwnBoot origin s = set.contains s.known (dot origin 1) ≡ true
 
 -- the live incarnation of a node
 abbrev pub live : StateValue → NodeId → Option ℕ
 live s node = live_at s.lives node
 
--- the same as a number, 0 where none is live
+-- the live incarnation of a node, or 0 if none is live
 abbrev pub live_or_none : StateValue → NodeId → ℕ
 live_or_none s node = unwrap_or (live s node) 0
 
@@ -61,7 +61,7 @@ live_origin s node = origin node (live_or_none s node)
 abbrev pub standing_drains : StateValue → Origin → List Dot
 standing_drains s at = list_map (λ (p : Dot × Flag). p.0) (drains_at at s.drains)
 
--- the greatest counter among those dots that are of an origin, 0 where there are none
+-- the greatest counter of the origin among these dots, 0 if there are none
 abbrev pub greatest_among : Origin → List Dot → ℕ
 greatest_among o [] = 0
 greatest_among o (d ∷ ds) = max (cond (eq_by_cmp origin_cmp d.origin o) d.n 0) (greatest_among o ds)
@@ -69,11 +69,11 @@ greatest_among o (d ∷ ds) = max (cond (eq_by_cmp origin_cmp d.origin o) d.n 0)
 abbrev pub greatest_counter : Origin → Dots → ℕ
 greatest_counter o dots = greatest_among o (set.items dots)
 
--- the term of the application's next claim: the greatest one's and one, 1 where there is none
+-- the term of the application's next claim: one more than the greatest claim's, or 1 without claims
 abbrev pub next_term : StateValue → AppId → ℕ
 next_term s app = option_map_or (λ (c : Claim). c.term) (map.get s.claims app) 0 + 1
 
--- ---- what a command issues
+-- ---- the operation that a command issues
 -- the act that claims an application under its next term
 abbrev pub claim_act : StateValue → AppId → How → Option NodeId → Act
 claim_act s app how from = Claims app (next_term s app) how from
@@ -82,8 +82,8 @@ claim_act s app how from = Claims app (next_term s app) how from
 abbrev pub next_operation : StateValue → Origin → Act → Operation
 next_operation s own act = operation (dot own (greatest_counter own s.known + 1)) act
 
--- What a command issues. A Down is of the live incarnation, and a takeover claims from where the application runs.
--- The others replace exactly what stands of their kind at the key; a drain is of the live incarnation.
+-- The act of a command. A Down names the live incarnation, and a takeover claims from the node where the application
+-- runs. The others replace exactly what stands of their kind at the key, or for a drain at the live incarnation.
 abbrev pub act_of : Table → StateValue → Command → Act
 act_of t s (Down node) = Downs node (live_or_none s node)
 act_of t s (Permit app node value) = let key = live_key s app node in Permits key value (standing_permits s key)

@@ -1,4 +1,4 @@
--- What the operation of an accepted command is, in words.
+-- The operation of an accepted command, in words.
 use Rattle.std.specs.Prelude.{◌≡◌, ◌↔◌, ℕ, ◌+◌, ◌≤◌, Bool, true, List, Option, None, Some, MatchOption, is_some}
 use Rattle.std.specs.FinSet as set
 use Rattle.std.specs.FinMap as map
@@ -46,11 +46,12 @@ PermitStands s key d = is_some (map.get s.permits (write key d)) ≡ true
 abbrev pub DrainStands : StateValue → Origin → Dot → Type 0
 DrainStands s at d = is_some (map.get s.drains (keyed_write at d)) ≡ true
 
--- exactly those dots are listed that stand
+-- the list has exactly the dots that stand
 abbrev pub AreThose : (Dot → Type 0) → List Dot → Type 0
 AreThose Stands over = (d : Dot) → (has_key dot_cmp over d ≡ true) ↔ Stands d
 
--- a command's key, and the dots that it replaces
+-- the act writes at the application's key at the node's live incarnation, and replaces exactly the dots that stand
+-- there
 pub record WritesAt (s : StateValue) (app : AppId) (node : NodeId) (Stands : Key → Dot → Type 0)
     (made : Key → List Dot → Act) (act : Act) : Type 0 where
   pub key : Key
@@ -59,7 +60,7 @@ pub record WritesAt (s : StateValue) (app : AppId) (node : NodeId) (Stands : Key
   pub at : IsKeyAt s app node key
   pub replaces : AreThose (Stands key) over
 
--- the act drains the live incarnation of the node, or ends that, and replaces exactly what stands of its drains
+-- the act drains the node's live incarnation, or ends its drain, and replaces exactly the drains that stand there
 pub record DrainsLive (s : StateValue) (node : NodeId) (value : Bool) (act : Act) : Type 0 where
   pub inc : ℕ
   pub over : List Dot
@@ -67,7 +68,7 @@ pub record DrainsLive (s : StateValue) (node : NodeId) (value : Bool) (act : Act
   pub live : IsLive s.lives node inc
   pub replaces : AreThose (DrainStands s (origin node inc)) over
 
--- the term is the next of the application's claims: 1 where there is none, and else the greatest one's and one
+-- the next term of the application's claims: one more than the greatest claim's, or 1 without claims
 abbrev pub IsNextTerm : StateValue → AppId → ℕ → Type 0
 IsNextTerm s app term = MatchOption (map.get s.claims app) (term ≡ 1) (λ (claim : Claim). term ≡ claim.term + 1)
 
@@ -88,8 +89,8 @@ pub record TakesOver (t : Table) (s : StateValue) (app : AppId) (act : Act) : Ty
   pub runs : RunsAt t s app runner
   pub claims : IsNextClaim s app TakenOver (Some runner) act
 
--- The act says the command. A Down names the live incarnation of the node, and a takeover claims the application from
--- where it runs. The others write at the key of the application at the node's live incarnation. They replace exactly
+-- The act is that of the command. A Down names the node's live incarnation, and a takeover claims the application from
+-- the node where it runs. The others write at the application's key at the node's live incarnation, and replace exactly
 -- what stands there of their kind.
 abbrev pub SaysCommand : Table → StateValue → Command → Act → Type 0
 SaysCommand t s (Down node) act = (inc : ℕ) × ((act ≡ Downs node inc) × IsLive s.lives node inc)
@@ -100,12 +101,12 @@ SaysCommand t s (Stop app node) act = WritesAt s app node (StartStands s) Stops 
 SaysCommand t s (Drain node value) act = DrainsLive s node value act
 SaysCommand t s (Takeover app) act = TakesOver t s app act
 
--- an operation of this incarnation under its next dot that says the command
+-- the operation has the incarnation's next dot and the command's act
 pub record IsWritten (t : Table) (own : Origin) (s : StateValue) (c : Command) (o : Operation) : Type 0 where
   pub dot : IsNext s.known own o.dot
   pub says : SaysCommand t s c o.act
 
--- what an accepted command issues is so
-abbrev pub WritesWhatIsSaid : Type 0
-WritesWhatIsSaid = (t : Table) (own : Origin) (s : StateValue) (c : Command) → refusal_of_command t own s c ≡ None
+-- an accepted command issues such an operation
+abbrev pub IssuesTheCommand : Type 0
+IssuesTheCommand = (t : Table) (own : Origin) (s : StateValue) (c : Command) → refusal_of_command t own s c ≡ None
     → IsWritten t own s c (next_operation s own (act_of t s c))

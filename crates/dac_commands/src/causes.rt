@@ -4,7 +4,7 @@ ghost use Rattle.std.specs.Prelude.{◌≡◌};
 ghost use Rattle.dac_commands.specs.Causes.{first, causes_of, causes_to_permit, causes_to_drain, causes_to_issue, too_many, refusal_of_command};
 
 use crate::counters::dots_used_up;
-use crate::keys::{key_of, live_of, refusal_to_name};
+use crate::keys::{key_of, live_of, refusal_of_target};
 use crate::taking::refusal_to_take;
 use dac_base::{AppId, MAX_REPLACED, NodeId};
 use dac_config::Config;
@@ -12,10 +12,9 @@ use dac_events::{Command, Refusal};
 use dac_origins::Origin;
 use dac_placement::{State, is_up};
 
-/// Why a controller that runs as this incarnation with this state refuses a command, if it does. It is the cause of
-/// the least number that holds. A takeover is by the controller's own node, which is to be eligible. It is from where
-/// the application runs. That is to be another node, and none of an earlier group (after `application:takeover/2` of
-/// Erlang/OTP). It takes no memory.
+/// Why a controller refuses a command, if it does: the cause of the least number that holds, for the incarnation `own`
+/// with this state. A takeover requires that the controller's node is eligible, and that the application runs at
+/// another node, which isn't in an earlier group (after `application:takeover/2` of Erlang/OTP).
 pub fn refusal_of(config: &Config, own: Origin, state: &State, command: Command) -> Option<Refusal>
     ensures { result ≡ refusal_of_command config.now own state.now command }
 {
@@ -36,7 +35,7 @@ pub fn refusal_of(config: &Config, own: Origin, state: &State, command: Command)
     }
 }
 
-/// Why a node isn't declared down, if it isn't.
+/// Why a Down is refused, if it is.
 fn refusal_to_declare(config: &Config, own: Origin, state: &State, node: NodeId) -> Option<Refusal>
     ensures { result ≡ first (causes_of config.now own state.now (Command.Down node)) }
 {
@@ -65,7 +64,7 @@ fn refusal_to_permit(
 ) -> Option<Refusal>
     ensures { result ≡ first (causes_to_permit config.now own state.now app node) }
 {
-    if let Some(why) = refusal_to_name(config, state, app, node) {
+    if let Some(why) = refusal_of_target(config, state, app, node) {
         return Some(why);
     }
     let key = key_of(state, app, node);
@@ -82,7 +81,7 @@ fn refusal_to_start(
 ) -> Option<Refusal>
     ensures { result ≡ first (causes_of config.now own state.now (Command.Start app node)) }
 {
-    if let Some(why) = refusal_to_name(config, state, app, node) {
+    if let Some(why) = refusal_of_target(config, state, app, node) {
         return Some(why);
     }
     let key = key_of(state, app, node);
@@ -99,7 +98,7 @@ fn refusal_to_stop(
 ) -> Option<Refusal>
     ensures { result ≡ first (causes_of config.now own state.now (Command.Stop app node)) }
 {
-    if let Some(why) = refusal_to_name(config, state, app, node) {
+    if let Some(why) = refusal_of_target(config, state, app, node) {
         return Some(why);
     }
     let key = key_of(state, app, node);
@@ -123,7 +122,7 @@ fn refusal_to_drain(config: &Config, own: Origin, state: &State, node: NodeId) -
     refusal_to_issue(own, state, standing)
 }
 
-/// Why no operation is issued that replaces so many dots, if none is.
+/// Why an operation that replaces `count` dots is refused, if it is.
 fn refusal_to_issue(own: Origin, state: &State, count: usize) -> Option<Refusal>
     ensures { result ≡ first (causes_to_issue own state.now count) }
 {
@@ -136,7 +135,7 @@ fn refusal_to_issue(own: Origin, state: &State, count: usize) -> Option<Refusal>
     None
 }
 
-/// Whether these are more dots than an operation may replace.
+/// Whether an operation can't replace this many dots.
 fn is_too_many(count: usize) -> bool
     ensures { result ≡ too_many count }
 {

@@ -1,5 +1,5 @@
-//! The counters of an incarnation's operations and the terms of an application's claims: whether any is left, and which
-//! term is next.
+//! The counters of an incarnation's operations and the terms of an application's claims: whether any is left, and the
+//! next term.
 ghost use Rattle.std.specs.Prelude.{◌≡◌, ◌↔◌, IsTrue, false};
 ghost use Rattle.dac_origins.specs.Dots.{IsUsedUp};
 ghost use Rattle.dac_commands.specs.Commands.{next_term};
@@ -10,8 +10,8 @@ use dac_base::{AppId, MAX_COUNTER};
 use dac_origins::Origin;
 use dac_placement::State;
 
-/// Whether the counters of an incarnation's operations are used up. One of its dots that are known here has the last
-/// counter, 2^62, or a later one. It takes no memory.
+/// Whether the counters of an incarnation's operations are used up: one of its known dots has the last counter, 2^62,
+/// or a later one.
 pub fn dots_used_up(state: &State, own: Origin) -> bool
     ensures value { result ≡ used_up state.now own }
     ensures cases { IsTrue result ↔ IsUsedUp state.now.known own }
@@ -20,7 +20,7 @@ pub fn dots_used_up(state: &State, own: Origin) -> bool
 }
 
 /// Whether the terms of an application's claims are used up: its greatest claim has the last term, 2^62, or a later
-/// one. It takes no memory.
+/// one.
 pub fn terms_used_up(state: &State, app: AppId) -> bool
     ensures value { result ≡ terms_used_up state.now app }
     ensures cases { IsTrue result ↔ HasLastTerm state.now app }
@@ -31,7 +31,7 @@ pub fn terms_used_up(state: &State, app: AppId) -> bool
     }
 }
 
-/// The term of an application's next claim: the greatest one's and one, 1 where there is none.
+/// The term of an application's next claim: one more than the greatest claim's, or 1 without claims.
 pub(crate) fn next_term(state: &State, app: AppId) -> u64
     requires { terms_used_up state.now app ≡ false }
     ensures { result ≡ next_term state.now app }

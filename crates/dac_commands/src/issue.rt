@@ -1,9 +1,9 @@
-//! The operations that a controller issues: for an accepted command, and to claim an application.
+//! The operations that a controller issues, for accepted commands and for claims.
 
 ghost use Rattle.std.specs.Prelude.{◌≡◌, IfOk, map, false, None};
 ghost use Rattle.dac_origins.specs.declared.dot.Origin.{Origin as Incarnation};
 ghost use Rattle.dac_operations.specs.Operations.{operation, fault_of};
-ghost use Rattle.dac_commands.specs.Commands.{KnowsItself, next_operation, standing_starts as starts_standing, standing_permits as permits_standing, standing_drains as drains_standing, claim_act, act_of as said_by};
+ghost use Rattle.dac_commands.specs.Commands.{KnowsOwnBoot, next_operation, standing_starts as starts_standing, standing_permits as permits_standing, standing_drains as drains_standing, claim_act, act_of as said_by};
 ghost use Rattle.dac_wishes.specs.DrainsValue.{origin};
 ghost use Rattle.dac_commands.specs.Causes.{refusal_of_command, terms_used_up, used_up};
 ghost use Rattle.dac_commands.specs.Written.{IsWritten};
@@ -21,10 +21,9 @@ use dac_placement::{State, runner};
 use dac_wishes::{DotList, Key};
 use std::alloc::{AllocError, Global};
 
-/// The operation that a command issues at a controller that runs as this incarnation with this state, and doesn't
-/// refuse it. It is what the command says, under the next counter. A takeover claims the application for the
-/// controller's own node, under the next term. It names the node at which the application runs (after
-/// `application:takeover/2` of Erlang/OTP). [`NoMemory`] is the only error.
+/// The operation that an accepted command issues at the incarnation `own` with this state, under the next counter. A
+/// takeover claims the application for the controller's node, under the next term, from the node where it runs (after
+/// `application:takeover/2` of Erlang/OTP).
 pub fn operation_of(
     alloc: Global,
     config: &Config,
@@ -32,26 +31,26 @@ pub fn operation_of(
     state: &State,
     command: Command,
 ) -> Result<Op, NoMemory>
-    requires knows { KnowsItself own state.now }
+    requires knows { KnowsOwnBoot own state.now }
     requires accepted { refusal_of_command config.now own state.now command ≡ None }
     ensures next { IfOk result (λ operation. operation
         ≡ next_operation state.now own (said_by config.now state.now command)) }
-    // It has the next dot, and says the command. Its key is at the live incarnation, and it replaces what stands
-    // there. Or it claims the application from where it runs.
+    // The operation has the next dot and the command's act, which replaces what stands at the live incarnation, or
+    // claims the application from where it runs.
     ensures written { IfOk result (IsWritten config.now own state.now command) }
 {
-    // What stands in a state is known there, so it doesn't have the next dot.
+    // Standing dots are known, so that the next dot isn't one of them.
     Lattice::tells_invariant(state);
     let act = act_of(alloc, config, state, command)?;
     Ok(issue(own, state, act))
 }
 
 /// The operation by which an incarnation claims an application, under the application's next term and its own next
-/// counter. It says how the application comes to it. It names the node that the application is taken from, unless it
-/// is started or moved. Whether a term and a counter are left, [`terms_used_up`](crate::terms_used_up) and
-/// [`dots_used_up`](crate::dots_used_up) tell. It takes no memory.
+/// counter. `from` is the node from which a failover or takeover takes the application, and `None` for a start or a
+/// move. [`terms_used_up`](crate::terms_used_up) and [`dots_used_up`](crate::dots_used_up) return whether a term and a
+/// counter are left.
 pub fn claim(own: Origin, state: &State, app: AppId, how: How, from: Option<NodeId>) -> Op
-    requires knows { KnowsItself own state.now }
+    requires knows { KnowsOwnBoot own state.now }
     requires left { used_up state.now own ≡ false }
     requires term { terms_used_up state.now app ≡ false }
     ensures { result ≡ next_operation state.now own (claim_act state.now app how from) }
@@ -60,7 +59,7 @@ pub fn claim(own: Origin, state: &State, app: AppId, how: How, from: Option<Node
     issue(own, state, act)
 }
 
-/// An act under the next counter.
+/// The operation of an act, under the next counter.
 fn issue(own: Origin, state: &State, act: Act) -> Op
     requires left { used_up state.now own ≡ false }
     requires sound { fault_of (next_operation state.now own act).dot act ≡ None }
@@ -70,7 +69,7 @@ fn issue(own: Origin, state: &State, act: Act) -> Op
     made_of(dot, act)
 }
 
-/// The operation of a dot and an act that make one.
+/// The operation of a dot and an act without a fault.
 fn made_of(dot: Dot, act: Act) -> Op
     requires { fault_of dot act ≡ None }
     ensures { result ≡ operation dot act }
@@ -78,7 +77,7 @@ fn made_of(dot: Dot, act: Act) -> Op
     Op::new(dot, act).unwrap()
 }
 
-/// What an accepted command says.
+/// The act of an accepted command.
 fn act_of(alloc: Global, config: &Config, state: &State, command: Command) -> Result<Act, NoMemory>
     requires { (own : Incarnation) × (refusal_of_command config.now own state.now command ≡ None) }
     ensures { IfOk result (λ act. act ≡ said_by config.now state.now command) }
@@ -120,7 +119,7 @@ fn act_of(alloc: Global, config: &Config, state: &State, command: Command) -> Re
     }
 }
 
-/// What a claim of an application under its next term says.
+/// The act that claims an application under its next term.
 fn claim_act(state: &State, app: AppId, how: How, from: Option<NodeId>) -> Act
     requires { terms_used_up state.now app ≡ false }
     ensures { result ≡ claim_act state.now app how from }
@@ -163,7 +162,7 @@ fn standing_drains(
     Ok(DotList::new(dots))
 }
 
-/// The dots of votes, in their order.
+/// The dots of votes, in order.
 fn dots_of(alloc: Global, votes: &[(Dot, Flag)]) -> Result<Vec<Dot>, AllocError>
     ensures { IfOk result (λ dots. dots.items ≡ map (λ vote. vote.0) votes.now) }
 {

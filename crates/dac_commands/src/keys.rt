@@ -1,8 +1,8 @@
-//! An application at a node: its key at the live incarnation, and why it isn't taken up.
+//! An application at a node: its key at the live incarnation, and why a command about it is refused.
 
 ghost use Rattle.std.specs.Prelude.{◌≡◌};
 ghost use Rattle.dac_commands.specs.Commands.{live_or_none, live_key};
-ghost use Rattle.dac_commands.specs.Causes.{first, causes_to_name};
+ghost use Rattle.dac_commands.specs.Causes.{first, causes_of_target};
 
 use dac_base::{AppId, NodeId};
 use dac_config::Config;
@@ -10,7 +10,7 @@ use dac_events::Refusal;
 use dac_placement::State;
 use dac_wishes::Key;
 
-/// The live incarnation of a node, 0 where none is live.
+/// The live incarnation of a node, or 0 if none is live.
 pub(crate) fn live_of(state: &State, node: NodeId) -> u64
     ensures { result ≡ live_or_none state.now node }
 {
@@ -28,14 +28,14 @@ pub(crate) fn key_of(state: &State, app: AppId, node: NodeId) -> Key
     }
 }
 
-/// Why a command about an application and a node isn't taken up, if it isn't.
-pub(crate) fn refusal_to_name(
+/// Why a command about an application and a node is refused, if it is.
+pub(crate) fn refusal_of_target(
     config: &Config,
     state: &State,
     app: AppId,
     node: NodeId,
 ) -> Option<Refusal>
-    ensures { result ≡ first (causes_to_name config.now state.now app node) }
+    ensures { result ≡ first (causes_of_target config.now state.now app node) }
 {
     if app.0 >= config.apps() {
         return Some(Refusal::UnknownApp);

@@ -1,9 +1,9 @@
 //! Commands of an operator at a controller, as pure functions of a configuration, the controller's incarnation and its
 //! state.
 //!
-//! [`refusal_of`] tells why a command is refused, and [`operation_of`] gives the operation that an accepted one issues.
-//! [`claim`] gives the operation by which a controller claims an application where no command asks for it. Nothing here
-//! keeps or changes a state.
+//! [`refusal_of`] returns why a command is refused, and [`operation_of`] the operation that an accepted command issues.
+//! [`claim`] returns the operation by which a controller claims an application without a command. Only [`operation_of`]
+//! allocates, and its only error is `NoMemory`.
 #![tactic(auto)]
 
 pub use causes::refusal_of;

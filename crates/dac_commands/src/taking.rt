@@ -1,4 +1,4 @@
-//! Why a node doesn't take an application over.
+//! Why a takeover is refused.
 ghost use Rattle.std.specs.Prelude.{◌≡◌};
 ghost use Rattle.dac_commands.specs.Causes.{first, causes_to_take, causes_to_claim};
 
@@ -9,7 +9,7 @@ use dac_events::Refusal;
 use dac_origins::Origin;
 use dac_placement::{State, eligible, is_earlier, runner, runs_at};
 
-/// Why a controller's own node doesn't take an application over, if it doesn't.
+/// Why the controller's own node can't take over an application, if it can't.
 pub(crate) fn refusal_to_take(
     config: &Config,
     own: Origin,
@@ -39,7 +39,7 @@ pub(crate) fn refusal_to_take(
     refusal_to_claim(own, state, app)
 }
 
-/// Why an incarnation issues no claim of an application, if it issues none.
+/// Why an incarnation can't issue a claim of an application, if it can't.
 fn refusal_to_claim(own: Origin, state: &State, app: AppId) -> Option<Refusal>
     ensures { result ≡ first (causes_to_claim own state.now app) }
 {

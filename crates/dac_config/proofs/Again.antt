@@ -1,5 +1,5 @@
--- What a text says: its parts can be spelled, each of its nodes is named in one of them, and what its canonical text
--- says is the same configuration.
+-- The canonical text spells the same configuration: drafts can be spelled, each of their nodes occurs in a parameter,
+-- and the canonical draft has the same table.
 use Rattle.std.proofs.Common.{◌≡◌, ◌≢◌, ℕ, ◌+◌, ◌<◌, ◌≤◌, Bool, true, false, cond, not, ◌||◌, ◌&&◌, List, [], ◌∷◌, ◌++◌, length, map, fold, get_or, filter, count_by, All, bytes_eq, ⊎_elim, refl, sym, ap, subst, ◌∙◌, arith, append_assoc, append-nil}
 use Rattle.std.specs.List.{AllByRecursion as Each, AllZip, IsDistinct}
 use Rattle.std.proofs.Math.Bool.{or-true, or-false, and-true, and-or_distrib_right}
@@ -28,11 +28,11 @@ use Rattle.dac_config.proofs.Names.{Within, first_among, later_among, among_appe
 use Rattle.dac_config.proofs.Numbers.{group_numbered, permission_found, names_numbered, sorted_rising, sorted_names, numbered_says, table_same}
 use Rattle.dac_config.proofs.Writes.{CanSpellGroup, CanSpellApp, CanSpellWait, CanSpell, name_at, written_app, ban, written_bans, wait_params, params_of, file_written, file_spells}
 
--- the parameters by which this is said, but for permissions
+-- the parameters that yield this draft, except permissions
 abbrev said_params : Written → List Param
 said_params w = Distributed w.apps ∷ Mandatory w.mandatory ∷ Optional w.optional ∷ wait_params w.sync_wait
 
--- the names of nodes in what is said
+-- the names of nodes in the draft
 abbrev said_names : Written → List (List ℕ)
 said_names w = joined (map names_of_app w.apps) ++ (w.mandatory ++ w.optional)
 
@@ -42,7 +42,7 @@ record Known (w : Written) : Type 0 where
   said : Within w.nodes (said_names w)
   some : length w.apps ≢ 0
 
--- ---- sections say what their parameters say
+-- ---- the draft of sections is that of their parameters
 
 put_params : (w : Written) (sections : List Section) → fold put_section w sections ≡ put_all w (params_in sections)
 put_params w [] = refl
@@ -57,7 +57,7 @@ nodes_stay w (param ∷ params) = nodes_stay (put w param) params ∙ one param
     one (Distributed apps) = refl
     one _ = refl
 
--- ---- it can be spelled
+-- ---- a draft can be spelled
 
 wait_spells : (wait : SyncWait) → CanSpellWait wait → Each CanSpell (wait_params wait)
 wait_spells NoSync can = tt
@@ -76,9 +76,9 @@ all_spell : (w : Written) (params : List Param) → Each CanSpell params → Eac
 all_spell w [] can h = h
 all_spell w (param ∷ params) can h = all_spell (put w param) params can.1 (put_spells w param can.0 h)
 
--- ---- it names each node
+-- ---- each node occurs in a parameter
 
--- the value of a parameter of this name names the node
+-- the value of the parameter of this name contains the node
 abbrev Says : List ℕ → ParamName → Written → Type 0
 Says name named.Distributed w = is_among name (joined (map names_of_app w.apps)) ≡ true
 Says name named.Mandatory w = is_among name w.mandatory ≡ true
@@ -124,7 +124,7 @@ says_names name n w h =
     by named.Timeout k = absurd k
     by named.Permissions k = absurd k
 
--- where each parameter stands once, all nodes that are named are said
+-- if each parameter occurs once, every node in a parameter is in the draft
 all_said : (name : List ℕ) (w : Written) (params : List Param) → ((n : ParamName) → count_of n params ≤ 1) → is_among name (joined (map names_of_param params)) ≡ true → is_among name (said_names (put_all w params)) ≡ true
 all_said name w [] once h = absurd cc
 all_said name w (param ∷ params) once h =
@@ -137,7 +137,7 @@ all_said name w (param ∷ params) once h =
     (λ later. all_said name (put w param) params (λ n. omega (arith, once n, count n)) later)
     (or_cases (is_among name (names_of_param param)) (is_among name rest) (sym (among_append name (names_of_param param) rest) ∙ h))
 
--- ---- the whole
+-- ---- the facts about a draft
 
 known : (text : List ℕ) (w : Written) → IsTextOf text w → IsWithinLimits w → Known w
 known text w is limits =
@@ -152,9 +152,8 @@ known text w is limits =
       some = is.some;
     }
 
--- ---- what the canonical text says
+-- ---- the canonical draft
 
--- the nodes in byte order
 abbrev sorted : Written → List (List ℕ)
 sorted w = in_byte_order w.nodes
 
@@ -166,7 +165,7 @@ abbrev params_again : Written → List Param
 params_again w =
     Distributed (map (app_again w) w.apps) ∷ Permissions (written_bans (numbered w).apps) ∷ Mandatory (named_in (sorted w) w.mandatory) ∷ Optional (named_in (sorted w) w.optional) ∷ wait_params w.sync_wait
 
--- ---- the names behind the numbers
+-- ---- names of numbered nodes
 
 abbrev row_names : List NodeRow → List (List ℕ)
 row_names rows = map (λ row. row.name) rows
@@ -208,14 +207,14 @@ params_named w =
     let optional = names_kept w (λ row. row.optional) (sorted w) in
     λ i. Distributed (apps i) ∷ Permissions (written_bans (numbered w).apps) ∷ Mandatory (mandatory i) ∷ Optional (optional i) ∷ wait_params w.sync_wait
 
--- what holds of the name of each application holds of those that are not permitted
+-- a property of all applications' names holds of those that aren't permitted
 all_bans : (w : Written) (P : List ℕ → Type 0) → All (λ app. P app.name) w.apps → All (λ permission. P permission.name) (written_bans (numbered w).apps)
 all_bans w P all =
     All-map (λ permission. P permission.name) ban (filter (λ row. not row.permission) (numbered w).apps)
     (All-filter (λ row. not row.permission) (λ row. P row.name) (numbered w).apps (All-map (λ row. P row.name) (numbered_app w.permissions (numbered_nodes w)) w.apps all))
 
 module _ (w : Written) (know : Known w) where
-  -- ---- it can be spelled
+  -- ---- the canonical draft can be spelled
 
   node_sorted : (name : List ℕ) → is_among name w.nodes ≡ true → is_among name (sorted w) ≡ true
   node_sorted name h = sorted_names w.nodes name ∙ h
@@ -269,7 +268,7 @@ module _ (w : Written) (know : Known w) where
         ),
       )
 
-  -- ---- it names the same nodes
+  -- ---- it has the same nodes
 
   both : (a b m : Bool) → ((a && m) || (b && m)) ≡ ((a || b) && m)
   both a b m = sym (and-or_distrib_right a b m)
@@ -291,7 +290,7 @@ module _ (w : Written) (know : Known w) where
   no_names Forever = refl
   no_names (Ms n) = refl
 
-  -- a name that is said is a node
+  -- a name in the draft is a node
   and_known : (a b : Bool) → (b ≡ true → a ≡ true) → (a && b) ≡ b
   and_known true b h = refl
   and_known false true h = h refl
@@ -350,7 +349,7 @@ module _ (w : Written) (know : Known w) where
         few = omega (arith, few, know.limits.few);
       }
 
-  -- ---- it says the same tables
+  -- ---- it has the same table
 
   abbrev again : List (List ℕ) → SyncWait → Written
   again nodes wait = record {
@@ -367,7 +366,7 @@ module _ (w : Written) (know : Known w) where
   waiting nodes Forever = refl
   waiting nodes (Ms n) = refl
 
-  -- a node in byte order stays in each list that has it
+  -- a node remains in each list that contains it when the list is sorted
   stays : (group : List (List ℕ)) → All (λ name. is_among name group ≡ is_among name (named_in (sorted w) group)) (sorted w)
   stays group = all_among (λ name. is_among name group ≡ is_among name (named_in (sorted w) group)) (sorted w)
       (λ name h. sym (among_named (sorted w) group name ∙ ap (λ b. is_among name group && b) h ∙ and-true (is_among name group)))
@@ -447,7 +446,7 @@ module _ (w : Written) (know : Known w) where
         numbers = subst (λ (v : Written). IsTableOf v (numbered w)) (sym (waiting nodes w.sync_wait)) (table_again nodes (λ name. among_firsts name (names_in (Kernel (params_again w) ∷ [])) ∙ names_same name));
       }
 
--- a configuration that some text says is said by its canonical text
+-- the canonical text spells any configuration that some text spells
 pub canonical_says : (table : Table) → IsSaid table → length (canonical_text table) ≤ 65536 → IsConfigOf (canonical_text table) table
 canonical_says table (By text is limits) =
     let Again : Table → Type 0 = λ t. length (canonical_text t) ≤ 65536 → IsConfigOf (canonical_text t) t in

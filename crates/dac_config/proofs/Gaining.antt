@@ -1,18 +1,18 @@
--- Texts that are taken piece by piece.
+-- Texts that are written in pieces.
 use Rattle.std.proofs.Common.{◌≡◌, ℕ, List, [], ◌∷◌, ◌++◌, sym, subst, append_assoc, append-nil, Result, IfOk}
 use Rattle.std.specs.Global.{Vec}
 use Rattle.std.proofs.lemmas.Result.{IfOk-weaker}
 use Rattle.dac_base.specs.declared.NoMemory.{NoMemory}
 use Rattle.dac_config.specs.declared.sink.Text.{Text}
 use Rattle.dac_config.specs.Sinks.{Gains, IsWritten, HasText}
-use Rattle.dac_config.specs.Canonical.{parted_behind}
+use Rattle.dac_config.specs.Canonical.{separated_after}
 
--- once these texts are taken, the first behind `before`, the total is taken since the start
+-- writing these texts, the first after `before`, completes the total
 pub record Goes {S : Type 0} (H : S → List ℕ → Type 0) (start now : S) (before : List ℕ) (left : List (List ℕ)) (total : List ℕ) : Type 0 where
-  pub on : (end : S) → Gains H now end (parted_behind before left) → Gains H start end total
+  pub on : (end : S) → Gains H now end (separated_after before left) → Gains H start end total
 
 module _ {S : Type 0} {H : S → List ℕ → Type 0} where
-  -- one text and then another
+  -- one text followed by another
   pub then : {a b c : S} {xs ys : List ℕ} → Gains H a b xs → Gains H b c ys → Gains H a c (xs ++ ys)
   then {c = c} {xs = xs} {ys = ys} p q = record { held = λ text h. subst (H c) (append_assoc text xs ys) (q.held (text ++ xs) (p.held text h)) }
 
@@ -24,16 +24,16 @@ module _ {S : Type 0} {H : S → List ℕ → Type 0} where
 
   pub one_more : {start a b c : S} {before text total behind : List ℕ} {left rest : List (List ℕ)} → Goes H start a before left total → left ≡ text ∷ rest → Gains H a b before → Gains H b c text → behind ≡ 44 ∷ [] → Goes H start c behind rest total
   one_more {a = a} {c = c} {before = before} {left = left} {rest = rest} so_far is p q comma = record {
-    on = λ end h. so_far.on end (subst (λ (l : List (List ℕ)). Gains H a end (parted_behind before l)) (sym is) (then p (then q (subst (λ (b : List ℕ). Gains H c end (parted_behind b rest)) comma h))));
+    on = λ end h. so_far.on end (subst (λ (l : List (List ℕ)). Gains H a end (separated_after before l)) (sym is) (then p (then q (subst (λ (b : List ℕ). Gains H c end (separated_after b rest)) comma h))));
   }
 
   pub all_taken : {start now : S} {before total : List ℕ} {left : List (List ℕ)} → Goes H start now before left total → left ≡ [] → Gains H start now total
-  all_taken {now = now} {before = before} so_far is = so_far.on now (subst (λ (l : List (List ℕ)). Gains H now now (parted_behind before l)) (sym is) nothing_more)
+  all_taken {now = now} {before = before} so_far is = so_far.on now (subst (λ (l : List (List ℕ)). Gains H now now (separated_after before l)) (sym is) nothing_more)
 
-  -- what is left may be said in other words
+  -- the remaining texts can be replaced by equal ones
   pub same_left : {start now : S} {before total : List ℕ} {left rest : List (List ℕ)} → Goes H start now before left total → left ≡ rest → Goes H start now before rest total
   same_left {start} {now} {before} {total} so_far is = subst (λ (l : List (List ℕ)). Goes H start now before l total) is so_far
 
--- what is given at the end is what was written
+-- the finished text is the one that was written
 pub finished : (result : Result (Vec ℕ) NoMemory) (written : Text) (text : List ℕ) → IfOk result (HasText written) → IsWritten written text → IfOk result (λ bytes. bytes.items ≡ text)
 finished result written text has is = IfOk-weaker result (HasText written) (λ bytes. bytes.items ≡ text) (λ bytes h. h text is) has

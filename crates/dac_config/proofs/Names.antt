@@ -1,4 +1,4 @@
--- Lists of names, by their bytes: what is among them, which of them a group has, and how many differ.
+-- Lists of names, compared by bytes: membership, members of a group, and the number of distinct names.
 use Rattle.std.proofs.Common.{◌≡◌, ℕ, ◌≤◌, Bool, true, false, ◌||◌, ◌&&◌, List, [], ◌∷◌, ◌++◌, length, map, fold, filter, All, Bor, bytes_eq, ⊎_elim, refl, sym, ap, subst, ◌∙◌, arith}
 use Rattle.std.specs.Cmp.{IsEquivalence}
 use Rattle.std.specs.Cmp.Lexicographic.{same_text}
@@ -25,7 +25,7 @@ among_names name (n ∷ ns) = ap (λ b. bytes_eq n.now name || b) (among_names n
 pub same_name : (a b : List ℕ) → bytes_eq a b ≡ true → a ≡ b
 same_name a b h = same_text a b (sym h)
 
--- the test of `is_among`
+-- the test that `is_among` applies
 abbrev pub is_name : List ℕ → List ℕ → Bool
 is_name name other = bytes_eq other name
 
@@ -50,14 +50,14 @@ among_append name xs ys = list_any-append (λ other. bytes_eq other name) xs ys
 pub contained : (name : List ℕ) (names : List (List ℕ)) → is_among name names ≡ true → Contains names name
 contained name names h = Contains-from_any {eq = is_name} (λ x y e. sym (same_name y x e)) name names h
 
--- what holds of all names holds of each that is among them
+-- a property of all names holds of each one among them
 pub among_all : (P : List ℕ → Type 0) (names : List (List ℕ)) (name : List ℕ) → All P names → is_among name names ≡ true → P name
 among_all P names name all h = All-contains P names name all (contained name names h)
 
 pub all_among : (P : List ℕ → Type 0) (names : List (List ℕ)) → ((name : List ℕ) → is_among name names ≡ true → P name) → All P names
 all_among P names each = All-from_any names_equal P names each
 
--- ---- those that a group has
+-- ---- members of a group
 
 abbrev pub named_in : List (List ℕ) → List (List ℕ) → List (List ℕ)
 named_in names group = filter (λ name. is_among name group) names
@@ -65,7 +65,7 @@ named_in names group = filter (λ name. is_among name group) names
 pub among_named : (names group : List (List ℕ)) (name : List ℕ) → is_among name (named_in names group) ≡ (is_among name group && is_among name names)
 among_named names group name = any-filter_same (λ other. bytes_eq other name) (λ other. is_among other group) (is_among name group) (λ other e. ap (λ n. is_among n group) (same_name other name e)) names
 
--- ---- lists one after another
+-- ---- concatenated lists
 
 pub each_parts : {X : Type 0} (P : X → Type 0) (xs ys : List X) → Each P (xs ++ ys) → Each P xs × Each P ys
 each_parts P [] ys each = (tt, each)
@@ -85,14 +85,14 @@ joined_all P (xs ∷ lists) all = let parts = all_parts P xs (joined lists) all 
 pub all_mapped : {X Y : Type 0} (P : Y → Type 0) (f : X → Y) (xs : List X) → All P (map f xs) → All (λ x. P (f x)) xs
 all_mapped P f xs all = λ k d h. subst P (get_or-map f xs k d (f d) h) (all k (f d) (omega (arith, h, length-map xs f)))
 
--- lists that agree place by place in what is seen of them
+-- lists that agree at each index have equal images
 pub maps_from_zip : {A B C : Type 0} (R : A → B → Type 0) (f : A → C) (g : B → C) → ((a : A) (b : B) → R a b → g b ≡ f a) → (xs : List A) (ys : List B) → AllZip R xs ys → map g ys ≡ map f xs
 maps_from_zip R f g same [] [] zip = refl
 maps_from_zip R f g same [] (y ∷ ys) zip = absurd zip
 maps_from_zip R f g same (x ∷ xs) [] zip = absurd zip
 maps_from_zip R f g same (x ∷ xs) (y ∷ ys) zip = λ i. same x y zip.0 i ∷ maps_from_zip R f g same xs ys zip.1 i
 
--- ---- the different names
+-- ---- distinct names
 
 among_known : (name other : List ℕ) (names : List (List ℕ)) → is_among other names ≡ true → (c : Bool) → bytes_eq other name ≡ c → is_among name names ≡ (is_among name names || c)
 among_known name other names known true same = ap (λ n. is_among n names) (sym (same_name other name same)) ∙ known ∙ sym (or-true (is_among name names))
@@ -114,7 +114,7 @@ firsts_differ : (met names : List (List ℕ)) → IsDistinct is_name met → IsD
 firsts_differ met [] differ = differ
 firsts_differ met (n ∷ names) differ = firsts_differ (with_name met n) names (cond_both (is_among n met) met (met ++ n ∷ []) (IsDistinct is_name) (λ known. differ) (λ new. IsDistinct-push names_equal met n differ new))
 
--- names that are all among others have no more different ones
+-- names that are all among others include no more distinct ones
 pub few_firsts : (names others : List (List ℕ)) → Within names others → length (firsts names) ≤ length others
 unfolding IsDistinct
 few_firsts names others within = length-le_from_is_member names_equal (firsts names) others (firsts_differ [] names tt) (λ name h. within name (sym (among_firsts name names) ∙ h))
@@ -149,7 +149,7 @@ unfolding IsDistinct
 differ_append [] ys h k apart = k
 differ_append (x ∷ xs) ys h k apart = (all_differ x xs ys h.0 (apart x (first_among x xs)), differ_append xs ys h.1 k (λ name e. apart name (later_among name x xs e)))
 
--- lists whose names differ may each be put in another order, and lose names
+-- lists whose names differ still do if each is reordered and loses names
 pub differ_joined : (f : List (List ℕ) → List (List ℕ)) → ((names : List (List ℕ)) → Differ (f names) × Within (f names) names) → (lists : List (List (List ℕ))) → Differ (joined lists) → Differ (joined (map f lists)) × Within (joined (map f lists)) (joined lists)
 differ_joined f fits [] h = (h, λ name e. e)
 differ_joined f fits (names ∷ lists) h =
@@ -162,7 +162,7 @@ differ_joined f fits (names ∷ lists) h =
           (or_cases (is_among name (f names)) (is_among name rest) (sym (among_append name (f names) rest) ∙ e)),
     )
 
--- of names that differ none is among those before it
+-- if names differ, none is among those before it
 pub first_new : (before : List (List ℕ)) (name : List ℕ) (names : List (List ℕ)) → Differ (before ++ name ∷ names) → is_among name before ≡ false
 first_new before name names differ =
     false_from_ne_true (is_among name before) (λ e. both_ways (is_among name (name ∷ names)) ((differ_parts before (name ∷ names) differ).1 name e) (first_among name names))

@@ -1,4 +1,4 @@
--- From names to numbers: names in byte order, and that what is numbered is what is written, and nothing else is.
+-- From names to numbers: names in byte order, and the table of a draft, which is unique.
 use Rattle.std.proofs.Common.{◌≡◌, ℕ, zero, suc, ◌+◌, ◌<◌, ◌≤◌, Bool, true, false, ◌||◌, cond, eqb, List, [], ◌∷◌, ◌++◌, length, map, map-id, drop, get_or, fold, slice_get, All, Bor, Ordering, Less, Equal, Greater, nat_cmp, bytes_eq, refl, sym, ap, subst, ◌∙◌, inl, inr, arith, append_assoc}
 use Rattle.std.specs.Ordering.{match_ordering, ordering_reverse, eq_by_cmp}
 use Rattle.std.specs.Cmp.{IsTotalOrder, unsigned_ties, both_ways}
@@ -33,7 +33,7 @@ use Rattle.dac_config.specs.Numbering.{name_cmp, in_byte_order, numbers_from, nu
 use Rattle.dac_config.specs.Says.{is_named, IsGroup, IsUnmentioned, IsDefaultPermission, IsApp, IsTableOf, By, IsTable}
 use Rattle.dac_config.proofs.Names.{among_names, same_name, names_equal, contained, maps_from_zip}
 
--- ---- lists in which each key is below those after it
+-- ---- strictly sorted lists
 
 module _ {K : Type 0} {R : K → K → Ordering} (o : IsTotalOrder R) (same : IsAntisymmetric R) where
   below : (y : K) (ys : List K) → AllByRecursion (λ z. R y z ≡ Less) ys → All (λ z. R y z ≡ Less) ys
@@ -111,13 +111,13 @@ group_numbered nodes group = record {
   members = λ number. (let from : 0 + number ≡ number = omega arith in ap (λ k. list_any (λ m. eqb m k) (numbers_from 0 nodes group)) (sym from) ∙ members_from 0 number nodes group);
 }
 
--- ---- what is numbered is what is written
+-- ---- the numbered table is one of the draft
 
 zip_map : {A B : Type 0} (P : A → B → Type 0) (f : A → B) → ((x : A) → P x (f x)) → (xs : List A) → AllZip P xs (map f xs)
 zip_map P f each [] = tt
 zip_map P f each (x ∷ xs) = (each x, zip_map P f each xs)
 
--- the first permission of a name, if there is one
+-- the first permission of a name, if any
 pub permission_found : (permissions : List Permission) (name : List ℕ) → IsDefaultPermission permissions name (permitted permissions name)
 permission_found [] name = inr (refl, refl)
 permission_found (p ∷ ps) name =
@@ -150,7 +150,7 @@ numbered_says w = record {
   sync_wait = refl;
 }
 
--- ---- and nothing else is
+-- ---- it is the only one
 
 zip_same : {A B : Type 0} (P : A → B → Type 0) (f : A → B) → ((x : A) (y : B) → P x y → y ≡ f x) → (xs : List A) (ys : List B) → AllZip P xs ys → ys ≡ map f xs
 zip_same P f each xs ys zip = sym (map-id ys) ∙ maps_from_zip P f (λ y. y) each xs ys zip
@@ -160,7 +160,7 @@ group_same nodes group numbers is =
     let one = group_numbered nodes group in
     same_rising nat_cmp_total nat_cmp-IsAntisymmetric eqb unsigned_ties numbers (numbers_from 0 nodes group) is.rising one.rising (λ q. is.members q ∙ sym (one.members q))
 
--- the first permission of a name decides
+-- the first permission of a name determines the result
 permission_first : (before after : List Permission) (name : List ℕ) (value : Bool) → IsUnmentioned before name → permitted (before ++ record { name = name; value = value } ∷ after) name ≡ value
 permission_first [] after name value none = rw (nat_list_eq_equiv.refl name) refl
 permission_first (p ∷ ps) after name value none = let parts = or_parts (bytes_eq p.name name) (is_among name (map (λ q. q.name) ps)) none in rw parts.0 (permission_first ps after name value parts.1)
@@ -188,7 +188,7 @@ rows_same w (row ∷ rows) mandatory optional =
     let rest = rows_same w rows (All-tail (λ node. node.mandatory ≡ is_among node.name w.mandatory) row rows mandatory) (All-tail (λ node. node.optional ≡ is_among node.name w.optional) row rows optional) in
     λ i. record { name = row.name; mandatory = m i; optional = o i } ∷ rest i
 
--- the tables that say what is written are those that are numbered
+-- a table of the draft is the numbered one
 pub table_same : (w : Written) (table : Table) → IsTableOf w table → table ≡ numbered w
 table_same w table is =
     let one = numbered_says w in
@@ -199,7 +199,7 @@ table_same w table is =
     let apps : table.apps ≡ map (numbered_app w.permissions (numbered_nodes w)) w.apps = zip_same (IsApp w.permissions table.nodes) (numbered_app w.permissions table.nodes) (app_same w.permissions table.nodes) w.apps table.apps is.apps ∙ ap (λ rows. map (numbered_app w.permissions rows) w.apps) nodes in
     λ i. record { nodes = nodes i; apps = apps i; sync_wait = is.sync_wait i }
 
--- ---- the limits of what is numbered
+-- ---- its limits
 
 length-insert_key : (ks : List (List ℕ)) (k : List ℕ) → length (insert_key name_cmp ks k) ≤ suc (length ks)
 length-insert_key [] k = omega arith
@@ -215,12 +215,12 @@ length-inserted : (ks names : List (List ℕ)) → length (fold (insert_key name
 length-inserted ks [] = omega arith
 length-inserted ks (name ∷ names) = omega (arith, length-inserted (insert_key name_cmp ks name) names, length-insert_key ks name)
 
--- no more nodes than names
+-- there are no more nodes than names
 pub few_numbered : (w : Written) (nodes : List Node) → length w.nodes ≤ MAX_NODES → map node_row nodes ≡ numbered_nodes w → length nodes ≤ MAX_NODES
 few_numbered w nodes few rows =
     omega (arith, few, length-inserted [] w.nodes, length-map nodes node_row, ap length rows, length-map (in_byte_order w.nodes) (numbered_node w))
 
--- only numbers of these nodes are given
+-- only numbers of these nodes result
 numbers_below : (n limit : ℕ) (nodes : List NodeRow) (group : List (List ℕ)) → n + length nodes ≤ limit → All (λ m. m < limit) (numbers_from n nodes group)
 numbers_below n limit [] group h = All-nil (λ m. m < limit)
 numbers_below n limit (node ∷ nodes) group h =
@@ -232,7 +232,7 @@ members_numbered nodes groups =
     let below : ℕ → Type 0 = λ number. number < length nodes in
     All-map (All below) (numbers_from 0 (map node_row nodes)) groups (λ i d _. numbers_below 0 (length nodes) (map node_row nodes) (get_or groups i d) (omega (arith, length-map nodes node_row)))
 
--- a configuration that is numbered is within the limits
+-- the numbered configuration keeps the limits
 pub small_numbered : (w : Written) → IsWithinLimits w → (text : List ℕ) × IsTextOf text w → IsTable (numbered w)
 small_numbered w limits spelled = record {
   nodes = omega (arith, limits.few, length-inserted [] w.nodes, length-map (in_byte_order w.nodes) (numbered_node w));
@@ -244,7 +244,7 @@ small_numbered w limits spelled = record {
   said = By spelled.0 (record { written = w; spelled = spelled.1; numbers = numbered_says w }) limits;
 }
 
--- one node more, whose number is given where the group names it
+-- one more node, whose number is included if the group contains its name
 pub numbers_more : (ns new : List ℕ) (i : ℕ) (nodes : List Node) (node : Node) (group : List (List ℕ)) (total : List ℕ) (named : Bool) → node ≡ get_or nodes i node → i < length nodes → named ≡ is_among node.name.items group → new ≡ cond named (ns ++ i ∷ []) ns
     → ns ++ numbers_from i (map node_row (drop i nodes)) group ≡ total → new ++ numbers_from (i + 1) (map node_row (drop (i + 1) nodes)) group ≡ total
 numbers_more ns new i nodes node group total named here within tells is h =
@@ -256,15 +256,15 @@ numbers_more ns new i nodes node group total named here within tells is h =
     by true next = append_assoc ns (i ∷ []) next
     by false next = refl
 
--- tables whose nodes and applications are numbered are the configuration that the text says
+-- tables with numbered nodes and applications are the configuration of the draft
 pub table_numbered : (w : Written) (c : Tables) → map node_row c.nodes.items ≡ numbered_nodes w → map app_row c.apps.entries ≡ map (numbered_app w.permissions (map node_row c.nodes.items)) w.apps → c.sync_wait ≡ w.sync_wait → table_of c ≡ numbered w
 table_numbered w c rows apps wait =
     let through : map app_row c.apps.entries ≡ map (numbered_app w.permissions (numbered_nodes w)) w.apps = apps ∙ ap (λ rs. map (numbered_app w.permissions rs) w.apps) rows in
     λ i. record { nodes = rows i; apps = through i; sync_wait = wait i }
 
--- ---- names are sorted, and each is kept once
+-- ---- sorting and removing duplicates
 
--- where the bytes of a name lie doesn't matter for its place
+-- the order of names doesn't depend on where they are in memory
 names_deduped : (names : List (Bor (List ℕ))) → names_of (dedup (λ a b. bytes_eq a.now b.now) names) ≡ dedup bytes_eq (names_of names)
 names_deduped [] = refl
 names_deduped (k ∷ []) = refl

@@ -1,4 +1,4 @@
--- The places of the groups of nodes, as an application keeps them.
+-- The stored indices of the groups of nodes.
 use Rattle.std.proofs.Common.{◌≡◌, ℕ, ◌+◌, ◌<◌, ◌≤◌, get_or, true, false, cond, eqb, List, [], ◌∷◌, length, map, All, Bor, position, Option, Some, None, slice_get, refl, sym, ap, ◌∙◌, arith}
 use Rattle.std.specs.Prelude.{nat_lt}
 use Rattle.std.specs.Global.{Vec}
@@ -17,15 +17,15 @@ use Rattle.dac_config.specs.Table.{group_among}
 use Rattle.dac_config.specs.ConfigView.{place_by, place_at, ArePlaces, IsPlaced}
 use Rattle.dac_config.proofs.Tables.{position-map, all_at}
 
--- a place below MAX_NODES stands for itself
+-- an index below MAX_NODES represents itself
 pub placed : (place : ℕ) → place < MAX_NODES → place_by place ≡ Some place
 placed place low = ap (λ b. cond b (Some place) None) (lt-ltb place MAX_NODES low)
 
--- what was found among the groups as they are kept was found among their lists
+-- an index found among the stored groups is found among their lists
 pub place_found : (groups : List (Vec ℕ)) (node : ℕ) (at : Option ℕ) → at ≡ position (λ group. list_any (λ other. eqb other node) group.items) groups → at ≡ group_among (map (λ group. group.items) groups) node
 place_found groups node at place = place ∙ sym (position-map (λ group. group.items) (λ group. list_any (λ other. eqb other node) group) groups)
 
--- no group has a node whose number is that of none
+-- no group contains the number of a node that doesn't exist
 lacks : (count node : ℕ) (group : List ℕ) → All (λ number. number < count) group → count ≤ node → list_any (λ other. eqb other node) group ≡ false
 lacks count node group below past = list_any_none (λ other. eqb other node) group (λ k d within. false_from_ne_true (eqb (get_or group k d) node) (λ e.
     let low = below k d within in
@@ -40,9 +40,9 @@ none_from count node at (group ∷ groups) below past =
 pub none_outside : (count node : ℕ) (groups : List (List ℕ)) → All (All (λ number. number < count)) groups → count ≤ node → group_among groups node ≡ None
 none_outside count node groups below past = position_from-zero (λ group. list_any (λ other. eqb other node) group) groups ∙ none_from count node 0 groups below past
 
--- ---- places are put into a list one after another
+-- ---- indices are appended to a list
 
--- the places of the first nodes are kept
+-- the indices of the first nodes are stored
 abbrev pub ArePlacesBelow : ℕ → List ℕ → List (List ℕ) → Type 0
 ArePlacesBelow n places groups = (node : ℕ) → node < n → place_at places node ≡ group_among groups node
 
@@ -56,7 +56,7 @@ places_all n places groups count below so_far = λ node.
           ap (option_and_then place_by) (slice_get_past places node outside) ∙ sym (none_outside n node groups below past)
     ] refl
 
--- ---- the place of a node of an application
+-- ---- the index of a node's group
 
 pub place_kept : (c : Tables) (i : ℕ) (got : Option (Bor (Vec ℕ) × Bor App)) (entry : Bor (Vec ℕ) × Bor App) → All IsPlaced c.apps.entries → option_map deref_pair got ≡ slice_get c.apps.entries i → got ≡ Some entry → IsPlaced (deref_pair entry)
 place_kept c i got entry all same was = all_at IsPlaced c.apps.entries i (deref_pair entry) all (sym same ∙ ap (option_map deref_pair) was)

@@ -1,5 +1,5 @@
--- The canonical text is written by words of the grammar, which can stand one after another; and what a text says can be
--- spelled by such words.
+-- The canonical text is spelled by words of the grammar that can follow each other; and drafts can be spelled by such
+-- words.
 use Rattle.std.proofs.Common.{◌≡◌, ◌⊎◌, inl, inr, ℕ, ◌+◌, ◌-◌, ◌*◌, ◌/◌, ◌%◌, ◌<◌, ◌≤◌, Bool, true, false, cond, not, ◌&&◌, List, [], ◌∷◌, ◌++◌, length, map, filter, All, codes, decimal, unwrap_or, option_map, slice_get, bytes_eq, refl, sym, ap, subst, ◌∙◌, arith, append_assoc, append-nil}
 use Rattle.std.specs.Bool.{Decides}
 use Rattle.std.specs.List.{list_all, AllByRecursion as Each}
@@ -14,7 +14,7 @@ use Rattle.dac_tokens.specs.Digits.{value_from}
 use Rattle.dac_tokens.specs.Scan.{is_name_byte}
 use Rattle.dac_tokens.specs.laws.NameBytes.{tells_letter, tells_name_byte}
 use Rattle.dac_tokens.specs.Words.{Word, Punctuation, Name, Number, Located}
-use Rattle.dac_tokens.specs.TokenGrammar.{Nothing, Blank, Closed, IsNameByte, Begins, IsQuotable, IsDigits, GoesOnAsNumber, IsBareAtom, bytes_of, Spells, AreSpelled, depth_behind, NestWell, AreTokensOf}
+use Rattle.dac_tokens.specs.TokenGrammar.{Nothing, Blank, Closed, IsNameByte, Begins, IsQuotable, IsDigits, ContinuesAsNumber, IsBareAtom, bytes_of, Spells, AreSpelled, depth_after_word, NestWell, AreTokensOf}
 use Rattle.dac_shapes.specs.declared.draft.SyncWait.{SyncWait}
 use Rattle.dac_shapes.specs.declared.draft.SyncWait.TheVariants.{NoSync, Forever, Ms}
 use Rattle.dac_shapes.specs.declared.param.ParamName.TheVariants as named
@@ -22,7 +22,7 @@ use Rattle.dac_shapes.specs.Written.{App, Permission, Param, Distributed, Permis
 use Rattle.dac_shapes.specs.Within.{params_in}
 use Rattle.dac_shapes.specs.Grammar.{Parted, between, IsListOf, IsPair, IsNode, IsItem, IsMs, IsTimeout, IsAppValue, IsApp, IsPermission, IsWait, IsParam, IsSection, IsFile}
 use Rattle.dac_config.specs.Table.{NodeRow, AppRow, Table}
-use Rattle.dac_config.specs.Canonical.{begins_small, is_bare, name_text, parted_behind, parted, list_text, pair_text, node_name_text, group_text, app_text, ban_text, wait_texts, param_texts, canonical_text}
+use Rattle.dac_config.specs.Canonical.{begins_small, is_bare, name_text, separated_after, parted, list_text, pair_text, node_name_text, group_text, app_text, forbidden_text, wait_texts, param_texts, canonical_text}
 use Rattle.dac_config.proofs.Names.{each_parts}
 
 -- ---- spelling
@@ -42,13 +42,13 @@ abbrev located : ℕ → List Word → List Located
 located at [] = []
 located at (word ∷ words) = record { word = word; at = at } ∷ located (at + length (spelling_of word)) words
 
--- a mark stands first; a full stop ends the words
+-- the words begin with a symbol; a full stop is the last word
 abbrev BeginsApart : List Word → Type 0
 BeginsApart (Punctuation FullStop ∷ words) = words ≡ []
 BeginsApart (Punctuation _ ∷ words) = Unit {0}
 BeginsApart _ = ⊥
 
--- a word can be spelled where these words follow
+-- a word can be spelled if these words follow
 abbrev CanStand : Word → List Word → Type 0
 CanStand (Punctuation FullStop) after = after ≡ []
 CanStand (Punctuation _) after = Unit {0}
@@ -56,10 +56,11 @@ CanStand (Name name) after = All IsQuotable name × BeginsApart after
 CanStand (Number false digits) after = IsDigits digits × BeginsApart after
 CanStand _ after = ⊥
 
--- each of these words can stand where it stands, so many brackets are open before them, and never more than 64
+-- each of these words can be spelled before the next ones, and never more than 64 brackets are open, given those open
+-- before them
 abbrev Stand : ℕ → List Word → Type 0
 Stand depth [] = Unit {0}
-Stand depth (word ∷ words) = CanStand word words × (depth_behind depth word ≤ 64) × Stand (depth_behind depth word) words
+Stand depth (word ∷ words) = CanStand word words × (depth_after_word depth word ≤ 64) × Stand (depth_after_word depth word) words
 
 -- ---- a name is bare exactly if it is a bare atom
 
@@ -85,7 +86,7 @@ name_bytes_quotable (b ∷ bs) all = All-cons IsQuotable b bs (quotable b (All-h
 bare_quotable : (name : List ℕ) → is_bare name ≡ true → All IsQuotable name
 bare_quotable name h = name_bytes_quotable name ((tells_bare name).0 h).goes_on
 
--- ---- what follows a name or a number
+-- ---- the bytes after a name or a number
 
 no_name_byte : (words : List Word) → BeginsApart words → Begins IsNameByte (spelled_words words ++ codes "\n") → ⊥
 no_name_byte (Punctuation FullStop ∷ words) apart h = omega (arith, h)
@@ -97,14 +98,14 @@ ends_behind_dot [] none (inl h) = omega (arith, h)
 ends_behind_dot [] none (inr h) = omega (arith, h.1)
 ends_behind_dot (word ∷ words) none h = absurd cc
 
-ends_number : (words : List Word) → BeginsApart words → GoesOnAsNumber (spelled_words words ++ codes "\n") → ⊥
+ends_number : (words : List Word) → BeginsApart words → ContinuesAsNumber (spelled_words words ++ codes "\n") → ⊥
 ends_number (Punctuation FullStop ∷ words) apart (inl h) = omega (arith, h)
 ends_number (Punctuation FullStop ∷ words) apart (inr (inl h)) = omega (arith, h)
 ends_number (Punctuation FullStop ∷ words) apart (inr (inr h)) = ends_behind_dot words apart h
 ends_number (Punctuation _ ∷ words) apart h = omega (arith, h)
 ends_number _ apart h = apart
 
--- ---- each word is spelled so
+-- ---- the spelling of each word
 
 name_spelled : (name rest : List ℕ) → All IsQuotable name → (Begins IsNameByte rest → ⊥) → (c : Bool) → is_bare name ≡ c → Spells (Name name) (cond c name (39 ∷ (name ++ 39 ∷ []))) rest
 name_spelled name rest quotable ends true bare = inl (refl, (tells_bare name).0 bare, ends)
@@ -133,14 +134,14 @@ words_spelled at depth (word ∷ words) h = (
     offset = omega arith;
     spelled = word_spelled word words h.0;
   },
-  words_spelled (at + length (spelling_of word)) (depth_behind depth word) words h.2,
+  words_spelled (at + length (spelling_of word)) (depth_after_word depth word) words h.2,
 )
 
 words_nested : (at depth : ℕ) (words : List Word) → Stand depth words → NestWell depth (located at words)
 words_nested at depth [] h = tt
-words_nested at depth (word ∷ words) h = (h.1, words_nested (at + length (spelling_of word)) (depth_behind depth word) words h.2)
+words_nested at depth (word ∷ words) h = (h.1, words_nested (at + length (spelling_of word)) (depth_after_word depth word) words h.2)
 
--- words that can stand so are the tokens of their spelling and a line feed
+-- such words are the tokens of their spelling with a line feed
 words_read : (words : List Word) → Stand 0 words → AreTokensOf (spelled_words words ++ codes "\n") (located 0 words)
 words_read words h = record { spelled = words_spelled 0 0 words h; nested = words_nested 0 0 words h }
 
@@ -148,7 +149,7 @@ words_located : (at : ℕ) (words : List Word) → map (λ (t : Located). t.word
 words_located at [] = refl
 words_located at (word ∷ words) = ap (λ (ws : List Word). word ∷ ws) (words_located (at + length (spelling_of word)) words)
 
--- ---- what can be written
+-- ---- drafts that can be written
 
 pub record CanSpellGroup (group : List (List ℕ)) : Type 0 where
   pub some : 0 < length group
@@ -173,7 +174,7 @@ CanSpell (Optional names) = Each (All IsQuotable) names
 CanSpell (Timeout wait) = CanSpellWait wait
 CanSpell Param.Other = Unit {0}
 
--- ---- what a configuration says by names
+-- ---- a configuration with names
 
 abbrev pub name_at : List NodeRow → ℕ → List ℕ
 name_at nodes number = unwrap_or (option_map (λ node. node.name) (slice_get nodes number)) []
@@ -197,9 +198,9 @@ params_of table =
     Distributed (map (written_app table.nodes) table.apps) ∷ Permissions (written_bans table.apps) ∷ Mandatory (map (λ node. node.name) (filter (λ node. node.mandatory) table.nodes))
     ∷ Optional (map (λ node. node.name) (filter (λ node. node.optional) table.nodes)) ∷ wait_params table.sync_wait
 
--- ---- words that can stand one after another
+-- ---- words that can follow each other
 
--- wherever these words can follow a mark, they can follow words that open so many brackets
+-- before a symbol these words can be spelled if k more brackets can be open
 abbrev IsPiece : ℕ → List Word → Type 0
 IsPiece k words = (depth : ℕ) (rest : List Word) → depth + k ≤ 64 → BeginsApart rest → Stand depth rest → Stand depth (words ++ rest)
 
@@ -227,9 +228,9 @@ tuple_piece k words piece = λ depth rest le apart h. (
   subst (Stand (depth + 1)) (sym (append_assoc words (Punctuation CloseTuple ∷ []) rest)) (piece (depth + 1) (Punctuation CloseTuple ∷ rest) (omega (arith, le)) tt (tt, omega (arith, le), closed depth rest h)),
 )
 
--- ---- words that write a text
+-- ---- words that spell a text
 
--- some words of this shape are spelled as the text, and can stand where so many more brackets may be open
+-- some words of this shape spell the text, wherever k more brackets can be open
 record Writes (k : ℕ) (Is : List Word → Type 0) (text : List ℕ) : Type 0 where
   words : List Word
   is : Is words
@@ -334,16 +335,16 @@ app_writes nodes row can =
     let word = value.is.3.0 in
     pair_writes (shaped value (λ words. IsAppValue words (written_app nodes row)) (word ∷ Punctuation Comma ∷ [], value.is.1, value.is.2 ∙ ap (λ (first : List Word). first ++ Punctuation Comma ∷ value.is.1) value.is.3.1, inr (word, refl, value.is.3.2), value.is.4)) row.name can.name
 
-ban_writes : (row : AppRow) → All IsQuotable row.name → Writes 3 (λ words. IsPermission words (ban row)) (ban_text row.name)
+ban_writes : (row : AppRow) → All IsQuotable row.name → Writes 3 (λ words. IsPermission words (ban row)) (forbidden_text row.name)
 ban_writes row can = pair_writes (name_writes 2 (codes "false") (bare_quotable (codes "false") refl)) row.name can
 
 names_write : (name : List ℕ) → All IsQuotable name → (nodes : List NodeRow) → Each (All IsQuotable) (map (λ node. node.name) nodes)
     → Writes 5 (IsPair name (λ words. IsListOf IsNode words (map (λ node. node.name) nodes))) (pair_text (name_text name) (list_text (map (λ node. name_text node.name) nodes)))
 names_write name quotable nodes can = pair_writes (listed_writes 3 IsNode (λ (node : NodeRow). node.name) (λ node. name_text node.name) (All IsQuotable) (λ node quotable. name_writes 3 node.name quotable) nodes can) name quotable
 
--- a parameter, with that of the wait behind it
+-- a parameter, followed by that of the wait
 wait_writes : (param : Param) (text : List ℕ) (wait : SyncWait) → Writes 5 (λ words. IsParam words param) text → Each CanSpell (wait_params wait)
-    → Writes 5 (λ words. Parted IsParam words (param ∷ wait_params wait)) (text ++ parted_behind (codes ",") (wait_texts wait))
+    → Writes 5 (λ words. Parted IsParam words (param ∷ wait_params wait)) (text ++ separated_after (codes ",") (wait_texts wait))
 wait_writes param text NoSync w can = alone w
 wait_writes param text Forever w can = comma_writes w (alone (pair_writes (name_writes 4 (codes "infinity") (bare_quotable (codes "infinity") refl)) (codes "sync_nodes_timeout") (bare_quotable (codes "sync_nodes_timeout") refl)))
 wait_writes param text (Ms n) w can = comma_writes w (alone (pair_writes (number_writes 4 n can.0) (codes "sync_nodes_timeout") (bare_quotable (codes "sync_nodes_timeout") refl)))
@@ -351,7 +352,7 @@ wait_writes param text (Ms n) w can = comma_writes w (alone (pair_writes (number
 params_write : (table : Table) → Each CanSpell (params_of table) → Writes 5 (λ words. Parted IsParam words (params_of table)) (parted (param_texts table))
 params_write table can =
     let apps = pair_writes (listed_writes 3 IsApp (written_app table.nodes) (app_text table.nodes) CanSpellApp (app_writes table.nodes) table.apps can.0) (codes "distributed") (bare_quotable (codes "distributed") refl) in
-    let bans = pair_writes (listed_writes 3 IsPermission ban (λ row. ban_text row.name) (λ permission. All IsQuotable permission.name) ban_writes (filter (λ app. not app.permission) table.apps) can.1.0) (codes "permissions") (bare_quotable (codes "permissions") refl) in
+    let bans = pair_writes (listed_writes 3 IsPermission ban (λ row. forbidden_text row.name) (λ permission. All IsQuotable permission.name) ban_writes (filter (λ app. not app.permission) table.apps) can.1.0) (codes "permissions") (bare_quotable (codes "permissions") refl) in
     let mandatory = names_write (codes "sync_nodes_mandatory") (bare_quotable (codes "sync_nodes_mandatory") refl) (filter (λ node. node.mandatory) table.nodes) can.1.1.0 in
     let optional = names_write (codes "sync_nodes_optional") (bare_quotable (codes "sync_nodes_optional") refl) (filter (λ node. node.optional) table.nodes) can.1.1.1.0 in
     let optional_names = map (λ (node : NodeRow). node.name) (filter (λ (node : NodeRow). node.optional) table.nodes) in
@@ -370,7 +371,7 @@ file_written table can =
       subst (λ (ws : List Word). IsFile ws (Kernel (params_of table) ∷ [])) (sym (words_located 0 words)) (file.words, refl, file.is),
     )
 
--- ---- what a text says can be spelled: its names by their bytes, and its numbers below 2 ^ 32
+-- ---- a text's draft can be spelled: its names by their bytes, and its numbers below 2 ^ 32
 
 abbrev Quotes : Word → Type 0
 Quotes (Name name) = All IsQuotable name
@@ -404,7 +405,7 @@ some_of : {A : Type 0} (Is : List Word → A → Type 0) (words : List Word) (xs
 some_of Is words [] h = absurd h
 some_of Is words (x ∷ xs) h = omega arith
 
--- of a pair, its name and the words of its value
+-- the name of a pair, and the words of its value
 pair_spells : (name : List ℕ) (IsValue : List Word → Type 0) (words : List Word) → Each Quotes words → (h : IsPair name IsValue words) → All IsQuotable name × Each Quotes h.0
 pair_spells name IsValue words quotes h =
     let parts : Each Quotes (Punctuation OpenTuple ∷ Name name ∷ Punctuation Comma ∷ (h.0 ++ Punctuation CloseTuple ∷ [])) = subst (Each Quotes) h.1 quotes in
@@ -471,7 +472,7 @@ params_spell [] h = tt
 params_spell (Kernel params ∷ sections) h = each_append CanSpell params (params_in sections) h.0 (params_spell sections h.1)
 params_spell (Section.Other ∷ sections) h = params_spell sections h.1
 
--- what the tokens of a file say can be spelled
+-- the sections of a file can be spelled
 pub file_spells : (bytes : List ℕ) (tokens : List Located) (sections : List Section) → AreSpelled 0 bytes tokens → IsFile (map (λ t. t.word) tokens) sections → Each CanSpell (params_in sections)
 file_spells bytes tokens sections spelled h =
     let parts : Each Quotes (h.0 ++ Punctuation FullStop ∷ []) = subst (Each Quotes) h.1 (tokens_quote 0 bytes tokens spelled) in

@@ -1,4 +1,4 @@
--- From what a text says, by names, to the tables of a configuration, by numbers.
+-- From the contents of a text, with names, to the table of a configuration, with numbers.
 use Rattle.std.specs.Prelude.{ℕ, ◌+◌, Bool, true, List, [], ◌∷◌, map, fold, if◌then◌else◌}
 use Rattle.std.specs.declared.cmp.Ordering.{Ordering}
 use Rattle.std.specs.Ordering.{nat_cmp}
@@ -17,24 +17,25 @@ name_cmp a b = slice_cmp nat_cmp a b
 abbrev pub in_byte_order : List (List ℕ) → List (List ℕ)
 in_byte_order names = fold (insert_key name_cmp) [] names
 
--- the numbers of those nodes that a group names, where the first of the nodes has this number
+-- the numbers of the nodes that a group contains, given the number of the first of these nodes
 abbrev pub numbers_from : ℕ → List NodeRow → List (List ℕ) → List ℕ
 numbers_from number [] group = []
 numbers_from number (node ∷ nodes) group =
     if is_among node.name group then number ∷ numbers_from (number + 1) nodes group
     else numbers_from (number + 1) nodes group
 
--- a node by its name
+-- the row of the node with this name
 abbrev pub numbered_node : Written → List ℕ → NodeRow
 numbered_node w name =
     record { name = name; mandatory = is_among name w.mandatory; optional = is_among name w.optional }
 
--- whether an application of this name is permitted: as the first of these permissions of its name says, or else so
+-- whether an application of this name is permitted: by the first of these permissions of its name, or true if there is
+-- none
 abbrev pub permitted : List Permission → List ℕ → Bool
 permitted [] name = true
 permitted (permission ∷ permissions) name = if bytes_eq permission.name name then permission.value else permitted permissions name
 
--- an application, with these permissions, and with numbers for the names of these nodes
+-- the row of an application, given these permissions, with numbers for the names of these nodes
 abbrev pub numbered_app : List Permission → List NodeRow → App → AppRow
 numbered_app permissions nodes app = record {
   name = app.name;
@@ -47,7 +48,7 @@ numbered_app permissions nodes app = record {
 abbrev pub numbered_nodes : Written → List NodeRow
 numbered_nodes w = map (numbered_node w) (in_byte_order w.nodes)
 
--- the configuration that a text says
+-- the configuration of a draft
 abbrev pub numbered : Written → Table
 numbered w = record {
   nodes = numbered_nodes w;

@@ -1,4 +1,4 @@
--- What it means that a text says a configuration, whatever a reader does.
+-- Which configuration a text spells. It refers to no reader.
 use Rattle.std.specs.Prelude.{◌≡◌, ◌⊎◌, ℕ, ◌<◌, ◌≤◌, Bool, true, false, List, length, ◌∷◌, ◌++◌, map, Option, None, Some, slice_get, ◌==◌, All}
 use Rattle.std.specs.Ordering.{nat_cmp}
 use Rattle.std.specs.List.{list_any, AllZip}
@@ -11,12 +11,12 @@ use Rattle.dac_shapes.specs.Within.{IsWithinLimits}
 use Rattle.dac_config.specs.Table.{NodeRow, AppRow, Table, node_count, app_count}
 use Rattle.dac_config.specs.Numbering.{name_cmp}
 
--- whether there is a node, and the group names it
+-- whether the node exists and the group contains it
 abbrev pub is_named : List (List ℕ) → Option NodeRow → Bool
 is_named group None = false
 is_named group (Some node) = is_among node.name group
 
--- the numbers, rising, are those of the nodes that the group names
+-- the numbers, in ascending order, are those of the nodes that the group contains
 pub record IsGroup (nodes : List NodeRow) (group : List (List ℕ)) (numbers : List ℕ) : Type 0 where
   pub rising : IsStrictlySortedBy nat_cmp numbers
   pub members : (number : ℕ) → list_any (λ other. other == number) numbers ≡ is_named group (slice_get nodes number)
@@ -25,21 +25,21 @@ pub record IsGroup (nodes : List NodeRow) (group : List (List ℕ)) (numbers : L
 abbrev pub IsUnmentioned : List Permission → List ℕ → Type 0
 IsUnmentioned permissions name = is_among name (map (λ p. p.name) permissions) ≡ false
 
--- this is what the first permission of the name says; with none, that the application is permitted
+-- the value of the name's first permission, or true if there is none
 abbrev pub IsDefaultPermission : List Permission → List ℕ → Bool → Type 0
 IsDefaultPermission permissions name value =
     ((before after : List Permission) × (permissions ≡ before ++ record { name = name; value = value } ∷ after) × IsUnmentioned before name)
     ⊎ (IsUnmentioned permissions name × (value ≡ true))
 
--- an application keeps its name and its timeout, and its groups in their order
+-- a row has the application's name, timeout, groups in order, and default permission
 pub record IsApp (permissions : List Permission) (nodes : List NodeRow) (app : App) (row : AppRow) : Type 0 where
   pub name : row.name ≡ app.name
   pub timeout : row.timeout ≡ app.timeout
   pub groups : AllZip (IsGroup nodes) app.groups row.groups
   pub permission : IsDefaultPermission permissions app.name row.permission
 
--- The tables say by numbers what is written by names. The nodes are those that are named, in the byte order of their
--- names. The applications stand in the order of the text.
+-- The table has numbers for the names of the draft: its nodes are those of the draft, in byte order of their names, and
+-- its applications are in the order of the text.
 pub record IsTableOf (w : Written) (table : Table) : Type 0 where
   pub rising : IsStrictlySortedBy name_cmp (map (λ node. node.name) table.nodes)
   pub nodes : (name : List ℕ) → is_among name (map (λ node. node.name) table.nodes) ≡ is_among name w.nodes
@@ -48,17 +48,17 @@ pub record IsTableOf (w : Written) (table : Table) : Type 0 where
   pub apps : AllZip (IsApp w.permissions table.nodes) w.apps table.apps
   pub sync_wait : table.sync_wait ≡ w.sync_wait
 
--- the text is spelled by the grammar, and the tables say what is written in it
+-- the grammar assigns a draft to the text, and the table is that of the draft
 pub record IsConfigOf (text : List ℕ) (table : Table) : Type 0 where
   pub written : Written
   pub spelled : IsTextOf text written
   pub numbers : IsTableOf written table
 
--- some text says this configuration, and what is written in it keeps the limits
+-- some text spells this configuration, with a draft that keeps the limits
 pub data IsSaid (table : Table) : Type 0 where
   By : (text : List ℕ) (is : IsConfigOf text table) → IsWithinLimits is.written → IsSaid table
 
--- what holds of each configuration: its limits, that its groups are of nodes that there are, and that some text says it
+-- the invariant of each configuration: its limits, groups of existing nodes only, and a text that spells it
 pub record IsTable (table : Table) : Type 0 where
   pub nodes : node_count table ≤ MAX_NODES
   pub apps : app_count table ≤ MAX_APPS

@@ -1,4 +1,4 @@
-//! The tables of a configuration and its readers.
+//! The tables of a configuration, and their readers.
 ghost use Rattle.std.specs.Prelude.{◌≡◌, ◌<◌, ◌≤◌, Some, slice_get, length, All, IfOk};
 ghost use Rattle.dac_config.specs.Table.{node_count, app_count};
 
@@ -27,19 +27,19 @@ struct Node {
 struct App {
     timeout: u32,
     groups: Vec<Vec<u8>>,
-    /// By the number of a node, the place of its group, or MAX_NODES where no group has it.
+    /// For each node number, the index of its group, or MAX_NODES if no group contains the node.
     places: Vec<u8>,
     permission: bool,
 }
 
-/// The tables of a configuration. They never change, so copies of it share them.
+/// The tables of a configuration. They never change, so that its copies share them.
 struct Tables {
     nodes: Vec<Node>,
     apps: IndexMap<Vec<u8>, App>,
     sync_wait: SyncWait,
 }
 
-/// Written out: a drop is one call for a proof, wherever it stands.
+/// Written by hand, so that each drop is a single call in proofs.
 impl Drop for Tables {
     fn drop(self) {
         let Tables {
@@ -50,15 +50,15 @@ impl Drop for Tables {
     }
 }
 
-/// A configuration: what all controllers of a cluster agree on before they start.
+/// A configuration: the data that all controllers of a cluster share from the start.
 ///
-/// A node's number is its place among the names of all nodes in byte order. An application's number is its place in
-/// the file. Both begin with 0. A copy costs as much as a pointer.
+/// A node's number is its index among the names of all nodes in byte order, an application's its index in the file;
+/// both count from 0. A copy costs as much as a pointer.
 pub struct Config {
     tables: Arc<Tables, Global>,
 }
 
-/// Written out: a drop is one call for a proof, wherever it stands.
+/// Written by hand, so that each drop is a single call in proofs.
 impl Drop for Config {
     fn drop(self) {
         let Config { tables: _tables } = self;
@@ -85,7 +85,7 @@ impl Config {
     ghost use Rattle.dac_config.specs.Says.{IsConfigOf};
     ghost use Rattle.dac_config.specs.Mark.{fnv1a};
 
-    /// The tables.
+    /// The tables, which copies share.
     fn tables(&self) -> &Tables
         ensures view { table_of result.now ≡ self.now }
         ensures kept { IsKept result.now }
@@ -93,7 +93,7 @@ impl Config {
         &self.tables
     }
 
-    /// How many nodes there are.
+    /// The number of nodes, at most 64.
     pub fn nodes(&self) -> u8
         ensures count { result ≡ node_count self.now }
         ensures few { result ≤ MAX_NODES }
@@ -101,11 +101,11 @@ impl Config {
         self.tables().nodes.len() as u8
     }
 
-    /// How many applications there are.
+    /// The number of applications, at most 64.
     pub fn apps(&self) -> u16
         ensures count { result ≡ app_count self.now }
         ensures few { result ≤ MAX_APPS }
-        // Each has few groups, and they are of nodes that there are.
+        // Each application has few groups, whose members are nodes of this configuration.
         ensures groups { All (λ app. length app.groups ≤ MAX_NODES) self.now.apps }
         ensures members { All
             (λ app. All (λ group. All (λ node. node < node_count self.now) group) app.groups)
@@ -114,7 +114,6 @@ impl Config {
         self.tables().apps.len() as u16
     }
 
-    /// What is kept of a node.
     fn node(&self, node: NodeId) -> &Node
         requires { node.0 < node_count self.now }
         ensures { slice_get self.now.nodes node.0 ≡ Some (node_row result.now) }
@@ -130,7 +129,7 @@ impl Config {
         &self.node(node).name
     }
 
-    /// The name of an application, and what is kept of it.
+    /// The name of an application and its row.
     fn entry(&self, app: AppId) -> (&[u8], &App)
         requires { app.0 < app_count self.now }
         ensures row { slice_get self.now.apps app.0 ≡ Some (named_row result.0.now result.1.now) }
@@ -148,7 +147,7 @@ impl Config {
         self.entry(app).0
     }
 
-    /// The node with this name, if there is one.
+    /// The node with this name, or `None`.
     pub fn node_named(&self, name: &[u8]) -> Option<NodeId>
         ensures { result ≡ node_named self.now name.now }
     {
@@ -161,7 +160,7 @@ impl Config {
         None
     }
 
-    /// The application with this name, if there is one.
+    /// The application with this name, or `None`.
     pub fn app_named(&self, name: &[u8]) -> Option<AppId>
         ensures { result ≡ app_named self.now name.now }
     {
@@ -169,9 +168,9 @@ impl Config {
         Some(AppId(at as u16))
     }
 
-    /// The group that has the node in the application's list, 0 for the most preferred one, or `None`
-    /// where the list lacks the node. After OTP's kernel manual, parameter `distributed`: the list names
-    /// nodes and tuples of nodes in priority order.
+    /// The group of the node in the application's list, 0 for the most preferred one, or `None` if the list doesn't
+    /// contain the node. By OTP's kernel manual, parameter `distributed`, the list contains nodes and tuples of nodes
+    /// in order of priority.
     pub fn group_of(&self, app: AppId, node: NodeId) -> Option<u16>
         requires { app.0 < app_count self.now }
         ensures { result ≡ group_of self.now app node }
@@ -185,7 +184,7 @@ impl Config {
         }
     }
 
-    /// How long a failover of the application waits, in milliseconds: 0 where the file gives no time.
+    /// The failover timeout of the application, in milliseconds; 0 if the file has none.
     pub fn timeout(&self, app: AppId) -> u32
         requires { app.0 < app_count self.now }
         ensures { result ≡ timeout_of self.now app }
@@ -193,8 +192,8 @@ impl Config {
         self.entry(app).1.timeout
     }
 
-    /// Whether a starting node waits for this node and gives up without it, after OTP's kernel manual,
-    /// parameter `sync_nodes_mandatory`.
+    /// Whether a starting node waits for this node and gives up without it (OTP's kernel manual, parameter
+    /// `sync_nodes_mandatory`).
     pub fn mandatory(&self, node: NodeId) -> bool
         requires { node.0 < node_count self.now }
         ensures { result ≡ is_mandatory self.now node }
@@ -202,8 +201,8 @@ impl Config {
         self.node(node).mandatory
     }
 
-    /// Whether a starting node waits for this node and goes on without it, after OTP's kernel manual,
-    /// parameter `sync_nodes_optional`.
+    /// Whether a starting node waits for this node and continues without it (OTP's kernel manual, parameter
+    /// `sync_nodes_optional`).
     pub fn optional(&self, node: NodeId) -> bool
         requires { node.0 < node_count self.now }
         ensures { result ≡ is_optional self.now node }
@@ -218,8 +217,8 @@ impl Config {
         self.tables().sync_wait
     }
 
-    /// Whether the application is permitted at a node where no one has said, after OTP's kernel manual, parameter
-    /// `permissions`.
+    /// Whether the application is permitted at a node until a command changes this (OTP's kernel manual, parameter
+    /// `permissions`).
     pub fn default_permission(&self, app: AppId) -> bool
         requires { app.0 < app_count self.now }
         ensures { result ≡ default_permission self.now app }
@@ -227,12 +226,12 @@ impl Config {
         self.entry(app).1.permission
     }
 
-    /// The one text of this configuration: a line that reads as this configuration, with every timeout. It has no spaces
-    /// outside of names. The nodes of a tuple and those to wait for stand in the order of their names. It can have more bytes
-    /// than the text that was read, and then be too long to be read itself. [`NoMemory`] is the only error.
+    /// The canonical text of this configuration: a line that is read as an equal configuration and contains every
+    /// timeout. It has no spaces outside names. The nodes of a tuple and of a sync list are ordered by name. It can be
+    /// longer than the original text, and even too long to be read.
     pub fn canonical_text(&self) -> Result<Vec<u8>, NoMemory>
         ensures bytes { IfOk result (λ text. text.items ≡ canonical_text self.now) }
-        // What is written is read again as an equal configuration, where it isn't too long to be read.
+        // The text is read again as an equal configuration, unless it is too long.
         ensures read_again { IfOk result
             (λ text. length text.items ≤ MAX_TEXT → IsConfigOf text.items self.now) }
     {
@@ -241,8 +240,8 @@ impl Config {
         text.finish()
     }
 
-    /// A number that stands for the configuration: the 64-bit FNV-1a value of its canonical text. Two
-    /// configurations of one mark aren't told apart.
+    /// The fingerprint of the configuration: the 64-bit FNV-1a hash of its canonical text. It doesn't distinguish
+    /// configurations with equal hashes.
     pub fn mark(&self) -> u64
         ensures { result ≡ fnv1a (canonical_text self.now) }
     {
@@ -251,7 +250,7 @@ impl Config {
         mark.value
     }
 
-    /// An equal configuration, which shares the tables. [`NoMemory`] is the only error.
+    /// A copy that shares the tables.
     pub fn copy(&self) -> Result<Config, NoMemory>
         ensures { IfOk result (λ copy. copy ≡ self.now) }
     {

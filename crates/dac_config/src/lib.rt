@@ -1,9 +1,12 @@
-//! The configuration that all controllers of a cluster share. It has the nodes, the distributed applications with
-//! their groups of nodes, and how long a starting node waits for the others.
+//! The configuration that all controllers of a cluster share: the nodes, the distributed applications with their groups
+//! of nodes, and how long a starting node waits for the others.
 //!
-//! A configuration is read from the text of an Erlang configuration file, whose section `kernel` has
-//! OTP's parameters for distributed applications. From then on nodes and applications are numbers, and
-//! every reader of the configuration answers without memory. Contracts see a configuration as a `Table`.
+//! A configuration is read from the text of an Erlang configuration file, whose section `kernel` contains OTP's
+//! parameters for distributed applications. Afterwards nodes and applications are numbers. Contracts see a
+//! configuration as a `Table`.
+//!
+//! Functions that don't return a `Result` allocate nothing. [`NoMemory`] is the only error of those that return
+//! `Result<_, NoMemory>`, and leaves their arguments unchanged unless a function documents otherwise.
 #![tactic(auto)]
 
 mod config;

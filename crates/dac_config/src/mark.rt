@@ -1,24 +1,24 @@
-//! The mark of a text.
+//! The fingerprint of a text.
 
 ghost use Rattle.std.specs.Prelude.{◌≡◌, []};
 ghost use Rattle.dac_config.specs.Mark.{mix_byte, fnv1a};
 
 use crate::sink::Sink;
 
-/// The offset basis of 64-bit FNV-1a: the value of no bytes.
+/// The offset basis of 64-bit FNV-1a: the hash of no bytes.
 const NO_BYTES: u64 = 14695981039346656037;
 
 /// The prime of 64-bit FNV-1a.
 const FACTOR: u64 = 1099511628211;
 
-/// One more byte.
+/// The hash after one more byte.
 fn mix_byte(mark: u64, byte: u8) -> u64
     ensures { result ≡ mix_byte mark byte }
 {
     (mark ^ u64::from(byte)).wrapping_mul(FACTOR)
 }
 
-/// The 64-bit FNV-1a value of the bytes that it took, which keeps none of them.
+/// A sink that computes the 64-bit FNV-1a hash of its bytes and stores none of them.
 #[derive(Drop)]
 pub(crate) struct Mark {
     pub value: u64,

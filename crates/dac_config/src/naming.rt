@@ -1,4 +1,4 @@
-//! Names of nodes and applications, as Erlang writes atoms.
+//! Names of nodes and applications, written as Erlang atoms.
 
 ghost use Rattle.std.specs.Prelude.{◌≡◌, ◌↔◌, ◌++◌, IfOk, OnOk, IsTrue, codes};
 ghost use Rattle.std.specs.List.{list_all};
@@ -32,18 +32,17 @@ fn all_name_bytes(name: &[u8]) -> bool
     name.iter().all(is_name_byte)
 }
 
-/// Whether the name is an atom without quotes: a small letter and further letters, digits, `_` and `@`, and
-/// not the word `fun`.
+/// Whether the name is an atom without quotes: a small letter followed by letters, digits, `_` and `@`, except `fun`.
 #[tactic(auto, using(crate::proofs::Writes::tells_bare))]
 pub fn is_bare(name: &[u8]) -> bool
     ensures value { result ≡ is_bare name.now }
-    // by the grammar of tokens too
+    // the grammar of tokens agrees
     ensures atom { IsTrue result ↔ IsBareAtom name.now }
 {
     begins_small(name) && name != b"fun".as_slice() && all_name_bytes(name)
 }
 
-/// What stands before and behind a name that is printed: nothing where the name is an atom, else a quote.
+/// The quote before and after a printed name: empty if the name is an atom without quotes.
 fn quote_of(name: &[u8]) -> &'static [u8]
     ensures { name_text name.now ≡ result.now ++ (name.now ++ result.now) }
 {
@@ -54,7 +53,7 @@ fn quote_of(name: &[u8]) -> &'static [u8]
     }
 }
 
-/// Puts a name between quotes behind a text.
+/// Appends a name between quotes.
 fn put_quoted_name(text: &mut Vec<u8>, name: &[u8]) -> Result<(), NoMemory>
     ensures { OnOk result
         (text.new.items ≡ text.old.items ++ (codes "'" ++ (name.now ++ codes "'"))) }
@@ -65,8 +64,8 @@ fn put_quoted_name(text: &mut Vec<u8>, name: &[u8]) -> Result<(), NoMemory>
     Ok(())
 }
 
-/// Puts a name behind a text as the program prints it: bare where that is an atom, else between quotes.
-/// [`NoMemory`] is the only error.
+/// Appends a name as the program prints it: bare if that is an atom, otherwise between quotes. A call that fails can
+/// have appended a part of it.
 pub fn put_printed_name(text: &mut Vec<u8>, name: &[u8]) -> Result<(), NoMemory>
     ensures { OnOk result (text.new.items ≡ text.old.items ++ name_text name.now) }
 {
@@ -76,7 +75,7 @@ pub fn put_printed_name(text: &mut Vec<u8>, name: &[u8]) -> Result<(), NoMemory>
     Ok(text.extend_from_slice(name)?)
 }
 
-/// A name as the program prints it. [`NoMemory`] is the only error.
+/// A name as the program prints it.
 pub fn printed_name(alloc: Global, name: &[u8]) -> Result<Vec<u8>, NoMemory>
     ensures { IfOk result (λ text. text.items ≡ name_text name.now) }
 {
@@ -85,7 +84,7 @@ pub fn printed_name(alloc: Global, name: &[u8]) -> Result<Vec<u8>, NoMemory>
     Ok(text)
 }
 
-/// Puts a name as the program prints it behind what a place took before.
+/// Writes a name to a sink as the program prints it.
 pub(crate) fn put_name<S: Sink>(sink: &mut S, name: &[u8])
     ensures { Gains S.holds sink.old sink.new (name_text name.now) }
 {

@@ -1,4 +1,4 @@
-//! A configuration from its text.
+//! Reads a configuration text.
 ghost use Rattle.std.specs.Prelude.{◌≡◌, ◌≢◌, IfErr, IfOk, MatchResult};
 ghost use Rattle.dac_tokens.specs.declared.fault.FaultKind.TheVariants.{NoMemory};
 ghost use Rattle.dac_tokens.specs.Gives.{Gives};
@@ -12,24 +12,26 @@ use dac_first_fault::read_draft;
 use dac_tokens::ConfigFault;
 use std::alloc::Global;
 
-/// The configuration that a text says, or the first fault of the text, in the order of the text.
+/// Reads a configuration from its text.
 ///
-/// The text is a file of Erlang terms as OTP's command line flag `-config` takes it. Its section `kernel` has the
-/// parameters `distributed`, `permissions`, `sync_nodes_mandatory`, `sync_nodes_optional` and `sync_nodes_timeout` of
-/// OTP's kernel manual. Other sections and other parameters are parsed and ignored. Nodes are all names in its node
-/// lists and in both sync lists. Of two permissions for one application the first stands, and one for an application
-/// that isn't listed is ignored.
+/// The text is a file of Erlang terms, as OTP's command line flag `-config` accepts it. Its section `kernel` contains
+/// the parameters `distributed`, `permissions`, `sync_nodes_mandatory`, `sync_nodes_optional` and `sync_nodes_timeout`
+/// of OTP's kernel manual. Other sections and parameters are parsed and ignored. The nodes are all names in node lists
+/// and sync lists. Of several permissions for one application the first counts, and one for an application that isn't
+/// listed is ignored.
 ///
-/// A fault's offset counts bytes from 0. Where memory is refused, the answer is `NoMemory` at 0.
+/// # Errors
+///
+/// The first fault in text order, with its offset in bytes from 0, or `NoMemory` with offset 0.
 pub fn read_config(alloc: Global, text: &[u8]) -> Result<Config, ConfigFault>
-    // What is read is spelled so.
+    // The text spells the returned configuration.
     ensures found { IfOk result (λ config. IsConfigOf text.now config) }
-    // What is spelled so is read, unless memory ran out.
+    // Any configuration that the text spells is returned, unless memory runs out.
     ensures only { (table : Table) → IsConfigOf text.now table
         → MatchResult result (λ config. config ≡ table) (λ fault. fault.kind ≡ NoMemory) }
-    // Which fault it is, unless memory ran out.
+    // The definition determines the fault, unless memory runs out.
     ensures exact { Gives (λ config. config) result (config_at text.now) }
-    // The law of the first fault admits it, and no other fault of this text.
+    // The law of the first fault admits this fault, and no other of this text.
     ensures first { IfErr result (λ fault. fault.kind ≢ NoMemory → IsFaultOf text.now fault) }
     ensures memory { IfErr result (λ fault. fault.kind ≡ NoMemory → fault.at ≡ 0) }
 {

@@ -1,4 +1,4 @@
-//! Where a text goes, piece by piece.
+//! Destinations of a text that is written in pieces.
 
 ghost use Rattle.std.specs.Prelude.{ℕ, List, IfOk};
 ghost use Rattle.dac_config.specs.Sinks.{Gains, IsWritten, HasText};
@@ -6,16 +6,16 @@ ghost use Rattle.dac_config.specs.Sinks.{Gains, IsWritten, HasText};
 use dac_base::NoMemory;
 use std::alloc::Global;
 
-/// A place that takes a text piece by piece.
+/// A destination of a text that is written in pieces.
 pub(crate) trait Sink {
     ghost holds: { Self → List ℕ → Type 0 };
 
-    /// Takes the bytes, behind those that it took before.
+    /// Appends the bytes.
     fn put(&mut self, bytes: &[u8])
         ensures { Gains holds self.old self.new bytes.now };
 }
 
-/// A text that is written piece by piece. Where memory ran out it takes no more, and says so at the end.
+/// A text that is written in pieces. Once memory runs out it ignores further pieces, and [`Text::finish`] fails.
 #[derive(Drop)]
 pub(crate) struct Text {
     bytes: Vec<u8>,
@@ -34,7 +34,7 @@ impl Text {
         }
     }
 
-    /// The text, where all of it was taken.
+    /// Returns the text if it is complete.
     pub fn finish(self) -> Result<Vec<u8>, NoMemory>
         ensures { IfOk result (HasText self) }
     {

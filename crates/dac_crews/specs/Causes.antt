@@ -3,7 +3,7 @@ use Rattle.std.specs.Prelude.{Bool, true, false}
 use Rattle.dac_workers.specs.declared.faults.RunFault.{RunFault}
 use Rattle.dac_workers.specs.declared.faults.RunFault.TheVariants as fault
 
--- A fault is why others have theirs. All are but a lost link: whoever is at its other end dropped it at a fault of its own.
+-- A fault is a cause, unless it is a lost link: the worker at the other end dropped it because of a fault of its own.
 abbrev pub is_cause : RunFault → Bool
 is_cause fault.TooManyNodes = true
 is_cause fault.NoThread = true

@@ -1,4 +1,4 @@
-//! What the threads of a run share, and those of one of its sites.
+//! The data that the workers of a run share, and those of one of its sites.
 
 use crate::phases::{Line, Phase};
 use dac_base::NodeId;
@@ -6,7 +6,7 @@ use dac_config::Config;
 use dac_workers::{Site, SiteName, Watch};
 use std::alloc::Global;
 
-/// What all threads share.
+/// The data that all workers share.
 #[derive(Drop)]
 pub(crate) struct Shared<'a, H: Watch> {
     pub(crate) alloc: Global,
@@ -16,7 +16,7 @@ pub(crate) struct Shared<'a, H: Watch> {
     pub(crate) nodes: u8,
 }
 
-/// What those of a site share.
+/// A worker's assignment: its node, the site, and the run's phases. The workers of a site share it.
 #[derive(Drop)]
 pub(crate) struct Assignment<'a, L: SiteName> {
     pub(crate) alloc: Global,
@@ -27,7 +27,7 @@ pub(crate) struct Assignment<'a, L: SiteName> {
 }
 
 impl<'a, L: SiteName> Assignment<'a, L> {
-    /// At the site of this node.
+    /// The assignment to this node's site.
     pub(crate) fn at<H: Watch>(shared: &Shared<'a, H>, node: NodeId, site: &'a Site<L>) -> Self {
         Assignment {
             alloc: shared.alloc,
@@ -38,7 +38,7 @@ impl<'a, L: SiteName> Assignment<'a, L> {
         }
     }
 
-    /// The lines of a phase. There are none in a phase that there isn't.
+    /// The lines of a phase, or none if there is no such phase.
     pub(crate) fn lines_in(&self, phase: usize) -> &'a [Line] {
         match self.phases.get(phase) {
             Some(phase) => phase.lines.as_slice(),

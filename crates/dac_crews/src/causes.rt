@@ -5,8 +5,8 @@ ghost use Rattle.dac_crews.specs.Causes.{is_cause};
 
 use dac_workers::RunFault;
 
-/// Whether a fault is why others have theirs. A lost link is none: a thread that ends at its own fault drops its ends of links, and
-/// the threads at their other ends find them lost.
+/// Returns whether a fault is a cause. A lost link isn't, because a worker that fails for its own reason drops its ends
+/// of links, and the workers at their other ends then find them lost.
 pub(crate) fn is_cause(fault: &RunFault) -> bool
     ensures { result ≡ is_cause fault.now }
 {

@@ -1,4 +1,4 @@
-//! How sites end.
+//! Closing the sites of a run.
 
 ghost use Rattle.std.specs.Prelude.{◌≡◌};
 
@@ -11,17 +11,16 @@ use dac_workers::{Closed, Page, PageReader, RunFault, Seat, Site, SiteName, Watc
 use std::alloc::Global;
 use std::sync::Wait;
 
-/// What the run leaves to a site, and to those that were opened before it.
+/// A site's seats after the run, the workers of the sites opened before it, and the outcome so far.
 #[derive(Drop)]
 pub(crate) struct Back<L: SiteName, W> {
-    /// The site's seats.
     pub(crate) seats: Vec<Seat<L>>,
-    /// The workers of the others.
+    /// The workers of the sites opened before it.
     pub(crate) rest: Vec<W>,
     pub(crate) outcome: Outcome,
 }
 
-/// A seat goes behind the list, and what its caller read behind the other one.
+/// Puts a worker's seat and a caller's reads into the lists.
 fn put_back<L: SiteName, H: Watch>(
     node: NodeId,
     task: Task<'_, L, H>,
@@ -41,7 +40,7 @@ fn put_back<L: SiteName, H: Watch>(
     Ok(())
 }
 
-/// All seats of the site's tasks, which stand behind the other workers. What its callers read goes behind the outcome's list.
+/// Takes back this site's seats from its tasks, which follow the other workers, and adds the reads to the outcome.
 pub(crate) fn back_of<L: SiteName, H: Watch, W: Drop>(
     alloc: Global,
     node: NodeId,
@@ -60,14 +59,14 @@ pub(crate) fn back_of<L: SiteName, H: Watch, W: Drop>(
     })
 }
 
-/// Ends a site whose tasks are lost.
+/// Ends a site that can't return its journal, because its seats are lost with its workers.
 fn shut<L: SiteName, R: Wait>(rt: &R, alloc: Global, site: Site<L>)
     requires { L.seats ≡ L.parts }
 {
     let _ = site.close(rt, Vec::new(alloc));
 }
 
-/// The page that is read last.
+/// The final page, read by the reader kept for it.
 fn last_page<L: SiteName>(node: NodeId, last: Option<PageReader<L>>) -> Result<Page, RunFault> {
     match last {
         Some(mut reader) => match reader.read() {
@@ -78,7 +77,7 @@ fn last_page<L: SiteName>(node: NodeId, last: Option<PageReader<L>>) -> Result<P
     }
 }
 
-/// Closes the site of a node: its journal and its final page go behind the lists.
+/// Closes the site of a node, and adds its journal and its final page to the outcome.
 fn close<L: SiteName, R: Wait>(
     rt: &R,
     node: NodeId,
@@ -99,7 +98,7 @@ fn close<L: SiteName, R: Wait>(
     Ok(())
 }
 
-/// Ends the site of a node when the run has left it.
+/// Ends the site of a node after the run, also if the run failed.
 pub(crate) fn end_site<L: SiteName, W: Drop, H: Watch, R: Wait>(
     rt: &R,
     shared: &Shared<'_, H>,

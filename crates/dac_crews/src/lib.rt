@@ -1,8 +1,8 @@
-//! Crews of sites: up to four sites, each opened under a name of its own, with all the threads that work at it.
+//! The worker pool of a live run: up to four sites, each opened under a name of its own, with their workers.
 //!
-//! A task of a site is a caller, a shipper or a link worker. [`run_sites`] opens the sites, and hands all their tasks as one list
-//! to a run in phases. There each task that has work runs in a thread of its own, until all have ended. Then each link ships and
-//! hears once more, while no thread runs.
+//! A worker has a task at one site: caller, shipper or link worker. [`run_sites`] opens the sites and runs the workers
+//! phase by phase. In a phase each worker with work is spawned in a thread of its own, until all are joined. Then each
+//! link ships and hears once more, without threads. A failed run returns a fault and no journals.
 #![tactic(auto)]
 
 pub use dac_workers::compare::{SHIPS_OF_PHASE, are_heard, are_ships, event_of, sent_by};

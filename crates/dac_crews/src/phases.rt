@@ -1,54 +1,54 @@
-//! What a run is asked for, and what it reports.
+//! The input and the outcome of a run.
 
 use dac_base::NodeId;
 use dac_messages::Event;
 use dac_workers::{Closed, Page, Reading};
 
-/// What a caller's line asks for.
+/// The request of a caller's line.
 #[derive(Drop)]
 pub enum Ask {
-    /// Its node is asked this.
+    /// Call the node with this event.
     Do(Event),
-    /// The page of its node is read.
+    /// Read the node's page.
     Read,
 }
 
 /// A line of a caller.
 #[derive(Drop)]
 pub struct Line {
-    /// Its node.
+    /// The node that it is for.
     pub node: NodeId,
-    /// Its number, from 1 to 4.
+    /// The caller's number at the node, from 1 to 4.
     pub caller: u8,
-    /// What it asks for.
+    /// The request.
     pub what: Ask,
 }
 
-/// What the callers do before the next phase begins.
+/// The callers' lines for one phase.
 #[derive(Drop)]
 pub struct Phase {
-    /// The lines, of each caller in order.
+    /// The lines, in order for each caller.
     pub lines: Vec<Line>,
 }
 
-/// What a caller of a node read.
+/// The reads of one caller.
 #[derive(Drop)]
 pub struct Seen {
-    /// The node.
+    /// The caller's node.
     pub node: NodeId,
-    /// The caller, by its number.
+    /// The caller's number at its node, from 1 to 4.
     pub caller: u16,
-    /// Of each of its lines that reads, in order: the page, and whether it was fresh.
+    /// For each of its lines that reads, in order, the page and whether it is fresh.
     pub reads: Vec<Reading>,
 }
 
-/// What came of the phases: the journals, the final pages, and what the callers read.
+/// The outcome of a run: journals, final pages, and the callers' reads.
 #[derive(Drop)]
 pub struct Outcome {
-    /// The journal of each node, by name.
+    /// The closed journal of each node, in order of name.
     pub closed: Vec<Closed>,
-    /// The last page of each node, by name.
+    /// The final page of each node, in order of name.
     pub pages: Vec<Page>,
-    /// What each caller read.
+    /// The reads of each caller.
     pub seen: Vec<Seen>,
 }

@@ -1,32 +1,32 @@
-//! Who sits where at a site, and with which ends of links.
+//! Seats and link ends of the workers of a site.
 
 ghost use Rattle.std.specs.Prelude.{◌≡◌, IfOk, OnOk};
 ghost use Rattle.crossbeam_channel.specs.Ends.{sends_on, ruled_capacity};
 ghost use Rattle.dac_crews.specs.Rooms.{HaveRoom};
 
 use crate::assignments::{Assignment, Shared};
-use crate::tasks::{Caller, Listener, Shipper, Task};
+use crate::tasks::{Caller, LinkWorker, Shipper, Task};
 use dac_base::{NoMemory, NodeId};
 use dac_links::{LinkReceiver, LinkSender, link};
 use dac_workers::{CloseFault, PageReader, RunFault, Seat, SiteName, Watch};
 use std::alloc::Global;
 
-/// How many callers a node has.
+/// The number of callers of each node.
 pub const CALLERS: u8 = 4;
 
-/// How many letters a link holds.
+/// The number of letters that a link can hold.
 pub const ROOM: usize = 64;
 
-/// The ends of links of one node.
+/// The link ends of one node.
 #[derive(Drop)]
 pub(crate) struct LinkEnds {
-    /// To each other node, by name.
+    /// The ends of the links to each other node, in order of name.
     outs: Vec<(NodeId, LinkSender)>,
-    /// From each other node, by name.
+    /// The ends of the links from each other node, in order of name.
     ins: Vec<(NodeId, LinkReceiver)>,
 }
 
-/// The links of so many nodes: the ends of each, by name. Each link has room for 64 letters.
+/// Makes the links between this many nodes. Returns the ends for each node, in order of name.
 pub(crate) fn all_links(alloc: Global, nodes: u8) -> Result<Vec<LinkEnds>, RunFault>
     ensures { IfOk result (λ all. HaveRoom all.items) }
 {
@@ -43,7 +43,7 @@ pub(crate) fn all_links(alloc: Global, nodes: u8) -> Result<Vec<LinkEnds>, RunFa
     Ok(all)
 }
 
-/// The links from this node to each other one.
+/// Makes the links from this node to each other one.
 fn put_links_of(
     alloc: Global,
     all: &mut Vec<LinkEnds>,
@@ -61,7 +61,7 @@ fn put_links_of(
     Ok(())
 }
 
-/// A link between two nodes: its ends go to theirs.
+/// Makes a link, and gives its ends to the two nodes.
 fn put_link(
     alloc: Global,
     all: &mut Vec<LinkEnds>,
@@ -78,7 +78,7 @@ fn put_link(
     put_in(all, from, to, into)
 }
 
-/// A sender goes to the ends of the node that ships. Without them the link is lost.
+/// Gives the sending end to the node that ships, or fails with `LinkLost` if there is none.
 fn put_out(
     all: &mut Vec<LinkEnds>,
     from: NodeId,
@@ -98,7 +98,7 @@ fn put_out(
     }
 }
 
-/// A receiver goes to the ends of the node that hears. Without them the link is lost.
+/// Gives the receiving end to the node that hears, or fails with `LinkLost` if there is none.
 fn put_in(
     all: &mut Vec<LinkEnds>,
     from: NodeId,
@@ -117,7 +117,7 @@ fn put_in(
     }
 }
 
-/// The next of the seats, which stand from the last one on.
+/// Takes the next seat, the last of the list.
 fn next_seat<L: SiteName>(node: NodeId, seats: &mut Vec<Seat<L>>) -> Result<Seat<L>, RunFault> {
     match seats.pop() {
         Some(seat) => Ok(seat),
@@ -128,7 +128,7 @@ fn next_seat<L: SiteName>(node: NodeId, seats: &mut Vec<Seat<L>>) -> Result<Seat
     }
 }
 
-/// A caller on the next seat, with the next reader.
+/// A caller with the next seat and the next reader.
 fn caller_of<'a, L: SiteName>(
     assignment: &'a Assignment<'a, L>,
     seats: &mut Vec<Seat<L>>,
@@ -149,7 +149,7 @@ fn caller_of<'a, L: SiteName>(
     }
 }
 
-/// A shipper to another node, on the next seat.
+/// A shipper to another node, with the next seat.
 fn shipper_of<'a, L: SiteName>(
     assignment: &'a Assignment<'a, L>,
     seats: &mut Vec<Seat<L>>,
@@ -165,17 +165,17 @@ fn shipper_of<'a, L: SiteName>(
     })
 }
 
-/// A link worker for the other node, on the next seat. Without an end the link from there is lost.
-fn listener_of<'a, L: SiteName, H: Watch>(
+/// A link worker for the other node, with the next seat. Without a link end it fails with `LinkLost`.
+fn link_worker_of<'a, L: SiteName, H: Watch>(
     assignment: &'a Assignment<'a, L>,
     watch: &'a H,
     seats: &mut Vec<Seat<L>>,
     other: NodeId,
     end: Option<(NodeId, LinkReceiver)>,
-) -> Result<Listener<'a, L, H>, RunFault> {
+) -> Result<LinkWorker<'a, L, H>, RunFault> {
     let seat = next_seat(assignment.node, seats)?;
     match end {
-        Some((from, link)) => Ok(Listener {
+        Some((from, link)) => Ok(LinkWorker {
             assignment,
             watch,
             from,
@@ -189,7 +189,7 @@ fn listener_of<'a, L: SiteName, H: Watch>(
     }
 }
 
-/// The callers sit first, each with a reader.
+/// The callers of a site, with the first seats and a reader each.
 fn callers_of<'a, L: SiteName, H: Watch>(
     assignment: &'a Assignment<'a, L>,
     seats: &mut Vec<Seat<L>>,
@@ -203,7 +203,7 @@ fn callers_of<'a, L: SiteName, H: Watch>(
     Ok(tasks)
 }
 
-/// And then a shipper and a link worker for each other node, by name: the link workers, and the shippers.
+/// The link workers and the shippers for the other nodes, in order of name, with the seats after the callers'.
 fn link_tasks_of<'a, L: SiteName, H: Watch>(
     assignment: &'a Assignment<'a, L>,
     watch: &'a H,
@@ -217,13 +217,12 @@ fn link_tasks_of<'a, L: SiteName, H: Watch>(
     for (to, out) in outs {
         let shipper = shipper_of(assignment, seats, to, out)?;
         ships.push(Task::Ship(shipper))?;
-        let listener = listener_of(assignment, watch, seats, to, ins.pop())?;
+        let listener = link_worker_of(assignment, watch, seats, to, ins.pop())?;
         hears.push(Task::Hear(listener))?;
     }
     Ok((hears, ships))
 }
 
-/// Three lists, one behind the other.
 fn one_list<T: Drop>(
     mut all: Vec<T>,
     mut second: Vec<T>,
@@ -234,7 +233,7 @@ fn one_list<T: Drop>(
     Ok(all)
 }
 
-/// Who sits where. The callers come last, and the shippers before them, because of several causes the last one is told.
+/// The tasks of a site: link workers, shippers, callers. The last of several causes is reported, so a caller's wins.
 fn tasks_of_all<'a, L: SiteName, H: Watch>(
     assignment: &'a Assignment<'a, L>,
     watch: &'a H,
@@ -249,7 +248,7 @@ fn tasks_of_all<'a, L: SiteName, H: Watch>(
     Ok(tasks)
 }
 
-/// All tasks of a site, with the last ends that are left: the sites are opened from the last node on.
+/// The tasks of a site, with the last link ends in the list, because sites are opened from the last node to the first.
 pub(crate) fn tasks_of<'a, L: SiteName, H: Watch>(
     shared: &Shared<'a, H>,
     assignment: &'a Assignment<'a, L>,

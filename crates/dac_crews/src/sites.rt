@@ -1,8 +1,9 @@
-//! Up to four sites, each opened under a name of its own, run and ended.
+//! Opens up to four sites, each under a name of its own, runs them, and ends them.
 //!
-//! The last site is opened first and ended last. Each name has three functions of its own. `at_first` makes a blank and picks a name,
-//! `with_first` opens the site and ends it, and `run_at_first` runs what is left while the site is open: the sites of lesser names, or
-//! all workers. A run of fewer nodes begins at the site of its last one.
+//! Each node has three functions, because each name is a type parameter. `at_first` makes the blank of its site and
+//! names it. `with_first` opens the site and ends it. `run_at_first` runs all workers while the site is open;
+//! `run_at_second` and later ones open the site of the node before theirs instead. So the last node's site is opened
+//! first and ended last.
 
 ghost use Rattle.std.specs.Prelude.{◌≡◌};
 ghost use Rattle.dac_workers.specs.Sites.{IsBlankOf};
@@ -24,10 +25,11 @@ use std::marker::Brand;
 use std::sync::Wait;
 use std::thread::Threads;
 
-/// How many nodes a run may have.
+/// The maximum number of nodes of a run.
 pub const MAX_SITES: u8 = 4;
 
-/// A blank for this node.
+/// The blank of this node's site: a seat for each caller, two for each other node, and a reader for each caller and for
+/// the final page.
 fn blank_of<H: Watch, R: Wait>(
     rt: &R,
     shared: &Shared<'_, H>,
@@ -42,7 +44,6 @@ fn blank_of<H: Watch, R: Wait>(
     }
 }
 
-/// Why the workers are stopped.
 fn fault_of(stop: Stop<RunFault>) -> RunFault {
     match stop {
         Stop::NoThread => RunFault::NoThread,
@@ -51,7 +52,7 @@ fn fault_of(stop: Stop<RunFault>) -> RunFault {
     }
 }
 
-/// The workers of the other sites, and behind them the tasks of this one.
+/// The workers of the other sites, followed by the tasks of this one.
 fn with_tasks<'a, L: SiteName, H: Watch, W: Drop>(
     shared: &Shared<'a, H>,
     assignment: &'a Assignment<'a, L>,
@@ -65,7 +66,7 @@ fn with_tasks<'a, L: SiteName, H: Watch, W: Drop>(
     Ok(all)
 }
 
-/// Runs the phases with all workers. Nothing has come of it yet.
+/// Runs all phases with all workers. The outcome is still empty.
 fn run_all<W: Worker<Fault = RunFault>, H: Watch, R: Threads + Wait + Sync>(
     rt: &R,
     shared: &Shared<'_, H>,
@@ -83,7 +84,6 @@ fn run_all<W: Worker<Fault = RunFault>, H: Watch, R: Threads + Wait + Sync>(
     }
 }
 
-/// While the site of the first node is open, all workers run.
 fn run_at_first<
     L: SiteName + Send + Sync,
     W: Worker<Fault = RunFault>,
@@ -104,7 +104,6 @@ fn run_at_first<
     back_of(shared.alloc, NodeId(0), all, outcome)
 }
 
-/// With the site of the first node: it is opened and ended.
 fn with_first<
     L: SiteName + Send + Sync,
     W: Worker<Fault = RunFault>,
@@ -124,7 +123,6 @@ fn with_first<
     end_site(rt, shared, NodeId(0), site, readers.pop(), back)
 }
 
-/// A name for the first node's site.
 fn at_first<W: Worker<Fault = RunFault>, H: Watch + Sync, R: Threads + Wait + Sync>(
     rt: &R,
     shared: &Shared<'_, H>,
@@ -135,7 +133,6 @@ fn at_first<W: Worker<Fault = RunFault>, H: Watch + Sync, R: Threads + Wait + Sy
     with_first::<Brand, W, H, R>(rt, shared, blank, ends, rest)
 }
 
-/// While the site of the second node is open, the sites of lesser names are opened, run and ended.
 fn run_at_second<
     L: SiteName + Send + Sync,
     W: Worker<Fault = RunFault>,
@@ -156,7 +153,6 @@ fn run_at_second<
     back_of(shared.alloc, NodeId(1), all, outcome)
 }
 
-/// With the site of the second node: it is opened and ended.
 fn with_second<
     L: SiteName + Send + Sync,
     W: Worker<Fault = RunFault>,
@@ -176,7 +172,6 @@ fn with_second<
     end_site(rt, shared, NodeId(1), site, readers.pop(), back)
 }
 
-/// A name for the second node's site.
 fn at_second<W: Worker<Fault = RunFault>, H: Watch + Sync, R: Threads + Wait + Sync>(
     rt: &R,
     shared: &Shared<'_, H>,
@@ -187,7 +182,6 @@ fn at_second<W: Worker<Fault = RunFault>, H: Watch + Sync, R: Threads + Wait + S
     with_second::<Brand, W, H, R>(rt, shared, blank, ends, rest)
 }
 
-/// While the site of the third node is open, the sites of lesser names are opened, run and ended.
 fn run_at_third<
     L: SiteName + Send + Sync,
     W: Worker<Fault = RunFault>,
@@ -208,7 +202,6 @@ fn run_at_third<
     back_of(shared.alloc, NodeId(2), all, outcome)
 }
 
-/// With the site of the third node: it is opened and ended.
 fn with_third<
     L: SiteName + Send + Sync,
     W: Worker<Fault = RunFault>,
@@ -228,7 +221,6 @@ fn with_third<
     end_site(rt, shared, NodeId(2), site, readers.pop(), back)
 }
 
-/// A name for the third node's site.
 fn at_third<W: Worker<Fault = RunFault>, H: Watch + Sync, R: Threads + Wait + Sync>(
     rt: &R,
     shared: &Shared<'_, H>,
@@ -239,7 +231,6 @@ fn at_third<W: Worker<Fault = RunFault>, H: Watch + Sync, R: Threads + Wait + Sy
     with_third::<Brand, W, H, R>(rt, shared, blank, ends, rest)
 }
 
-/// While the site of the last node is open, the sites of lesser names are opened, run and ended.
 fn run_at_fourth<
     L: SiteName + Send + Sync,
     W: Worker<Fault = RunFault>,
@@ -260,7 +251,6 @@ fn run_at_fourth<
     back_of(shared.alloc, NodeId(3), all, outcome)
 }
 
-/// With the site of the last node: it is opened and ended.
 fn with_fourth<
     L: SiteName + Send + Sync,
     W: Worker<Fault = RunFault>,
@@ -280,7 +270,6 @@ fn with_fourth<
     end_site(rt, shared, NodeId(3), site, readers.pop(), back)
 }
 
-/// A name for the last node's site.
 fn at_fourth<W: Worker<Fault = RunFault>, H: Watch + Sync, R: Threads + Wait + Sync>(
     rt: &R,
     shared: &Shared<'_, H>,
@@ -291,7 +280,8 @@ fn at_fourth<W: Worker<Fault = RunFault>, H: Watch + Sync, R: Threads + Wait + S
     with_fourth::<Brand, W, H, R>(rt, shared, blank, ends, rest)
 }
 
-/// Runs the phases at sites of all nodes: at most four.
+/// Runs the phases at the sites of all nodes. Fails with `TooManyNodes` if there are more than four, with `NoThread` if
+/// a thread can't be spawned, and otherwise with the fault of a site or of a worker.
 pub fn run_sites<G: Gate, R: Threads + Wait + Sync>(
     rt: &R,
     alloc: Global,

@@ -1,4 +1,4 @@
-//! What the threads of a site do: its callers, its shippers and its link workers.
+//! The tasks of a site's workers: callers, shippers and link workers.
 
 ghost use Rattle.dac_crews.specs.Causes.{is_cause};
 
@@ -15,25 +15,24 @@ use dac_workers::{
 };
 use std::sync::Wait;
 
-/// A caller of a site, with what it saw.
+/// A caller of a site, with its reads.
 #[derive(Drop)]
 pub(crate) struct Caller<'a, L: SiteName> {
     pub(crate) assignment: &'a Assignment<'a, L>,
     pub(crate) seat: Seat<L>,
     pub(crate) reader: PageReader<L>,
-    /// The receipt that it was given last.
+    /// The receipt of its last accepted call.
     pub(crate) last: Option<Receipt<L>>,
-    /// What its lines read so far, in order.
+    /// The results of its reads, in order.
     pub(crate) reads: Vec<Reading>,
 }
 
 impl<L: SiteName> Caller<'_, L> {
-    /// Whether the line is one of its lines.
+    /// Returns whether the line is for this caller.
     fn is_own(&self, line: &Line) -> bool {
         line.node == self.assignment.node && u16::from(line.caller) == self.seat.number()
     }
 
-    /// Whether it has lines in the phase.
     fn has_lines(&self, phase: usize) -> bool {
         self.assignment
             .lines_in(phase)
@@ -41,7 +40,7 @@ impl<L: SiteName> Caller<'_, L> {
             .any(|line| self.is_own(line))
     }
 
-    /// Asks its node. A refusal of the node is an answer too.
+    /// Calls the site. A refusal of the node isn't a fault.
     fn ask<R: Wait>(&mut self, rt: &R, event: Event) -> Result<(), RunFault> {
         match self.assignment.site.call(rt, &mut self.seat, event) {
             Ok(receipt) => {
@@ -56,14 +55,13 @@ impl<L: SiteName> Caller<'_, L> {
         }
     }
 
-    /// Reads the page of its node behind its last receipt, and keeps it.
+    /// Reads the page after the caller's last receipt, and records the result.
     fn read(&mut self) -> Result<(), RunFault> {
         let reading = fresh_page(&mut self.last, &mut self.reader);
         self.reads.push(reading)?;
         Ok(())
     }
 
-    /// One of its lines.
     fn do_line<R: Wait>(&mut self, rt: &R, what: &Ask) -> Result<(), RunFault> {
         match what {
             Ask::Do(event) => {
@@ -74,7 +72,6 @@ impl<L: SiteName> Caller<'_, L> {
         }
     }
 
-    /// Its lines in a phase, in order.
     fn do_lines<R: Wait>(&mut self, rt: &R, phase: usize) -> Result<(), RunFault> {
         let assignment = self.assignment;
         for line in assignment.lines_in(phase) {
@@ -86,7 +83,7 @@ impl<L: SiteName> Caller<'_, L> {
     }
 }
 
-/// A shipper of a site.
+/// The shipper of a link, at the site of the node that ships.
 #[derive(Drop)]
 pub(crate) struct Shipper<'a, L: SiteName> {
     pub(crate) assignment: &'a Assignment<'a, L>,
@@ -96,7 +93,6 @@ pub(crate) struct Shipper<'a, L: SiteName> {
 }
 
 impl<L: SiteName> Shipper<'_, L> {
-    /// Its ships in a phase.
     fn ship<R: Wait>(&mut self, rt: &R) -> Result<(), RunFault> {
         let assignment = self.assignment;
         ship_link(
@@ -111,7 +107,7 @@ impl<L: SiteName> Shipper<'_, L> {
         )
     }
 
-    /// In its turn behind a phase: it ships once more.
+    /// Ships once more, in the serial round after a phase.
     fn ship_again<R: Wait>(&mut self, rt: &R) -> Result<(), RunFault> {
         let assignment = self.assignment;
         ship_last(
@@ -126,15 +122,15 @@ impl<L: SiteName> Shipper<'_, L> {
         )
     }
 
-    /// Whether it has this turn.
+    /// Returns whether this shipper has a part in the turn.
     fn has(&self, turn: Turn) -> bool {
         turn.side == Side::Ship && turn.from == self.assignment.node && turn.to == self.to
     }
 }
 
-/// A link worker of a site.
+/// The link worker of a link, at the site of the node that hears.
 #[derive(Drop)]
-pub(crate) struct Listener<'a, L: SiteName, H: Watch> {
+pub(crate) struct LinkWorker<'a, L: SiteName, H: Watch> {
     pub(crate) assignment: &'a Assignment<'a, L>,
     pub(crate) watch: &'a H,
     pub(crate) from: NodeId,
@@ -142,7 +138,7 @@ pub(crate) struct Listener<'a, L: SiteName, H: Watch> {
     pub(crate) link: LinkReceiver,
 }
 
-impl<L: SiteName, H: Watch> Listener<'_, L, H> {
+impl<L: SiteName, H: Watch> LinkWorker<'_, L, H> {
     /// Hears until the end letter.
     fn hear<R: Wait>(&mut self, rt: &R) -> Result<(), RunFault> {
         let assignment = self.assignment;
@@ -159,25 +155,21 @@ impl<L: SiteName, H: Watch> Listener<'_, L, H> {
         )
     }
 
-    /// Whether it has this turn.
+    /// Returns whether this link worker has a part in the turn.
     fn has(&self, turn: Turn) -> bool {
         turn.side == Side::Hear && turn.from == self.from && turn.to == self.assignment.node
     }
 }
 
-/// What a thread of a site does. At a fault its end of a link is gone, and so the link's other thread ends.
+/// The task of one worker. A worker that fails drops its link end, so the worker at the other end stops too.
 #[derive(Drop)]
 pub(crate) enum Task<'a, L: SiteName, H: Watch> {
-    /// It calls.
     Call(Caller<'a, L>),
-    /// It ships.
     Ship(Shipper<'a, L>),
-    /// It hears.
-    Hear(Listener<'a, L, H>),
+    Hear(LinkWorker<'a, L, H>),
 }
 
 impl<L: SiteName, H: Watch> Task<'_, L, H> {
-    /// Its work in a phase.
     fn do_work<R: Wait>(&mut self, rt: &R, phase: usize) -> Result<(), RunFault> {
         match self {
             Task::Call(caller) => caller.do_lines(rt, phase),
@@ -186,7 +178,7 @@ impl<L: SiteName, H: Watch> Task<'_, L, H> {
         }
     }
 
-    /// Its seat, and what its lines read, if it is a caller.
+    /// The seat, and the reads of a caller.
     pub(crate) fn into_parts(self) -> (Seat<L>, Option<Vec<Reading>>) {
         match self {
             Task::Call(caller) => (caller.seat, Some(caller.reads)),
@@ -226,7 +218,7 @@ impl<L: SiteName + Send + Sync, H: Watch + Sync> Worker for Task<'_, L, H> {
     }
 }
 
-/// Nobody, who has no work and no turn. The last list of workers has no others.
+/// The worker type of the empty list to which the first site's tasks are added. No value of it is made.
 #[derive(Drop)]
 pub(crate) struct Nobody;
 

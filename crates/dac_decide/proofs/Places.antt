@@ -1,4 +1,4 @@
--- What is noted of each application, one place after another.
+-- A loop that updates each application's timer, place by place.
 use Rattle.std.proofs.Common.{◌≡◌, ℕ, ◌+◌, ◌-◌, ◌<◌, List, [], ◌∷◌, ◌++◌, Option, get_or, set, suc, sym, ap, ◌∙◌, arith, append-nil, append_assoc}
 use Rattle.std.proofs.Math.Seq.{set-append_seam, get_or-append_seam}
 use Rattle.dac_config.specs.Table.{Table, app_count}
@@ -7,7 +7,7 @@ use Rattle.dac_decide.specs.FailoverWait.{Note, noted_of, waits_of}
 use Rattle.dac_decide.specs.laws.Kept.{numbered, kept_of, length_kept, kept_more}
 
 module _ (table : Table) (note : Note) (notes : List Note) where
-  -- the first n applications with one note more, and the others without it
+  -- the timers of the first n applications with one more note, and of the others without it
   abbrev pub partly : ℕ → List (Option Noted)
   partly n = kept_of (note ∷ notes) 0 n ++ kept_of notes n (app_count table - n)
 

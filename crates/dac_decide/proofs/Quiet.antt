@@ -1,4 +1,4 @@
--- A note of a state in which no claim is lost, after none was noted.
+-- A note changes nothing if no timer runs and no claim is lost in its state.
 use Rattle.std.proofs.Common.{◌≡◌, ℕ, zero, suc, add-one, ◌+◌, ◌<◌, true, false, Bool, not, List, [], ◌∷◌, ◌++◌, Option, Some, None, subst, refl, sym, ap, ◌∙◌, arith}
 use Rattle.std.specs.Prelude.{nat_lt, is_some, option_map, if◌then◌else◌}
 use Rattle.std.specs.Option.{option_map_or, option_and_then}
@@ -17,9 +17,9 @@ use Rattle.dac_decide.specs.FailoverWait.{Note, lost_if, lost_in, noted_next, no
 use Rattle.dac_decide.specs.laws.Kept.{numbered, kept_of, kept_more, kept_is}
 use Rattle.dac_decide.specs.Quiet.{AreQuiet}
 
--- ---- a board knows which claims are lost
+-- ---- a board determines which claims are lost
 
--- how an application stands at a holder that is live
+-- a live holder isn't lost
 at_live : (started allowed : Bool) (node : NodeId) → is_lost_at (if not started then Stopped node else if not allowed then Barred else Upheld node) ≡ false
 at_live false allowed node = refl
 at_live true false node = refl
@@ -44,16 +44,16 @@ pub none_is : {X : Type 0} (o : Option X) → is_some o ≡ false → o ≡ None
 none_is None e = refl
 none_is (Some x) e = absurd (true≢false e)
 
--- ---- one application after another
+-- ---- a loop over applications
 
--- what holds below a number and at it holds below the next one
+-- a property of the numbers below n, and of n, holds of those below n + 1
 pub one_below : (P : ℕ → Type 0) (n : ℕ) → ((k : ℕ) → k < n → P k) → P n → (k : ℕ) → k < n + 1 → P k
 one_below P n before here k lt = elim (nat_lt k n) as (λ b. nat_lt k n ≡ b → P k) [
   | true ↦ λ e. before k (ltb-true k n e)
   | false ↦ λ e. let same : n ≡ k = omega (arith, lt, ltb-false k n e) in subst P same here
 ] refl
 
--- a note of a state in which the application's claim isn't lost, after none was noted
+-- a note changes nothing of an application that has no timer and whose claim isn't lost
 one_stays : (notes : List Note) (note : Note) (app : AppId) → noted_of app notes ≡ None → lost_in note.state app ≡ None → noted_of app notes ≡ noted_of app (note ∷ notes)
 one_stays notes note app none lost = none ∙ sym (λ i. noted_next (none i) (lost i) note.moment)
 
@@ -66,6 +66,6 @@ kept_stays table notes note quiet (suc n) within =
     subst (λ m. kept_of notes 0 m ≡ kept_of (note ∷ notes) 0 m) (add-one n)
     (kept_more notes n ∙ (λ i. before i ++ one i ∷ []) ∙ sym (kept_more (note ∷ notes) n))
 
--- the waits stay as they are
+-- quiet waits are unchanged by a note
 pub quiet_stays : (table : Table) (notes : List Note) (note : Note) → AreQuiet table (waits_of table notes) note.state → waits_of table notes ≡ waits_of table (note ∷ notes)
 quiet_stays table notes note quiet = kept_stays table notes note quiet (app_count table) (λ k lt. lt)

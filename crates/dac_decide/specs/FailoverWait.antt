@@ -1,6 +1,6 @@
--- The wait of a failover. After OTP's kernel manual, parameter `distributed`: when a node goes down, its applications
--- are restarted elsewhere after their time. (That each controller counts it from its own ticks is this project's
--- own.)
+-- Failover timers. After OTP's kernel manual, parameter `distributed`: when a node goes down, its applications are
+-- restarted elsewhere after their timeout. (That each controller measures it at its own ticks is this project's own
+-- rule.)
 use Rattle.std.specs.Prelude.{◌≡◌, ◌⊎◌, ℕ, ◌+◌, ◌≤◌, Bool, true, false, ◌&&◌, ◌||◌, ◌==◌, nat_le, List, [], ◌∷◌, ◌++◌, map as list_map, get_or, Option, None, Some, if◌then◌else◌, ⊤, refl}
 use Rattle.std.specs.List.{All}
 use Rattle.std.specs.Option.{option_map, option_map_or, option_and_then}
@@ -20,7 +20,7 @@ use Rattle.dac_decide.specs.declared.waits.Noted.{Noted}
 
 -- ---- in words
 
--- what a controller knew at a tick, and the moment of the tick in milliseconds
+-- the state of a controller at a tick, and the moment of the tick in milliseconds
 pub record Note : Type 0 where
   pub state : StateValue
   pub moment : ℕ
@@ -30,13 +30,13 @@ pub record IsLost (s : StateValue) (app : AppId) (claim : Claim) : Type 0 where
   pub greatest : map.get s.claims app ≡ Some claim
   pub down : ¬ IsUp s claim.origin
 
--- Notes are listed newest first. Is the claim lost by the newest of them?
+-- the newest note, which is first in the list, found the claim lost
 abbrev pub IsLostByNewest : List Note → AppId → Claim → Type 0
 IsLostByNewest [] app claim = ⊥
 IsLostByNewest (note ∷ older) app claim = IsLost note.state app claim
 
--- The newest notes are an unbroken row that found the claim lost, and this is the moment of the oldest of the row.
--- The note before it, if any, didn't find it lost.
+-- The newest notes all found the claim lost, without a gap, and `since` is the moment of the oldest of them. The note
+-- before that one, if any, didn't find it lost.
 pub record IsNotedSince (notes : List Note) (app : AppId) (claim : Claim) (since : ℕ) : Type 0 where
   pub row : List Note
   pub begin : Note
@@ -46,7 +46,7 @@ pub record IsNotedSince (notes : List Note) (app : AppId) (claim : Claim) (since
   pub begins : ¬ IsLostByNewest before app claim
   pub moment : begin.moment ≡ since
 
--- the lost claim of the application is noted, and it has waited its time since
+-- the application's lost claim is noted, and its timeout has passed since the first of those notes
 pub record IsWaitOver (table : Table) (notes : List Note) (s : StateValue) (app : AppId) (now : ℕ) : Type 0 where
   pub claim : Claim
   pub since : ℕ
@@ -54,11 +54,11 @@ pub record IsWaitOver (table : Table) (notes : List Note) (s : StateValue) (app 
   pub noted : IsNotedSince notes app claim since
   pub over : since + timeout_of table app ≤ now
 
--- the greatest claim of the application is of this node
+-- the application's greatest claim was made by this node
 abbrev pub IsHeldAt : StateValue → AppId → NodeId → Type 0
 IsHeldAt s app node = (claim : Claim) × (map.get s.claims app ≡ Some claim) × (claim.origin.node ≡ node)
 
--- where this is the verdict, it is to be carried out now
+-- this verdict must be carried out now
 abbrev pub IsDueBy : Table → List Note → StateValue → AppId → ℕ → Verdict → Type 0
 IsDueBy table notes s app now (Start n) = ⊤
 IsDueBy table notes s app now (Failover n) = IsHeldAt s app n ⊎ IsWaitOver table notes s app now
@@ -68,14 +68,14 @@ IsDueBy table notes s app now (Takeover n) = ⊤
 IsDueBy table notes s app now (Kept n) = ⊥
 IsDueBy table notes s app now Nobody = ⊥
 
--- What is to become of an application is to be carried out now: a start, a move and a takeover at once. A failover is,
--- at once where its lost holder's node is to have it again, and else when its wait is over.
+-- The application's verdict must be carried out now. Starts, moves and takeovers are due at once. A failover is due at
+-- once if it returns the application to its lost holder's node, and otherwise when its wait is over.
 abbrev pub IsDue : Table → List Note → StateValue → AppId → ℕ → Type 0
 IsDue table notes s app now = IsDueBy table notes s app now (verdict_of table s app)
 
 -- ---- as functions
 
--- the claim, where the incarnation that made it isn't live
+-- the claim, if the incarnation that made it isn't live
 abbrev pub lost_if : StateValue → Claim → Option Claim
 lost_if s claim = if is_up s claim.origin then None else Some claim
 
@@ -83,47 +83,47 @@ lost_if s claim = if is_up s claim.origin then None else Some claim
 abbrev pub lost_in : StateValue → AppId → Option Claim
 lost_in s app = option_and_then (lost_if s) (map.get s.claims app)
 
--- the two are one claim: their order ties
+-- the two claims are equal in their order
 abbrev pub is_same : Claim → Claim → Bool
 is_same a b = is_eq (claim_cmp a b)
 
--- what is noted of a lost claim: since when it was, where it is the one that was noted before, and else since now
+-- the timer of a lost claim: unchanged if it is for the same claim, and otherwise started now
 abbrev pub since_of : Option Noted → ℕ → Claim → Noted
 since_of None now claim = record { claim = claim; since = now }
 since_of (Some before) now claim = if is_same before.claim claim then before else record { claim = claim; since = now }
 
--- what is noted of an application, after so much before and with this lost claim, if any
+-- the timer of an application after one more tick, given the one before and the lost claim, if any
 abbrev pub noted_next : Option Noted → Option Claim → ℕ → Option Noted
 noted_next before lost now = option_map (since_of before now) lost
 
--- what some notes say of an application: its lost claim, and since when
+-- the timer of an application after these notes: its lost claim, and since when
 abbrev pub noted_of : AppId → List Note → Option Noted
 noted_of app [] = None
 noted_of app (note ∷ older) = noted_next (noted_of app older) (lost_in note.state app) note.moment
 
--- what some notes say of each application
+-- the timer of each application after these notes
 abbrev pub waits_of : Table → List Note → List (Option Noted)
 waits_of table notes = list_map (λ app. noted_of app notes) (apps_of table)
 
--- what waits keep of an application
+-- the timer of an application in these waits
 abbrev pub noted_at : List (Option Noted) → AppId → Option Noted
 noted_at waits app = get_or waits app.0 None
 
--- the greatest claim of the application is of this node, as a test
+-- `IsHeldAt` as a test
 abbrev pub is_held_at : StateValue → AppId → NodeId → Bool
 is_held_at s app node = option_map_or (λ (claim : Claim). claim.origin.node.0 == node.0) (map.get s.claims app) false
 
--- this lost claim is the one that is noted, and it has waited its time since
+-- the timer is for this lost claim, and `wait` milliseconds have passed since it started
 abbrev pub is_over_at : ℕ → ℕ → Option Claim → Option Noted → Bool
 is_over_at wait now None noted = false
 is_over_at wait now (Some claim) None = false
 is_over_at wait now (Some claim) (Some noted) = is_same noted.claim claim && nat_le (noted.since + wait) now
 
--- the lost claim of the application is the one that is noted, and it has waited its time since
+-- the timer is for the application's lost claim, and the timeout has passed since it started
 abbrev pub is_wait_over : Table → StateValue → AppId → Option Noted → ℕ → Bool
 is_wait_over table s app noted now = is_over_at (timeout_of table app) now (lost_in s app) noted
 
--- where so much is noted and this is the verdict, it is to be carried out now
+-- `IsDueBy` as a test, given the application's timer
 abbrev pub is_due_by : Table → Option Noted → StateValue → AppId → ℕ → Verdict → Bool
 is_due_by table noted s app now (Start n) = true
 is_due_by table noted s app now (Failover n) = is_held_at s app n || is_wait_over table s app noted now
@@ -133,15 +133,15 @@ is_due_by table noted s app now (Takeover n) = true
 is_due_by table noted s app now (Kept n) = false
 is_due_by table noted s app now Nobody = false
 
--- where so much is noted of the application, its verdict is to be carried out now
+-- `IsDue` as a test, given the application's timer
 abbrev pub is_due_with : Table → Option Noted → StateValue → AppId → ℕ → Bool
 is_due_with table noted s app now = is_due_by table noted s app now (verdict_of table s app)
 
--- the same, by these notes
+-- `IsDue` as a test
 abbrev pub is_due : Table → List Note → StateValue → AppId → ℕ → Bool
 is_due table notes s app now = is_due_with table (noted_of app notes) s app now
 
--- ---- what is noted is data
+-- ---- timers are data
 abbrev pub coded_noted : Coded Noted
 coded_noted = code_by (Claim × ℕ) (coded× coded_claim coded_ℕ) (λ n. (n.claim, n.since))
     (λ p. record { claim = p.0; since = p.1 }) (λ _. refl)

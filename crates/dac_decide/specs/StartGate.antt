@@ -1,6 +1,6 @@
--- The start gate. It follows OTP's kernel manual, parameters `sync_nodes_mandatory`, `sync_nodes_optional` and
--- `sync_nodes_timeout`. A starting node waits for all mandatory and optional nodes. It goes on when all of them are
--- up, or when the time is over and all mandatory ones are up. When the time is over and a mandatory one isn't up, it
+-- The start gate, after OTP's kernel manual, parameters `sync_nodes_mandatory`, `sync_nodes_optional` and
+-- `sync_nodes_timeout`. A booted node waits for all mandatory and optional nodes. The gate opens when all of them are
+-- up, or when the timeout has passed and all mandatory ones are up. If it has passed and one of these isn't, the node
 -- terminates. Where no time is defined, it doesn't wait.
 use Rattle.std.specs.Prelude.{◌≡◌, ◌⊎◌, ℕ, ◌<◌, Bool, IsTrue, not, ◌&&◌, ◌||◌, nat_lt, is_some, if◌then◌else◌, ⊤}
 use Rattle.std.specs.List.{list_all}
@@ -25,17 +25,17 @@ IsUpNow s node = (inc : ℕ) × IsLive s.lives node inc
 abbrev pub AllUp : Table → StateValue → (NodeId → Bool) → Type 0
 AllUp table s marked = (node : NodeId) → node.0 < node_count table → IsTrue (marked node) → IsUpNow s node
 
--- a starting node waits for this one
+-- the start gate waits for this node
 abbrev pub is_awaited : Table → NodeId → Bool
 is_awaited table node = is_mandatory table node || is_optional table node
 
--- so many milliseconds after the boot there is time left
+-- the timeout hasn't passed this many milliseconds after the boot
 abbrev pub IsTimeLeft : SyncWait → ℕ → Type 0
 IsTimeLeft NoSync elapsed = ⊥
 IsTimeLeft Forever elapsed = ⊤
 IsTimeLeft (Ms wait) elapsed = elapsed < wait
 
--- what becomes of the node, so many milliseconds after its boot
+-- the state of the gate this many milliseconds after the boot
 abbrev pub IsOpening : Table → StateValue → ℕ → Opening → Type 0
 IsOpening table s elapsed Opened = (table.sync_wait ≡ NoSync)
     ⊎ (AllUp table s (is_awaited table) ⊎ (¬ IsTimeLeft table.sync_wait elapsed × AllUp table s (is_mandatory table)))
@@ -45,27 +45,27 @@ IsOpening table s elapsed GiveUp =
 
 -- ---- as functions
 
--- the node is live, or isn't waited for
+-- the node is live, or the gate doesn't wait for it
 abbrev pub is_live_if : StateValue → NodeId → Bool → Bool
 is_live_if s node awaited = is_some (live_at s.lives node) || not awaited
 
--- each node of the configuration with this mark is live, as a test
+-- `AllUp` as a test
 abbrev pub all_up : Table → StateValue → (NodeId → Bool) → Bool
 all_up table s marked = list_all (λ node. is_live_if s node (marked node)) (nodes_of table)
 
--- which of those that are waited for are live: of one node, and of some nodes and some more
+-- whether the gate's mandatory and optional nodes are live: for one node, and for two sets of nodes together
 abbrev pub present_at : Table → StateValue → NodeId → Present
 present_at table s node = record { mandatory = is_live_if s node (is_mandatory table node); optional = is_live_if s node (is_optional table node) }
 
 abbrev pub both : Present → Present → Present
 both first more = record { mandatory = first.mandatory && more.mandatory; optional = first.optional && more.optional }
 
--- and of all nodes of the configuration
+-- for all nodes of the configuration
 abbrev pub present_of : Table → StateValue → Present
 present_of table s =
     record { mandatory = all_up table s (is_mandatory table); optional = all_up table s (is_optional table) }
 
--- what becomes of the node, where these are live
+-- the state of the gate, given which nodes are live
 abbrev pub opening_by : SyncWait → Present → ℕ → Opening
 opening_by NoSync present elapsed = Opened
 opening_by Forever present elapsed = if present.mandatory && present.optional then Opened else Shut
@@ -75,6 +75,6 @@ opening_by (Ms wait) present elapsed =
     else if present.mandatory then Opened
     else GiveUp
 
--- what becomes of the node, so many milliseconds after its boot
+-- the state of the gate this many milliseconds after the boot
 abbrev pub opening_of : Table → StateValue → ℕ → Opening
 opening_of table s elapsed = opening_by table.sync_wait (present_of table s) elapsed

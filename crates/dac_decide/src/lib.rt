@@ -1,12 +1,14 @@
-//! When a controller acts on what placement says: how long a failover waits, and when a starting node goes on.
+//! When a controller acts on a verdict: failover timers and the start gate.
 //!
-//! Each controller counts from its own ticks. [`Waits`] keeps, for each application, which lost claim the last tick
-//! found. It also keeps since when the ticks before it had found the same one. [`Waits::due`] tells from it whether
-//! the application's verdict is to be carried out now. [`gate`] tells whether a node that was booted still waits for
-//! its mandatory and optional nodes, goes on, or gives up. [`Moments`] says when a running node was booted and ticked last.
+//! Each controller measures time at its own ticks. For each application, [`Waits`] records the lost claim that the last
+//! tick found, if any, and the moment of the first of the consecutive ticks that found it. [`Waits::due`] returns
+//! whether the application's verdict must be carried out now. [`gate`] returns whether a booted node still waits for
+//! its mandatory and optional nodes, goes ahead, or gives up. [`Moments`] holds the moments of a node's boot and last
+//! tick. Because each controller ticks at its own moments, controllers that heard the same operations can have
+//! different waits.
 //!
-//! No call but [`Waits::new`] and [`Waits::copy`] takes memory. Waits differ between controllers that heard the
-//! same: they are of the moments at which each of them ticked.
+//! Only [`Waits::new`] and [`Waits::copy`] allocate. Their only error is `NoMemory`, which leaves their arguments
+//! unchanged.
 #![tactic(auto)]
 
 pub mod laws;

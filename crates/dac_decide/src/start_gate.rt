@@ -7,30 +7,30 @@ use dac_base::NodeId;
 use dac_config::{Config, SyncWait};
 use dac_placement::State;
 
-/// What becomes of a node that was booted.
+/// The state of a booted node's start gate.
 #[derive(Clone, Copy, Debug, PartialEq, Eq)]
 pub enum Opening {
     /// It still waits for other nodes.
     Shut,
-    /// It goes on.
+    /// It is open, so that the node claims applications.
     Opened,
-    /// It waited in vain for a mandatory node, and terminates.
+    /// A mandatory node wasn't up in time, so the node terminates.
     GiveUp,
 }
 
-/// Which of the nodes that a starting node waits for are live.
+/// Whether the nodes that the gate waits for are live.
 #[derive(Clone, Copy, Debug, PartialEq, Eq)]
 pub(crate) struct Present {
-    /// All that are mandatory.
+    /// All mandatory nodes are live.
     pub mandatory: bool,
-    /// All that are optional.
+    /// All optional nodes are live.
     pub optional: bool,
 }
 
-/// Whether a node that was booted at one moment goes on at another, both in milliseconds. It follows OTP's kernel
-/// manual, parameters `sync_nodes_mandatory`, `sync_nodes_optional` and `sync_nodes_timeout`. The node goes on when
-/// all these nodes are up, or when the time is over and the mandatory ones are up. When it is over and one of those
-/// isn't, the node terminates. Where no time is defined it doesn't wait. It takes no memory.
+/// The start gate, at the moment `now`, of a node that was booted at `booted`, both in milliseconds. After OTP's kernel
+/// manual, parameters `sync_nodes_mandatory`, `sync_nodes_optional` and `sync_nodes_timeout`: the gate opens when all
+/// these nodes are up, or when the timeout has passed and the mandatory ones are up. If it has passed and one of those
+/// isn't up, the node gives up. Without a timeout it doesn't wait.
 pub fn gate(config: &Config, state: &State, booted: u64, now: u64) -> Opening
     requires { booted ≤ now }
     ensures value { result ≡ opening_of config.now state.now (now - booted) }
@@ -39,7 +39,7 @@ pub fn gate(config: &Config, state: &State, booted: u64, now: u64) -> Opening
     opening_by(config.sync_wait(), present_of(config, state), now - booted)
 }
 
-/// What becomes of the node, where these nodes are live and so many milliseconds went by since its boot.
+/// The state of the gate, given which nodes are live, `elapsed` milliseconds after the boot.
 fn opening_by(wait: SyncWait, present: Present, elapsed: u64) -> Opening
     ensures { result ≡ opening_by wait present elapsed }
 {
@@ -53,7 +53,7 @@ fn opening_by(wait: SyncWait, present: Present, elapsed: u64) -> Opening
     }
 }
 
-/// Which of the nodes that a starting node waits for are live.
+/// Whether the nodes that the gate waits for are live.
 fn present_of(config: &Config, state: &State) -> Present
     ensures { result ≡ present_of config.now state.now }
 {
@@ -68,7 +68,7 @@ fn present_of(config: &Config, state: &State) -> Present
     present
 }
 
-/// The same of one node alone.
+/// [`Present`] for one node alone.
 fn present_at(config: &Config, state: &State, node: NodeId) -> Present
     requires { node.0 < node_count config.now }
     ensures { result ≡ present_at config.now state.now node }
@@ -81,7 +81,7 @@ fn present_at(config: &Config, state: &State, node: NodeId) -> Present
     }
 }
 
-/// The same of some nodes and some more.
+/// [`Present`] for two sets of nodes together.
 fn both(first: Present, more: Present) -> Present
     ensures { result ≡ both first more }
 {
@@ -91,7 +91,7 @@ fn both(first: Present, more: Present) -> Present
     }
 }
 
-/// Whether a node is live, or isn't waited for.
+/// Whether a node is live, or the gate doesn't wait for it.
 fn is_live_if(state: &State, node: NodeId, awaited: bool) -> bool
     ensures { result ≡ is_live_if state.now node awaited }
 {

@@ -1,4 +1,4 @@
-//! The waits of failovers.
+//! Failover timers.
 ghost use Rattle.std.specs.Prelude.{◌≡◌, ◌↔◌, ◌<◌, ◌∷◌, [], List, length, IsTrue, IfOk};
 ghost use Rattle.dac_config.specs.Table.{app_count};
 ghost use Rattle.dac_placement.specs.StateValue.{StateValue};
@@ -15,12 +15,12 @@ use dac_placement::{State, Verdict, holder, is_up, verdict};
 use std::alloc::Global;
 use std::marker::Model;
 
-/// A claim that was found lost, and since when, in milliseconds.
+/// A failover timer: a claim that was found lost, and since when.
 #[derive(Clone, Copy, Debug, PartialEq, Eq)]
 pub(crate) struct Noted {
-    /// The claim.
+    /// The lost claim.
     pub claim: Claim,
-    /// The moment of the first note of the row in which each found it lost.
+    /// The moment, in milliseconds, of the first of the consecutive notes that found it lost.
     pub since: u64,
 }
 
@@ -28,14 +28,14 @@ impl Noted {
     ghost use Rattle.std.specs.Prelude.{◌+◌, nat_le};
     ghost use Rattle.dac_decide.specs.FailoverWait.{is_same};
 
-    /// Whether this claim is the one that is noted.
+    /// Whether the timer is for this claim.
     fn is_of(self, claim: Claim) -> bool
         ensures { result ≡ is_same self.claim claim }
     {
         self.claim == claim
     }
 
-    /// Whether so many milliseconds have passed by this moment since the claim was first found lost.
+    /// Whether `wait` milliseconds have passed since the timer started.
     fn has_waited(self, wait: u64, now: u64) -> bool
         ensures { result ≡ nat_le (self.since + wait) now }
     {
@@ -43,17 +43,16 @@ impl Noted {
     }
 }
 
-/// How long each application's failover has been waiting at this controller.
+/// Failover timers: since when each application's claim has been lost, as noted at this controller's ticks.
 ///
-/// A claim is lost where it is its application's greatest and the incarnation that made it isn't live. A controller
-/// notes at its ticks which claims are lost. Contracts see, for each application of the configuration in turn, the
-/// lost claim that the last note found, if any. Beside it they see the moment at which the unbroken row of notes of
-/// it began.
+/// A claim is lost if it is its application's greatest and the incarnation that made it isn't live. A controller notes
+/// lost claims at each tick. Contracts see, for each application of the configuration in order, the lost claim that the
+/// last note found, if any, with the moment of the first of the consecutive notes that found it.
 pub struct Waits {
     noted: Vec<Option<Noted>>,
 }
 
-/// Written out: a drop is one call for a proof, wherever it stands.
+/// Written out so that a drop is one call in every proof.
 impl Drop for Waits {
     fn drop(self) {
         let Waits { noted: _noted } = self;
@@ -74,7 +73,7 @@ impl Model for Waits {
 }
 
 impl Waits {
-    /// Nothing was noted yet. [`NoMemory`] is the only error.
+    /// Waits before any note.
     pub fn new(alloc: Global, config: &Config) -> Result<Self, NoMemory>
         ensures { IfOk result (λ waits. waits ≡ waits_of config.now []) }
     {
@@ -85,8 +84,8 @@ impl Waits {
         Ok(Waits { noted })
     }
 
-    /// Notes which claims are lost at this moment, in milliseconds. Where the configuration isn't the one that the waits
-    /// were made for, their number stays. It takes no memory.
+    /// Notes which claims are lost at the moment `now`, in milliseconds. The number of applications stays that of the
+    /// configuration for which the waits were made.
     pub fn note(&mut self, config: &Config, state: &State, now: u64)
         ensures value { (notes : List Note) → self.old ≡ waits_of config.now notes
             → self.new ≡ waits_of config.now (record { state = state.now; moment = now } ∷ notes) }
@@ -99,8 +98,7 @@ impl Waits {
         }
     }
 
-    /// Whether no claim is noted and none is lost, by a board of the state that a note would be of. Then a note changes
-    /// nothing. It takes no memory.
+    /// Whether no timer runs and no claim is lost in the board's state, so that a note of this state changes nothing.
     pub fn are_quiet(&self, config: &Config, board: &Board) -> bool
         ensures cases { (s : StateValue) → Shows config.now board.now s
             → IsTrue result ↔ AreQuiet config.now self.now s }
@@ -117,9 +115,9 @@ impl Waits {
         true
     }
 
-    /// Whether an application's verdict is to be carried out at this moment, in milliseconds. After OTP's kernel manual,
-    /// parameter `distributed`, a failover waits for the application's time. It doesn't where the node that was lost is
-    /// back and is to have it again. Whatever else there is to do isn't put off. It takes no memory.
+    /// Whether an application's verdict must be carried out at the moment `now`, in milliseconds. After OTP's kernel
+    /// manual, parameter `distributed`, a failover waits for the application's timeout, unless the lost node is back
+    /// and would run the application again. Starts, moves and takeovers don't wait.
     pub fn due(&self, config: &Config, state: &State, app: AppId, now: u64) -> bool
         requires { app.0 < app_count config.now }
         ensures kept { result ≡ is_due_with config.now (noted_at self.now app) state.now app now }
@@ -132,8 +130,7 @@ impl Waits {
         self.due_by(config, state, app, verdict, now)
     }
 
-    /// Whether this verdict on an application is to be carried out at this moment, in milliseconds. It is what
-    /// [`Waits::due`] tells of the application's verdict, for a caller who has computed it. It takes no memory.
+    /// [`Waits::due`] for a caller that has computed the application's verdict.
     pub fn due_by(
         &self,
         config: &Config,
@@ -157,7 +154,7 @@ impl Waits {
         }
     }
 
-    /// What is noted of an application.
+    /// The timer of an application, if it has one.
     fn noted_of(&self, app: AppId) -> Option<Noted>
         ensures { result ≡ noted_at self.now app }
     {
@@ -167,7 +164,7 @@ impl Waits {
         }
     }
 
-    /// Equal waits, with memory of their own. [`NoMemory`] is the only error.
+    /// Equal waits that share nothing with these.
     pub fn copy(&self) -> Result<Self, NoMemory>
         ensures { IfOk result (λ copied. copied ≡ self.now) }
     {
@@ -189,7 +186,7 @@ fn lost_claim(state: &State, app: AppId) -> Option<Claim>
     }
 }
 
-/// What is noted of an application, after so much was noted before and this claim, if any, is found lost.
+/// The timer of an application, given the one before and the lost claim, if any.
 fn noted_next(before: Option<Noted>, lost: Option<Claim>, now: u64) -> Option<Noted>
     ensures { result ≡ noted_next before lost now }
 {
@@ -199,7 +196,7 @@ fn noted_next(before: Option<Noted>, lost: Option<Claim>, now: u64) -> Option<No
     }
 }
 
-/// What is noted of a lost claim, after so much was noted before.
+/// The timer of a lost claim, given the application's timer before.
 fn since_of(before: Option<Noted>, now: u64, claim: Claim) -> Noted
     ensures { result ≡ since_of before now claim }
 {
@@ -209,7 +206,7 @@ fn since_of(before: Option<Noted>, now: u64, claim: Claim) -> Noted
     }
 }
 
-/// Whether the application's greatest claim is of this node.
+/// Whether the application's greatest claim was made by this node.
 fn is_held_at(state: &State, app: AppId, node: NodeId) -> bool
     ensures { result ≡ is_held_at state.now app node }
 {
@@ -219,7 +216,7 @@ fn is_held_at(state: &State, app: AppId, node: NodeId) -> bool
     }
 }
 
-/// Whether the application's lost claim is the one that is noted, and its failover has waited long enough.
+/// Whether the timer is for the application's lost claim, and the timeout has passed.
 fn is_wait_over(config: &Config, state: &State, app: AppId, noted: Option<Noted>, now: u64) -> bool
     requires { app.0 < app_count config.now }
     ensures { result ≡ is_wait_over config.now state.now app noted now }
@@ -228,7 +225,7 @@ fn is_wait_over(config: &Config, state: &State, app: AppId, noted: Option<Noted>
     is_over_at(wait, now, lost_claim(state, app), noted)
 }
 
-/// Whether this lost claim is the one that is noted, and has waited so long.
+/// Whether the timer is for this lost claim, and `wait` milliseconds have passed.
 fn is_over_at(wait: u64, now: u64, lost: Option<Claim>, noted: Option<Noted>) -> bool
     ensures { result ≡ is_over_at wait now lost noted }
 {

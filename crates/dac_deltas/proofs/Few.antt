@@ -1,4 +1,4 @@
--- Blocks that cover few deltas are few: first each is longer than the one before, and later each is shorter.
+-- Few blocks cover the stored deltas: at first each is longer than the previous one, and later each is shorter.
 use Rattle.std.specs.Prelude.{◌≡◌, ℕ, ◌+◌, ◌-◌, ◌*◌, ◌%◌, ◌≤◌, ◌<◌, ◌^◌, List, [], ◌∷◌, length}
 use Rattle.std.proofs.Common.{arith, sym, ap, subst, ◌∙◌, zero, suc, inl, inr, refl, true, false, leb}
 use Rattle.std.proofs.Math.Nat.{pow-le-pow_right, mod-one}
@@ -8,19 +8,19 @@ use Rattle.dac_deltas.specs.declared.blocks.TheConstants.{MOST_LEVEL}
 use Rattle.dac_deltas.specs.declared.buffer.TheConstants.{MAX_DELTAS}
 use Rattle.dac_deltas.proofs.Levels.{next_power, aligned_below, aligned_after, aligned_more}
 
--- a lesser power has a lesser exponent
+-- powers of two are ordered by their exponents
 below_power : (i j : ℕ) → 2 ^ i < 2 ^ j → i < j
 below_power i j h = elim (leb j i) as (λ b. leb j i ≡ b → i < j) [
   | true ↦ λ e. let up = pow-le-pow_right {n = 2} (omega arith) (leb-true j i e) in absurd (omega arith)
   | false ↦ λ e. leb-false j i e
 ] refl
 
--- the block after the first begins where that one ends
+-- the second block begins at the end of the first
 module _ (a count : ℕ) (b : ℕ × ℕ) (w : IsLongestBlock a count b) where
   after : b.1 ≡ a + 2 ^ w.0
   after = ap (λ (p : ℕ × ℕ). p.1) w.2
 
--- from a multiple of 2^j on, where less than 2^j deltas are left, there are at most j blocks
+-- from a multiple of 2^j on, with less than 2^j deltas left, there are at most j blocks
 down : (bs : List (ℕ × ℕ)) (a count j : ℕ) → j ≤ MOST_LEVEL → a % 2 ^ j ≡ 0 → a ≤ count → count - a < 2 ^ j → AreBlocks a count bs → length bs ≤ j
 down [] a count j small at in' left w = omega arith
 down (b ∷ bs) a count j small at in' left w =
@@ -38,7 +38,7 @@ down (b ∷ bs) a count j small at in' left w =
     let rest = down bs (a + 2 ^ k) count k (omega arith) (aligned_after a k (longest.aligned)) (omega arith) less (subst (λ n. AreBlocks n count bs) to w.1) in
     omega arith
 
--- from a multiple of 2^j on, where no more deltas are left than are kept, there are at most MOST_LEVEL blocks beside those that grow
+-- from a multiple of 2^j on, with at most 256 deltas left, there are at most MOST_LEVEL blocks besides the growing ones
 up : (f : ℕ) (bs : List (ℕ × ℕ)) (a count j : ℕ) → j + f ≡ MOST_LEVEL → a % 2 ^ j ≡ 0 → a ≤ count → count - a ≤ MAX_DELTAS → AreBlocks a count bs → length bs ≤ f + MOST_LEVEL
 up f [] a count j small at in' left w = omega arith
 up zero (b ∷ bs) a count j small at in' left w = elim (leb MAX_DELTAS (count - a)) as (λ t. leb MAX_DELTAS (count - a) ≡ t → length (b ∷ bs) ≤ MOST_LEVEL) [
@@ -80,6 +80,6 @@ up (suc f) (b ∷ bs) a count j small at in' left w =
       | false ↦ λ e. let under = leb-false _ _ e in let rest = down (b ∷ bs) a count j (omega arith) at in' (omega arith) w in omega arith
     ] refl
 
--- the blocks that cover no more deltas than are kept are at most two of each level but the lowest
+-- the blocks of at most 256 deltas are at most two for each level but the lowest
 pub few_blocks : (bs : List (ℕ × ℕ)) (a count : ℕ) → a ≤ count → count - a ≤ MAX_DELTAS → AreBlocks a count bs → length bs ≤ 2 * MOST_LEVEL
 few_blocks bs a count in' left w = up MOST_LEVEL bs a count 0 (omega arith) (mod-one a) in' left w

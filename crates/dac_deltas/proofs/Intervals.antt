@@ -1,15 +1,15 @@
--- An interval that was made already.
+-- Cached intervals.
 use Rattle.std.specs.Prelude.{◌≡◌, ℕ, ◌+◌, ◌-◌, ◌≤◌, fold, drop, cond, Option, Some, None}
 use Rattle.std.proofs.Common.{sym, ap, ◌∙◌, arith, drop-drop, le-ltb}
 use Rattle.dac_deltas.specs.KeptDeltas.{KeptDeltas, cut, numbered_from, interval_of}
 use Rattle.dac_deltas.specs.BlockEnds.{IsReady}
 
 module _ {L : Type 0} (join : L → L → L) (bottom : L) where
-  -- where all deltas from its number on are kept, an interval is their join
+  -- if all deltas from its number on are stored, an interval is their join
   pub whole_interval : (k : KeptDeltas L) (a : ℕ) (x : L) → k.base ≤ a → x ≡ fold join bottom (numbered_from k a) → Some x ≡ interval_of bottom join k a
   whole_interval k a x low is = ap (λ y. Some y) is ∙ ap (λ b. cond b None (Some (fold join bottom (numbered_from k a)))) (sym (le-ltb a k.base low))
 
-  -- one that was made is right still where the oldest deltas are dropped
+  -- a cached interval stays right after the oldest deltas are dropped
   pub ready_cut : (k : KeptDeltas L) (n : ℕ) (ready : Option (ℕ × L)) → IsReady join bottom k ready → IsReady join bottom (cut k n) ready
   ready_cut k n None h = tt
   ready_cut k n (Some made) h = λ low.

@@ -1,4 +1,4 @@
--- What a buffer keeps, after deltas came and after the oldest went.
+-- The contents of a buffer, after deltas are added and the oldest are dropped.
 use Rattle.std.proofs.Common.{◌≡◌, ◌+◌, ◌-◌, ◌≤◌, ℕ, List, [], ◌∷◌, ◌++◌, drop, fold, length, take, Option, refl, sym, ap, subst, ◌∙◌, arith, min}
 use Rattle.std.proofs.lemmas.List.{take-append-le, take_all, length-drop, length-append, length-map, length-take, drop-map, take-map, get_or-map, map-append}
 use Rattle.std.specs.List.{All}
@@ -10,7 +10,7 @@ use Rattle.dac_deltas.proofs.Joining.{joined_push, joined_drop, joined_take}
 use Rattle.dac_deltas.specs.declared.buffer.TheConstants.{MAX_DELTAS}
 
 module _ {L : Type 0} (is_value : L → Type 0) (join : L → L → L) where
-  -- each delta that is kept is a value, since it is a block itself
+  -- each stored delta is a value, because it is a block itself
   joined_values : (es : List (L × List L)) → AreJoined is_value join es → All is_value (deltas_of es)
   joined_values es h k d lt =
       let many = length-map es (λ (x : L × List L). x.0) in
@@ -20,11 +20,11 @@ module _ {L : Type 0} (is_value : L → Type 0) (join : L → L → L) where
       subst is_value (sym (get_or-map (λ (x : L × List L). x.0) es k e d (omega arith))) had.value
 
   module _ (count : ℕ) (es : List (L × List L)) (h : IsKept is_value join count es) where
-    -- the base and those kept make the count
+    -- the base and the number of stored deltas add up to the count
     pub whole : (count - length es) + length es ≡ count
     whole = let buffer = h.buffer in let numbered = buffer.numbered in let many = length-map es (λ (x : L × List L). x.0) in omega arith
 
-    -- where deltas were added, all but the newest are dropped
+    -- after deltas are added, all but the newest are dropped
     pub kept_added : (mid new : List (L × List L)) (ds : List L) → count + length ds ≤ MAX_COUNTER → AreJoined is_value join mid → deltas_of mid ≡ deltas_of es ++ ds → new ≡ drop (length mid - MAX_DELTAS) mid → IsKept is_value join (count + length ds) new
     kept_added mid new ds room joined added dropped =
         let w = whole in
@@ -44,7 +44,7 @@ module _ {L : Type 0} (is_value : L → Type 0) (join : L → L → L) where
           joined = now;
         }
 
-    -- which is as many pushes
+    -- adding several deltas equals as many pushes
     pub shown_added : (mid new : List (L × List L)) (ds : List L) → deltas_of mid ≡ deltas_of es ++ ds → new ≡ drop (length mid - MAX_DELTAS) mid → newest (count + length ds) (deltas_of new) ≡ fold pushed (newest count (deltas_of es)) ds
     shown_added mid new ds added dropped =
         let w = whole in
@@ -59,7 +59,7 @@ module _ {L : Type 0} (is_value : L → Type 0) (join : L → L → L) where
         same_kept _ _ _ _ _ _ refl (omega arith) (ap deltas_of dropped ∙ (sym (drop-map (λ (x : L × List L). x.0) (length mid - MAX_DELTAS) mid) ∙ (ap (drop (length mid - MAX_DELTAS)) added ∙ ap (λ n. drop n (deltas_of es ++ ds)) gone)))
         ∙ sym (pushes_drop_together (newest count (deltas_of es)) ds few)
 
-    -- without the oldest
+    -- dropping the oldest deltas
     pub kept_dropped : (new : List (L × List L)) (n : ℕ) → n ≤ length es → new ≡ drop n es → IsKept is_value join count new
     kept_dropped new n some dropped =
         let w = whole in
@@ -102,11 +102,11 @@ module _ {L : Type 0} (is_value : L → Type 0) (join : L → L → L) where
       ap deltas_of pushed ∙ map-append (λ (x : L × List L). x.0) es ((d, []) ∷ []),
     )
 
-    -- where joins are made, all else stays
+    -- making joins changes nothing else
     pub kept_same : (new : List (L × List L)) → AreJoined is_value join new → deltas_of new ≡ deltas_of es → IsKept is_value join count new
     kept_same new joined same = record { buffer = subst (λ ds. IsBuffer is_value (newest count ds)) (sym same) h.buffer; joined = joined }
 
--- what a buffer held is held again, where deltas that came and joins of blocks are taken away
+-- a buffer's contents are restored after added deltas and joins are removed
 module _ {L : Type 0} (is_value : L → Type 0) (join : L → L → L) (bottom : L) (count : ℕ) (es : List (L × List L)) (made : Option (ℕ × L)) (h : IsHeld is_value join bottom count es made) where
   pub held_before : (mid new : List (L × List L)) → AreJoined is_value join mid → take (length es) (deltas_of mid) ≡ deltas_of es → new ≡ take (length es) mid
       → IsHeld is_value join bottom count new made × (newest count (deltas_of new) ≡ newest count (deltas_of es))
@@ -119,7 +119,7 @@ module _ {L : Type 0} (is_value : L → Type 0) (join : L → L → L) (bottom :
         ap (newest count) same,
       )
 
--- of the deltas with one more, those before are as they were
+-- the earlier deltas are unchanged after one more
 pub taken_one : {L : Type 0} (es mid : List (L × List L)) (d : L) → deltas_of mid ≡ deltas_of es ++ d ∷ [] → take (length es) (deltas_of mid) ≡ deltas_of es
 taken_one {L} es mid d same =
     let many = length-map es (λ (x : L × List L). x.0) in

@@ -1,4 +1,4 @@
--- Which numbers are multiples of powers of two.
+-- Multiples of powers of two.
 use Rattle.std.specs.Prelude.{◌≡◌, ℕ, ◌+◌, ◌-◌, ◌*◌, ◌/◌, ◌%◌, ◌≤◌, ◌<◌, ◌^◌}
 use Rattle.std.proofs.Common.{arith, sym, ap, ◌∙◌, add-one, zero, suc, ◌⊎◌, inl, inr, refl, true, false, leb}
 use Rattle.std.proofs.lemmas.Bool.{leb-true, leb-false}
@@ -12,7 +12,7 @@ use Rattle.std.proofs.Math.Pow.{mod-mod-pow}
 pub next_power : (k : ℕ) → 2 ^ (k + 1) ≡ 2 ^ k + 2 ^ k
 next_power k = rw add-one (two-pow-succ k)
 
--- a multiple of a power is one of each lesser power
+-- a multiple of a power is a multiple of each lesser one
 pub aligned_below : (x j k : ℕ) → j ≤ k → x % 2 ^ k ≡ 0 → x % 2 ^ j ≡ 0
 aligned_below x j k h p =
     let to : (k - j) + j ≡ k = omega arith in
@@ -40,7 +40,7 @@ aligned_more x k p =
     let is : (q % 2 + q / 2 * 2) * 2 ^ k ≡ x = ap (λ n. n * 2 ^ k) half ∙ omega arith in
     rw next_power (one_more (q % 2) (q / 2) (2 ^ k) x (omega arith) is)
 
--- a level at which a block fits, where none of the next one does, is the longest block's
+-- a level at which a block fits, while no block of the next level does, is that of the longest block
 pub longest_level : (number most level : ℕ) → level ≤ MOST_LEVEL → number % 2 ^ level ≡ 0 → 2 ^ level ≤ most → (level < MOST_LEVEL → number % 2 ^ (level + 1) ≡ 0 → 2 ^ (level + 1) ≤ most → ⊥) → IsLongest number most level
 longest_level number most level small at fits none = record {
   small = small;
@@ -55,7 +55,7 @@ longest_level number most level small at fits none = record {
   ] refl;
 }
 
--- below the level of the longest block, one of the next level fits
+-- if the level is below that of the longest block, a block of the next level fits
 pub record Fits (number most level : ℕ) : Type 0 where
   pub low : level < MOST_LEVEL
   pub aligned : number % 2 ^ (level + 1) ≡ 0

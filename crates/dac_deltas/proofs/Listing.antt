@@ -1,11 +1,11 @@
--- How blocks are listed, one after another.
+-- Listing blocks, one after another.
 use Rattle.std.specs.Prelude.{◌≡◌, ℕ, ◌+◌, ◌-◌, ◌*◌, ◌%◌, ◌≤◌, ◌<◌, ◌^◌, List, [], ◌∷◌, ◌++◌}
 use Rattle.std.proofs.Common.{arith, sym, ap, subst, ◌∙◌, append_assoc}
 use Rattle.std.proofs.lemmas.List.{append-nil}
 use Rattle.std.proofs.lemmas.Nat.{one_shl}
 use Rattle.dac_deltas.specs.Blocks.{IsLongest, AreBlocks}
 
--- from a on, the blocks before a number are listed
+-- the blocks from a to the number are listed
 pub record IsListing (a count number : ℕ) (bs : List (ℕ × ℕ)) : Type 0 where
   pub from : a ≤ number
   pub to : number ≤ count
@@ -19,7 +19,7 @@ block_end count number level before top =
     let shifted = one_shl level 64 (omega arith) in
     (omega arith, omega arith)
 
--- one block more
+-- one more block
 pub listing_one : (a count number end level : ℕ) (bs bs' : List (ℕ × ℕ)) → number < count → IsLongest number (count - number) level → end ≡ number + 1 * 2 ^ level % 2 ^ 64 → bs' ≡ bs ++ (number, end) ∷ [] → IsListing a count number bs → IsListing a count end bs'
 listing_one a count number end level bs bs' before top is pushed h =
     let ends = block_end count number level before top in
@@ -31,6 +31,6 @@ listing_one a count number end level bs bs' before top is pushed h =
       all = λ rest w. subst (AreBlocks a count) (sym (ap (λ xs. xs ++ rest) pushed ∙ append_assoc bs ((number, end) ∷ []) rest)) (h.all ((number, end) ∷ rest) ((level, top, ap (λ n. (number, n)) end'), w));
     }
 
--- in the end all are listed
+-- at the end all blocks are listed
 pub listing_all : (a count number : ℕ) (bs : List (ℕ × ℕ)) → count ≤ number → IsListing a count number bs → AreBlocks a count bs
 listing_all a count number bs done h = let to = h.to in subst (AreBlocks a count) (append-nil bs) (h.all [] (omega arith))

@@ -1,4 +1,4 @@
--- What is in a list of entries in order, once one is put where a search answers.
+-- A list of entries in key order, after an entry is put at the result of a search.
 use Rattle.std.specs.Prelude.{◌≡◌, ℕ, ◌<◌, ◌≤◌, false, cond, List, [], ◌∷◌, length, slice_set, None, Some, Ok, Err, refl}
 use Rattle.std.proofs.Common.{zero, suc, sym, ap, subst, ◌∙◌, arith, get_or, add-one}
 use Rattle.std.specs.declared.cmp.Ordering.{Ordering}
@@ -29,7 +29,7 @@ module _ {K X : Type 0} {R : K → K → Ordering} (o : IsTotalOrder R) where
       ap (λ r. cond (is_eq r) (Some e.1) (find R k es)) (greater o e.0 k (low 0 e (omega arith) (omega arith)))
       ∙ missing es i k (λ j d p q. low (suc j) d (omega arith) (omega arith)) (λ j d p q. high (suc j) d (omega arith) (omega arith))
 
-  -- to put an entry there is to insert it
+  -- putting an entry there inserts it
   between : (es : List (K × X)) (i : ℕ) (k : K) (v : X) → i ≤ length es → AllWithin (λ e. R e.0 k ≡ Less) es 0 i → AllWithin (λ e. R e.0 k ≡ Greater) es i (length es) → insert es i (k, v) ≡ put R k v es
   between [] zero k v p low high = refl
   between [] (suc i) k v p low high = absurd (omega arith)
@@ -55,7 +55,7 @@ module _ {K X : Type 0} {R : K → K → Ordering} (o : IsTotalOrder R) (exact :
   pub put_between : (es : List (K × X)) (i : ℕ) (k : K) (v : X) → IsInOrder R es → i ≤ length es → IsBinarySearchResult (λ e. R e.0 k) es (Err i) → insert es i (k, v) ≡ put R k v es
   put_between es i k v h p parted = let parts = parted (rises es h k) in between o es i k v p parts.0 parts.1
 
-  -- at a key that a search finds, to put an entry is to set the one that is there
+  -- at a key that a search finds, putting an entry replaces the old one
   there : (es : List (K × X)) (i : ℕ) (k : K) (v : X) → IsInOrder R es → i < length es → R (get_or es i (k, v)).0 k ≡ Equal → slice_set es i (k, v) ≡ put R k v es
   there [] i k v h p t = absurd (omega arith)
   there (e ∷ es) zero k v h p t =
@@ -69,6 +69,6 @@ module _ {K X : Type 0} {R : K → K → Ordering} (o : IsTotalOrder R) (exact :
   pub put_there : (es : List (K × X)) (i : ℕ) (k : K) (v : X) → IsInOrder R es → i < length es → IsBinarySearchResult (λ e. R e.0 k) es (Ok i) → slice_set es i (k, v) ≡ put R k v es
   put_there es i k v h p at = there es i k v h p (at (k, v))
 
-  -- it stays in order
+  -- the list stays in order
   pub in_order_put : (es new : List (K × X)) (k : K) (v : X) → IsInOrder R es → new ≡ put R k v es → IsInOrder R new
   in_order_put es new k v h is = subst (IsInOrder R) (sym is) (is_sorted-put R o k v es h)

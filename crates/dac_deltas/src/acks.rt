@@ -1,4 +1,4 @@
-//! What was acknowledged.
+//! Acknowledgements.
 ghost use Rattle.std.specs.Prelude.{◌≡◌, None, OnOk, OnErr, IfOk};
 ghost use Rattle.std.specs.FinMap as map;
 ghost use Rattle.dac_deltas.specs.Numbers.{raised};
@@ -9,8 +9,7 @@ use dac_origins::Origin;
 use std::alloc::Global;
 use std::marker::Model;
 
-/// The greatest number that each origin acknowledged. Contracts see it as a finite map from origins to
-/// numbers.
+/// The greatest number that each origin acknowledged. Contracts treat it as a finite map from origins to numbers.
 #[derive(Drop)]
 pub struct Acks {
     numbers: Entries<Origin, u64>,
@@ -30,7 +29,7 @@ impl Model for Acks {
 }
 
 impl Acks {
-    /// Nothing is acknowledged. It takes no memory.
+    /// No acknowledgements.
     pub fn new(alloc: Global) -> Self
         ensures { result ≡ map.empty }
     {
@@ -39,15 +38,15 @@ impl Acks {
         }
     }
 
-    /// The greatest number that an origin acknowledged, if it acknowledged any.
+    /// The greatest number that an origin acknowledged, if any.
     pub fn get(&self, origin: Origin) -> Option<u64>
         ensures { result ≡ map.get self.now origin }
     {
         self.numbers.get(origin)
     }
 
-    /// An origin acknowledges a number. A lesser one than before changes nothing. [`NoMemory`] is the only
-    /// error; it comes only where the origin acknowledged none before, and leaves all as it was.
+    /// Records that an origin acknowledged a number. A number that isn't greater changes nothing. Fails with
+    /// [`NoMemory`] only at the origin's first acknowledgement, and changes nothing then.
     pub fn raise(&mut self, origin: Origin, number: u64) -> Result<(), NoMemory>
         ensures ok { OnOk result (self.new ≡ raised self.old origin number) }
         ensures err { OnErr result (self.new ≡ self.old) }
@@ -61,7 +60,7 @@ impl Acks {
         Ok(())
     }
 
-    /// An equal table, with memory of its own. [`NoMemory`] is the only error.
+    /// An equal table, which shares nothing.
     pub fn copy(&self) -> Result<Self, NoMemory>
         ensures { IfOk result (λ copied. copied ≡ self.now) }
     {

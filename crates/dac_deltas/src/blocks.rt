@@ -1,8 +1,8 @@
-//! Aligned blocks of deltas, and what is kept of each delta.
+//! Aligned blocks of deltas, and their joins.
 ghost use Rattle.std.specs.Prelude.{List, ◌≡◌, ◌+◌, ◌-◌, ◌<◌, ◌≤◌, ◌^◌, ◌++◌, ◌∷◌, [], length, take, drop, IfOk, IfSome, OnOk, OnErr, slice_index_or};
 ghost use Rattle.dac_base.specs.declared.limits.TheConstants.{MAX_COUNTER};
 ghost use Rattle.dac_deltas.specs.Blocks.{IsLongest};
-ghost use Rattle.dac_deltas.specs.BlockEnds.{AreJoined, IsNextJoin, StandsFor, deltas_of, join_at};
+ghost use Rattle.dac_deltas.specs.BlockEnds.{AreJoined, IsNextJoin, IsJoinOfDeltas, deltas_of, join_at};
 
 use dac_base::NoMemory;
 use dac_lattice::Lattice;
@@ -13,8 +13,8 @@ use std::marker::Model;
 /// The level of the longest blocks, which have 256 deltas.
 pub(crate) const MOST_LEVEL: usize = 8;
 
-/// The level of the longest aligned block that begins at a number, or that ends there, with at most so many
-/// deltas. It has 2^level of them.
+/// The level of the longest aligned block that begins or ends at `number` and has at most `most` deltas. A block of
+/// this level has 2^level of them.
 pub(crate) fn level_at(number: u64, most: u64) -> usize
     requires { 0 < most }
     ensures { IsLongest number most result }
@@ -28,8 +28,8 @@ pub(crate) fn level_at(number: u64, most: u64) -> usize
     level
 }
 
-/// A delta that is kept, and the joins of blocks of 2 deltas and more that end with it, the shortest block first. At
-/// first there are none: they are made when they are needed. Contracts see the delta and the joins.
+/// A stored delta, and the joins of the blocks of 2 or more deltas that end with it, the shortest block first. The
+/// joins are made when they are needed. Contracts see the delta and the joins made so far.
 #[derive(Drop)]
 pub(crate) struct BlockEnd<L: Lattice> {
     delta: L,
@@ -44,8 +44,8 @@ impl<L: Lattice> Model for BlockEnd<L> {
     ghost view = { λ e. (e.delta, e.joins.items) };
 }
 
-/// The join of the block of twice 2^level deltas that ends with a kept one. There is none where that isn't the next
-/// join to make, or where the join of its first half isn't made.
+/// The join of the block of twice 2^level deltas that ends with the stored delta at index `i`. `None` unless that is
+/// the next join to make and the join of its first half is made.
 fn doubled<L: Lattice>(
     kept: &VecDeque<BlockEnd<L>>,
     i: usize,
@@ -67,8 +67,8 @@ fn doubled<L: Lattice>(
     Ok(Some(joined))
 }
 
-/// Makes the joins of the blocks that end with a kept delta, where those of their first halves are made. The first
-/// delta that is kept has number `base`. Where memory is refused, only some are made.
+/// Makes the joins of the blocks that end with the stored delta at index `i`, as far as those of their first halves are
+/// made. The first stored delta has number `base`. After [`NoMemory`] some can be made.
 fn make_joins<L: Lattice>(
     kept: &mut VecDeque<BlockEnd<L>>,
     base: u64,
@@ -90,8 +90,8 @@ fn make_joins<L: Lattice>(
     Ok(())
 }
 
-/// Makes the joins of the blocks that end with the kept deltas from one on. The first delta that is kept has number
-/// `base`. Where memory is refused, only some are made.
+/// Makes the joins of the blocks that end with a stored delta from index `from` on. The first stored delta has number
+/// `base`. After [`NoMemory`] some can be made.
 pub(crate) fn make_all_joins<L: Lattice>(
     kept: &mut VecDeque<BlockEnd<L>>,
     base: u64,
@@ -108,7 +108,7 @@ pub(crate) fn make_all_joins<L: Lattice>(
     Ok(())
 }
 
-/// The same, if joins are to be made.
+/// Like [`make_all_joins`] if `makes_joins`; otherwise does nothing.
 pub(crate) fn join_from<L: Lattice>(
     kept: &mut VecDeque<BlockEnd<L>>,
     base: u64,
@@ -126,9 +126,9 @@ pub(crate) fn join_from<L: Lattice>(
     make_all_joins(kept, base, from)
 }
 
-/// The longest block whose join is made, of those that begin with a kept delta and have 2^most deltas or fewer: its
-/// level, and its join.
-pub(crate) fn longest_made<L: Lattice>(
+/// The longest block with a join, among those that begin with the stored delta at index `begin` and have at most 2^most
+/// deltas: its level and its join.
+pub(crate) fn longest_joined<L: Lattice>(
     kept: &VecDeque<BlockEnd<L>>,
     begin: usize,
     most: usize,
@@ -137,7 +137,7 @@ pub(crate) fn longest_made<L: Lattice>(
     requires fits { begin + 2 ^ most ≤ length kept.now.items }
     requires joined { AreJoined L.is_value L.join kept.now.items }
     ensures level { result.0 ≤ most }
-    ensures join { StandsFor L.is_value L.join result.1.now
+    ensures join { IsJoinOfDeltas L.is_value L.join result.1.now
         (take (2 ^ result.0) (drop begin (deltas_of kept.now.items))) }
 {
     let mut level = most;
@@ -162,7 +162,7 @@ fn copy_all<L: Lattice>(alloc: Global, values: &[L]) -> Result<Vec<L>, NoMemory>
 }
 
 impl<L: Lattice> BlockEnd<L> {
-    /// A delta alone. It takes no memory.
+    /// A delta without joins.
     pub(crate) fn new(alloc: Global, delta: L) -> Self
         ensures { result ≡ (delta, []) }
     {
@@ -172,7 +172,7 @@ impl<L: Lattice> BlockEnd<L> {
         }
     }
 
-    /// The level of the longest block whose join is made, 0 where there is the delta alone.
+    /// The level of the longest block with a join, or 0 for the delta alone.
     pub(crate) fn level(&self) -> usize
         ensures { result ≡ length self.now.1 }
     {
@@ -190,7 +190,7 @@ impl<L: Lattice> BlockEnd<L> {
         &self.joins[level - 1]
     }
 
-    /// One join more. Where memory is refused, there are those before.
+    /// Adds the next join. After [`NoMemory`] nothing has changed.
     fn add_join(&mut self, joined: L) -> Result<(), NoMemory>
         ensures ok { OnOk result (self.new ≡ (self.old.0, self.old.1 ++ joined ∷ [])) }
         ensures err { OnErr result (self.new ≡ self.old) }
@@ -199,7 +199,7 @@ impl<L: Lattice> BlockEnd<L> {
         Ok(())
     }
 
-    /// A copy. [`NoMemory`] is the only error.
+    /// A copy of the delta and its joins.
     pub(crate) fn copy(&self) -> Result<Self, NoMemory>
         ensures { IfOk result (λ copied. copied ≡ self.now) }
     {
@@ -210,7 +210,7 @@ impl<L: Lattice> BlockEnd<L> {
     }
 }
 
-/// Adds deltas after those that are kept. Where memory is refused, only some are added.
+/// Appends deltas to the stored ones. After [`NoMemory`] some can be there.
 pub(crate) fn add_all<L: Lattice>(
     alloc: Global,
     kept: &mut VecDeque<BlockEnd<L>>,
@@ -229,8 +229,8 @@ pub(crate) fn add_all<L: Lattice>(
     Ok(())
 }
 
-/// Adds deltas after those that are kept, of which the first has number `base`, with the joins of the blocks that end with
-/// them, if joins are to be made. Where memory is refused, only some are added.
+/// Appends deltas to the stored ones, of which the first has number `base`, and if `makes_joins` makes the joins of the
+/// blocks that end with them. After [`NoMemory`] some deltas can be there.
 pub(crate) fn add_joined<L: Lattice>(
     alloc: Global,
     kept: &mut VecDeque<BlockEnd<L>>,

@@ -1,4 +1,4 @@
-//! The newest deltas, by number.
+//! The newest deltas of a log, by number.
 ghost use Rattle.std.specs.Prelude.{◌≡◌, ◌+◌, ◌-◌, ◌*◌, ◌<◌, ◌≤◌, fold, drop, length, Ok, None, Some, OnOk, OnErr, IfOk, IfSome, IsSome, unwrap_or};
 ghost use Rattle.dac_deltas.specs.KeptDeltas.{IsBuffer, empty, pushed, trimmed, numbered_from, interval_of, IsJoinOf};
 ghost use Rattle.dac_deltas.specs.Blocks.{AreBlocks};
@@ -6,7 +6,7 @@ ghost use Rattle.dac_deltas.specs.declared.blocks.TheConstants.{MOST_LEVEL};
 ghost use Rattle.dac_deltas.specs.declared.buffer.TheConstants.{MAX_DELTAS};
 
 use crate::blocks::{
-    BlockEnd, MOST_LEVEL, add_joined, join_from, level_at, longest_made, make_all_joins,
+    BlockEnd, MOST_LEVEL, add_joined, join_from, level_at, longest_joined, make_all_joins,
 };
 use dac_base::{MAX_COUNTER, NoMemory};
 use dac_lattice::{Bottom, Lattice};
@@ -14,25 +14,23 @@ use std::alloc::Global;
 use std::collections::VecDeque;
 use std::marker::Model;
 
-/// How many deltas a buffer keeps at most. The number is this project's own.
+/// The greatest number of deltas that a buffer stores. This project's own choice.
 pub const MAX_DELTAS: usize = 1 << MOST_LEVEL;
 
-/// The newest deltas of a log, at most 256. Deltas are numbered in the order in which they are pushed, from
-/// 0. Contracts see how many there were ever, the least number that is kept, and those kept, the oldest
-/// first.
+/// The newest deltas of a log, at most 256, numbered from 0 in the order in which they are pushed. Contracts see the
+/// number of deltas ever pushed, the least number that is stored, and the stored deltas, the oldest first.
 ///
-/// Beside its deltas a buffer keeps the joins of their aligned blocks of 2 to 256 deltas. A full one has at most 255 of
-/// these. A push makes those of the blocks that end with it, so that an interval takes at most 16 joins. A lazy buffer's
-/// pushes make none until [`Buffer::warm`] makes those that it lacks. From then on it is a buffer like any other: it is for
-/// an owner who may never ask for an interval. A buffer keeps one interval too, until a delta comes, so that peers that get
-/// the same one share it.
+/// A buffer also stores the joins of aligned blocks of 2 to 256 deltas, at most 255 of them. A push makes those of the
+/// blocks that end with it, so that an interval takes at most 16 joins. A lazy buffer, for an owner that might never
+/// request an interval, makes none until [`Buffer::warm`] makes all, and then behaves like any other. A buffer also
+/// caches one interval until the next delta, so that peers that receive the same interval share it.
 #[derive(Drop)]
 pub struct Buffer<L: Bottom> {
     alloc: Global,
     count: u64,
     kept: VecDeque<BlockEnd<L>>,
     ready: Option<(u64, L)>,
-    /// A push makes the joins of its blocks: the buffer isn't lazy.
+    /// Whether a push makes the joins of its blocks: false for a lazy buffer.
     makes_joins: bool,
 }
 
@@ -47,7 +45,7 @@ impl<L: Bottom> Model for Buffer<L> {
     ghost invariant = { λ b. IsHeld L.is_value L.join L.bottom b.count b.kept.items b.ready };
 }
 
-/// Drops all but the newest 256.
+/// Drops all but the newest 256 deltas.
 fn keep_newest<L: Bottom>(kept: &mut VecDeque<BlockEnd<L>>)
     ensures { kept.new.items ≡ drop (length kept.old.items - MAX_DELTAS) kept.old.items }
 {
@@ -55,7 +53,7 @@ fn keep_newest<L: Bottom>(kept: &mut VecDeque<BlockEnd<L>>)
     kept.drain(..dropped);
 }
 
-/// What is joined so far, with one block more. The first block is taken as it is: what it shares stays shared.
+/// The join so far with one more block. The first block is copied, so that its shared memory stays shared.
 fn join_on<L: Bottom>(joined: Option<L>, block: &L) -> Result<L, NoMemory>
     ensures { IfOk result (λ both. both ≡ L.join (unwrap_or joined L.bottom) block.now) }
 {
@@ -68,7 +66,7 @@ fn join_on<L: Bottom>(joined: Option<L>, block: &L) -> Result<L, NoMemory>
     }
 }
 
-/// A copy of an interval that was made already, with its first number.
+/// A copy of the cached interval, with its first number.
 fn copy_ready<L: Lattice>(ready: &Option<(u64, L)>) -> Result<Option<(u64, L)>, NoMemory>
     ensures { IfOk result (λ copied. copied ≡ ready.now) }
 {
@@ -79,7 +77,7 @@ fn copy_ready<L: Lattice>(ready: &Option<(u64, L)>) -> Result<Option<(u64, L)>, 
     Ok(Some((*a, copied)))
 }
 
-/// What is joined, and the least value where nothing is.
+/// The join, or the least value if there is none.
 fn or_bottom<L: Bottom>(alloc: Global, joined: Option<L>) -> L
     ensures { result ≡ unwrap_or joined L.bottom }
 {
@@ -90,21 +88,21 @@ fn or_bottom<L: Bottom>(alloc: Global, joined: Option<L>) -> L
 }
 
 impl<L: Bottom> Buffer<L> {
-    /// No deltas. It takes no memory.
+    /// The empty buffer.
     pub fn new(alloc: Global) -> Self
         ensures { result ≡ empty }
     {
         Self::without_deltas(alloc, true)
     }
 
-    /// No deltas, in a lazy buffer: [`Buffer::warm`] makes its joins of blocks. It takes no memory.
+    /// The empty lazy buffer, which makes no joins of blocks before [`Buffer::warm`].
     pub fn lazy(alloc: Global) -> Self
         ensures { result ≡ empty }
     {
         Self::without_deltas(alloc, false)
     }
 
-    /// No deltas, in a buffer whose pushes make joins of blocks, or in a lazy one.
+    /// The empty buffer; with `makes_joins` false it is lazy.
     fn without_deltas(alloc: Global, makes_joins: bool) -> Self
         ensures { result ≡ empty }
     {
@@ -117,30 +115,30 @@ impl<L: Bottom> Buffer<L> {
         }
     }
 
-    /// The base and those kept make the count, and at most 256 are kept. Each is a value of the lattice, and the
-    /// count is at most 2^62. This only tells proofs so, and does nothing when it runs.
+    /// States the invariant for proofs; does nothing at run time. The base and the number of stored deltas add up to
+    /// the count, which is at most 2^62; at most 256 are stored; and each is a value of the lattice.
     pub fn tells_invariant(&self)
         ensures { IsBuffer L.is_value self.now }
     {
         let _kept = &self.kept;
     }
 
-    /// How many deltas were pushed ever. The first has number 0.
+    /// The number of deltas ever pushed. The first has number 0.
     pub fn count(&self) -> u64
         ensures { result ≡ self.now.count }
     {
         self.count
     }
 
-    /// The least number of a delta that is kept, and the count where none is.
+    /// The least number of a stored delta, or the count if none is stored.
     pub fn base(&self) -> u64
         ensures { result ≡ self.now.base }
     {
         self.count - self.kept.len() as u64
     }
 
-    /// One more delta, whose number is the count. With 256 kept, the oldest is dropped. The caller owes a
-    /// count below 2^62. [`NoMemory`] is the only error, and leaves all as it was.
+    /// Appends a delta, whose number is the count. If 256 are stored, drops the oldest. Requires a count below 2^62.
+    /// After [`NoMemory`] the buffer is unchanged.
     pub fn push(&mut self, delta: L) -> Result<(), NoMemory>
         requires { self.old.count < MAX_COUNTER }
         ensures ok { OnOk result (self.new ≡ pushed self.old delta) }
@@ -160,8 +158,8 @@ impl<L: Bottom> Buffer<L> {
         Ok(())
     }
 
-    /// Several deltas more, one after another as [`Buffer::push`] does, or none of them. The caller owes a
-    /// count of at most 2^62 with all of them. [`NoMemory`] is the only error, and leaves all as it was.
+    /// Appends several deltas, one after another as [`Buffer::push`] does. Requires that the count with all of them is
+    /// at most 2^62. After [`NoMemory`] the buffer is unchanged.
     pub fn push_all(&mut self, deltas: Vec<L>) -> Result<(), NoMemory>
         requires { self.old.count + length deltas.items ≤ MAX_COUNTER }
         ensures ok { OnOk result (self.new ≡ fold pushed self.old deltas.items) }
@@ -189,8 +187,8 @@ impl<L: Bottom> Buffer<L> {
         Ok(())
     }
 
-    /// Drops the deltas below a number: the base becomes the lesser of the number and the count, where that
-    /// is greater than it was. It takes no memory.
+    /// Drops the deltas below number `n`: the base becomes the lesser of `n` and the count, unless it is greater
+    /// already.
     pub fn trim(&mut self, n: u64)
         ensures { self.new ≡ trimmed self.old n }
     {
@@ -198,13 +196,12 @@ impl<L: Bottom> Buffer<L> {
         self.kept.drain(..dropped as usize);
     }
 
-    /// The join of the deltas from number `a` on. It is the least value where `a` is the count, and none where a
-    /// delta from `a` on is no longer kept. The caller owes that `a` is at most the count. [`NoMemory`] is the only
-    /// error, and comes only where all deltas from `a` on are kept.
+    /// The join of the deltas from number `a` on, or the least value if `a` is the count. `None` if a delta from `a` on
+    /// has been dropped. Requires that `a` is at most the count. Fails with [`NoMemory`] only if all deltas from `a` on
+    /// are stored.
     ///
-    /// It joins the blocks that [`Buffer::blocks`] lists, from the first to the last. A lazy buffer joins shorter ones in
-    /// place of a block whose join isn't made. Where this interval is remembered, it is a copy of that one, and joins
-    /// nothing.
+    /// It joins the blocks that [`Buffer::blocks`] lists, in order. A lazy buffer joins shorter ones in place of a
+    /// block whose join isn't made. If the interval is cached, it returns a copy and joins nothing.
     pub fn interval(&self, a: u64) -> Result<Option<L>, NoMemory>
         requires { a ≤ self.now.count }
         ensures dropped { a < self.now.base → result ≡ Ok None }
@@ -217,24 +214,24 @@ impl<L: Bottom> Buffer<L> {
         if a < base {
             return Ok(None);
         }
-        let joined = self.joined_from(a)?;
+        let joined = self.interval_from(a)?;
         Ok(Some(joined))
     }
 
-    /// The join of the deltas from number `a` on, all of which are kept.
-    fn joined_from(&self, a: u64) -> Result<L, NoMemory>
+    /// The join of the deltas from number `a` on, all of which are stored.
+    fn interval_from(&self, a: u64) -> Result<L, NoMemory>
         requires counted { a ≤ self.now.count }
         requires kept { self.now.base ≤ a }
         ensures { IfOk result (λ joined. joined ≡ fold L.join L.bottom (numbered_from self.now a)) }
     {
         match &self.ready {
             Some((from, joined)) if *from == a => joined.copy(),
-            _ => self.made_from(a),
+            _ => self.computed_from(a),
         }
     }
 
-    /// The same, where none was made already: the joins of its blocks, joined.
-    fn made_from(&self, a: u64) -> Result<L, NoMemory>
+    /// Computes the join of the deltas from number `a` on, all of which are stored, from the joins of blocks.
+    fn computed_from(&self, a: u64) -> Result<L, NoMemory>
         requires counted { a ≤ self.now.count }
         requires kept { self.now.base ≤ a }
         ensures { IfOk result (λ joined. joined ≡ fold L.join L.bottom (numbered_from self.now a)) }
@@ -244,15 +241,15 @@ impl<L: Bottom> Buffer<L> {
         let mut at = a;
         while at < self.count {
             let most = level_at(at, self.count - at);
-            let (level, block) = longest_made(&self.kept, (at - base) as usize, most);
+            let (level, block) = longest_joined(&self.kept, (at - base) as usize, most);
             joined = Some(join_on(joined, block)?);
             at += 1 << level;
         }
         Ok(or_bottom(self.alloc, joined))
     }
 
-    /// Keeps the interval that begins at number `a` until a delta comes, so that [`Buffer::interval`] shares it from
-    /// then on. The caller owes that it is that interval. It takes no memory, and contracts see no change.
+    /// Caches the interval that begins at number `a` until the next delta, so that later calls of [`Buffer::interval`]
+    /// share it. Requires that `joined` is that interval. Contracts see no change.
     pub fn remember(&mut self, a: u64, joined: L)
         requires { interval_of L.bottom L.join self.old a ≡ Some joined }
         ensures { self.new ≡ self.old }
@@ -260,8 +257,8 @@ impl<L: Bottom> Buffer<L> {
         self.ready = Some((a, joined));
     }
 
-    /// Makes the joins of blocks that a lazy buffer lacks, which is lazy no longer: each later push makes its own. An owner
-    /// calls it before the first interval. Contracts see no change. [`NoMemory`] is the only error, and leaves all as it was.
+    /// Makes the missing joins of a lazy buffer, and from then on each push makes its own. Owners call it before the
+    /// first interval. Contracts see no change. After [`NoMemory`] the buffer is still lazy.
     pub fn warm(&mut self) -> Result<(), NoMemory>
         ensures { self.new ≡ self.old }
     {
@@ -274,10 +271,10 @@ impl<L: Bottom> Buffer<L> {
         Ok(())
     }
 
-    /// The blocks that an interval joins, each as its first number and the one after its last. From `a` to the count each is
-    /// the longest aligned block that begins where the one before ended. They are at most 16, and none where `a` is the
-    /// count. There is no list where a delta from `a` on is no longer kept. The caller owes that `a` is at most the count.
-    /// [`NoMemory`] is the only error, and comes only where all deltas from `a` on are kept.
+    /// The blocks that an interval joins, each as its first number and the one after its last. From `a` to the count
+    /// each is the longest aligned block that begins at the end of the previous one. There are at most 16, and none if
+    /// `a` is the count. `None` if a delta from `a` on has been dropped. Requires that `a` is at most the count. Fails
+    /// with [`NoMemory`] only if all deltas from `a` on are stored.
     pub fn blocks(&self, a: u64) -> Result<Option<Vec<(u64, u64)>>, NoMemory>
         requires { a ≤ self.now.count }
         ensures dropped { a < self.now.base → result ≡ Ok None }
@@ -299,7 +296,7 @@ impl<L: Bottom> Buffer<L> {
         Ok(Some(blocks))
     }
 
-    /// An equal buffer. Its deltas may share memory that never changes. [`NoMemory`] is the only error.
+    /// An equal buffer. Its deltas can share immutable memory.
     pub fn copy(&self) -> Result<Self, NoMemory>
         ensures { IfOk result (λ copied. copied ≡ self.now) }
     {

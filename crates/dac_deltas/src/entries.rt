@@ -10,7 +10,7 @@ use dac_origins::MapKey;
 use std::alloc::Global;
 use std::marker::Model;
 
-/// A finite map with few keys, kept as one list of its entries in the order of the keys. Contracts see that list.
+/// A finite map with few keys, stored as the list of its entries in key order. Contracts see that list.
 #[derive(Drop)]
 pub struct Entries<K: MapKey, X: Copy> {
     entries: Vec<(K, X)>,
@@ -27,7 +27,7 @@ impl<K: MapKey, X: Copy> Model for Entries<K, X> {
     ghost invariant = { λ m. IsInOrder K.cmp m.entries.items };
 }
 
-/// Where a key is in a list of entries, or would be.
+/// The index of a key in a list of entries, or of its insertion point.
 fn place_of<K: MapKey, X>(entries: &[(K, X)], key: K) -> Result<usize, usize>
     ensures bound { IsSearchInRange result (length entries.now) }
     ensures position { IsBinarySearchResult (λ e. K.cmp e.0 key) entries.now result }
@@ -35,8 +35,8 @@ fn place_of<K: MapKey, X>(entries: &[(K, X)], key: K) -> Result<usize, usize>
     entries.binary_search_by_key(&key, |entry| entry.0)
 }
 
-/// Puts an entry in its place in a list in the order of the keys. At a key that is there the value is new. Where
-/// memory is refused the list stays as it was.
+/// Inserts an entry into a list in key order, or replaces the value if the key is there. After [`NoMemory`] the list is
+/// unchanged.
 fn put_entry<K: MapKey, X: Copy>(
     entries: &mut Vec<(K, X)>,
     key: K,
@@ -56,7 +56,7 @@ fn put_entry<K: MapKey, X: Copy>(
 }
 
 impl<K: MapKey, X: Copy> Entries<K, X> {
-    /// No entries. It takes no memory.
+    /// The empty map.
     pub fn new(alloc: Global) -> Self
         ensures { result ≡ [] }
     {
@@ -65,15 +65,14 @@ impl<K: MapKey, X: Copy> Entries<K, X> {
         }
     }
 
-    /// The value at a key, if there is one.
+    /// The value at a key, if any.
     pub fn get(&self, key: K) -> Option<X>
         ensures { result ≡ find K.cmp key self.now }
     {
         value_at(&self.entries, key).copied()
     }
 
-    /// A key has this value. [`NoMemory`] is the only error; it comes only where the key had none before, and leaves
-    /// all as it was.
+    /// Sets the value of a key. Fails with [`NoMemory`] only if the key had none, and changes nothing then.
     pub fn put(&mut self, key: K, value: X) -> Result<(), NoMemory>
         ensures ok { OnOk result (self.new ≡ put K.cmp key value self.old) }
         ensures err { OnErr result (self.new ≡ self.old) }
@@ -82,7 +81,7 @@ impl<K: MapKey, X: Copy> Entries<K, X> {
         put_entry(&mut self.entries, key, value)
     }
 
-    /// An equal map. It takes memory of its own at most once. [`NoMemory`] is the only error.
+    /// An equal map. It allocates at most once.
     pub fn copy(&self) -> Result<Self, NoMemory>
         ensures { IfOk result (λ copied. copied ≡ self.now) }
     {

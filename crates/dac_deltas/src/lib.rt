@@ -1,13 +1,15 @@
-//! The deltas that a replica keeps for its peers, and what its peers acknowledged.
+//! The delta log that a replica stores for its peers, and their acknowledgements.
 //!
-//! A replica numbers the deltas that it adds to its state, from 0, and keeps the newest of them. A peer
-//! that acknowledged all below some number is sent the join of the later ones, an interval, in place of the
-//! whole state. These are the delta intervals of delta-state replicated data types. A [`Buffer`] keeps at
-//! most [`MAX_DELTAS`] deltas of any lattice with a least value, and [`Acks`] the greatest number that each origin
-//! acknowledged.
+//! A replica numbers the deltas of its state from 0, and stores the newest of them. A peer that acknowledged all deltas
+//! below a number receives the join of the later ones, an interval, in place of the whole state. These are the delta
+//! intervals of delta-state CRDTs. A [`Buffer`] stores at most [`MAX_DELTAS`] deltas of any lattice with a least value,
+//! and [`Acks`] the greatest number that each origin acknowledged.
 //!
-//! Contracts see a buffer as a count, the least number that is kept, and the deltas from there on. [`laws`] says that
-//! this is what is left of a log that is never cut. It says too that an interval is the join of the log's deltas.
+//! Contracts see a buffer as a count, the least stored number, and the deltas from there on. [`laws`] states that this
+//! is the rest of an append-only log, and that an interval is the join of the log's deltas.
+//!
+//! Functions that don't return `Result<_, NoMemory>` allocate nothing. A public function that fails, only ever with
+//! `NoMemory`, leaves its borrowed arguments unchanged as contracts see them.
 #![tactic(auto)]
 
 pub use acks::Acks;

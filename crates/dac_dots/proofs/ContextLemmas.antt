@@ -1,4 +1,4 @@
--- What is said of a set by its rows.
+-- Properties of a set, in terms of its rows.
 use Rattle.std.proofs.Common.{◌≡◌, ℕ, zero, suc, ◌+◌, ◌-◌, ◌^◌, ◌<◌, ◌≤◌, ◌⊎◌, ◌↔◌, inl, inr, Bool, true, false, IsTrue, ◌||◌, ◌&&◌, nat_le, nat_eq, List, [], ◌∷◌, ◌++◌, length, take, get_or, refl, sym, ap, ◌∙◌, subst, arith}
 use Rattle.std.specs.declared.cmp.Ordering.TheVariants.{Less}
 use Rattle.std.specs.Ordering.{nat_cmp, eq_by_cmp, is_eq, is_lt}
@@ -22,7 +22,7 @@ use Rattle.dac_dots.specs.Rows.{Row, dots_in, rows_of, has_counter, row_has, any
 use Rattle.dac_dots.proofs.PlaceLemmas.{contains_is, row_there, some_from, at_origin, length_origins}
 use Rattle.dac_dots.proofs.RowLemmas.{above_low}
 
--- ---- one row in a set
+-- ---- one row as a subset
 
 module _ (row : Row) (dots : Dots) (o : Origin) (at_o : o ≡ row.origin) (b : Bool) where
   pub within_found : (r : Row) → ((n : ℕ) → set.contains dots (dot o n) ≡ has_counter r n) → (IsTrue b ↔ IsWithinRow row r) → IsTrue b ↔ IsRowIn row dots
@@ -37,7 +37,7 @@ module _ (row : Row) (dots : Dots) (o : Origin) (at_o : o ≡ row.origin) (b : B
         λ within. says.1 (λ some. let counter = some_counter row some in true≢false (sym (within counter.0 counter.1) ∙ same_dot counter.0 ∙ there counter.0)),
       )
 
--- ---- all rows in a set
+-- ---- all rows as a subset
 
 rows_in : (rows : List Row) (dots : Dots) → All (λ (row : Row). IsRowIn row dots) rows → (q : Dot) → any_row rows q ≡ true → set.contains dots q ≡ true
 rows_in [] dots all q e = absurd (false≢true e)
@@ -53,7 +53,7 @@ module _ (rows s : List Row) (dots : Dots) (view : dots_in rows ≡ dots) (same_
   subset_done other i end all q e =
       rows_in rows other (subst (All (λ (row : Row). IsRowIn row other)) (take_all i s end ∙ same_rows) all) q (sym (contains_is rows dots view q) ∙ e)
 
-  -- a row at a place is in the set
+  -- the row at an index is a subset
   pub row_in : (i : ℕ) (r : Row) → i < length s → r ≡ get_or s i r → IsRowIn r dots
   row_in i r p is n e =
       let there : any_row s (dot (get_or s i r).origin n) ≡ true = row_there s i r n p (ap (λ (row : Row). has_counter row n) (sym is) ∙ e) in
@@ -91,7 +91,7 @@ union_start t both is q = ap (λ (s : Dots). set.contains s q) is ∙ or_none (s
 
 -- ---- the next dot
 
--- the greatest counter of an origin, or 0 where there is none
+-- `last` is the greatest counter of the origin, or 0 if it has none
 pub record IsLastIn (dots : Dots) (o : Origin) (last : ℕ) : Type 0 where
   pub above : (n : ℕ) → set.contains dots (dot o n) ≡ true → n ≤ last
   pub there : (last ≡ 0) ⊎ (set.contains dots (dot o last) ≡ true)
@@ -117,7 +117,7 @@ module _ (dots : Dots) (o : Origin) (last : ℕ) where
   pub used_up : IsLastIn dots o last → MAX_COUNTER ≤ last → IsUsedUp dots o
   used_up is high = elim is.there [ inl none ↦ absurd (omega arith) | inr at ↦ record { n = last; there = at; high = high } ]
 
--- ---- vectors
+-- ---- version vectors
 
 no_key : (ns : List ℕ) (n : ℕ) → length ns ≡ 0 → has_key nat_cmp ns n ≡ false
 no_key [] n e = refl
@@ -149,7 +149,7 @@ module _ (rows s : List Row) (dots : Dots) (view : dots_in rows ≡ dots) (same_
       let found = rows_full rows (subst (All IsFull) (take_all i s end ∙ same_rows) all) o n (sym (contains_is rows dots view (dot o n)) ∙ e) in
       (found.0, λ m p q. contains_is rows dots view (dot o m) ∙ found.1 m p q)
 
--- a row with a further counter isn't without a gap
+-- a set isn't a version vector if a row has further counters
 pub has_gap : (dots : Dots) (r : Row) → ((n : ℕ) → set.contains dots (dot r.origin n) ≡ has_counter r n) → IsKept r → 1 ≤ length r.further → IsVector dots → ⊥
 has_gap dots r there kept some vector = from r.further refl some
   where
@@ -165,20 +165,20 @@ has_gap dots r there kept some vector = from r.further refl some
     from [] is p = omega arith
     from (x ∷ ns) is p = at_key x (ap (λ (ns : List ℕ). has_key nat_cmp ns x) is ∙ or_left _ _ (is_same x x refl))
 
--- ---- rows that are pushed
+-- ---- appending rows
 
--- the rows of a set are those that are kept
+-- the rows of a set are the stored ones
 pub rows_are : (rows : List Row) (dots : Dots) → dots_in rows ≡ dots → AreKept rows → rows_of dots ≡ rows
 rows_are rows dots view kept = ap rows_of (sym view) ∙ kept_are rows kept
 
-rises_from : (low : ℕ) (ns : List ℕ) → IsRising nat_cmp (low ∷ ns) → rises_on low ns ≡ true
-rises_from low [] h = refl
-rises_from low (n ∷ ns) h =
+ascends_from : (low : ℕ) (ns : List ℕ) → IsRising nat_cmp (low ∷ ns) → rises_on low ns ≡ true
+ascends_from low [] h = refl
+ascends_from low (n ∷ ns) h =
     let parts = and_parts (is_below_all nat_cmp low (n ∷ ns)) (is_rising nat_cmp (n ∷ ns)) h in
-    and_from _ _ (lt-ltb low n (number_less low n (and_parts (is_lt (nat_cmp low n)) (is_below_all nat_cmp low ns) parts.0).0)) (rises_from n ns parts.1)
+    and_from _ _ (lt-ltb low n (number_less low n (and_parts (is_lt (nat_cmp low n)) (is_below_all nat_cmp low ns) parts.0).0)) (ascends_from n ns parts.1)
 
 pub rises_both : (low : ℕ) (ns : List ℕ) (b : Bool) → b ≡ rises_on low ns → IsTrue b ↔ IsRising nat_cmp (low ∷ ns)
-rises_both low ns b is = (λ yes. rises_to low ns (sym is ∙ yes), λ h. is ∙ rises_from low ns h)
+rises_both low ns b is = (λ yes. rises_to low ns (sym is ∙ yes), λ h. is ∙ ascends_from low ns h)
 
 pub follows_kept : (row : Row) → IsRising nat_cmp ((row.upto + 1) ∷ row.further) → IsKept row
 follows_kept row h =
@@ -216,7 +216,7 @@ first_below x [] i r p h = absurd (omega arith)
 first_below x (y ∷ rows) zero r p h = less _ (and_parts _ _ h).0
 first_below x (y ∷ rows) (suc i) r p h = first_below x rows i r (omega arith) (and_parts _ _ h).1
 
--- each origin is below o where the last one is
+-- each origin is below o if the last one is
 pub last_below : (rows : List Row) (o : Origin) (i : ℕ) (r : Row) → IsRising origin_cmp (origins rows) → suc i ≡ length rows → origin_cmp (get_or rows i r).origin o ≡ Less → (x : Origin) → has_key origin_cmp (origins rows) x ≡ true → origin_cmp x o ≡ Less
 last_below [] o i r h last p x e = absurd (false≢true e)
 last_below (y ∷ rows) o zero r h last p x e = elim (or_cases (eq_by_cmp origin_cmp x y.origin) (has_key origin_cmp (origins rows) x) e) [
@@ -231,7 +231,7 @@ last_below (y ∷ rows) o (suc i) r h last p x e =
     ]
 
 module _ (rows s : List Row) (dots : Dots) (view : dots_in rows ≡ dots) (kept : AreKept rows) (same_rows : s ≡ rows) where
-  -- what is known of a row at a place
+  -- the row at an index satisfies the invariant
   pub row_kept : (i : ℕ) (r : Row) → i < length s → r ≡ get_or s i r → IsKept r × HasSome r
   row_kept i r p is =
       let P = λ (row : Row). IsKept row × HasSome row in
@@ -269,7 +269,7 @@ pub no_gap : (n : ℕ) (b : Bool) → b ≡ false → (1 ≤ n → b ≡ true) �
 no_gap zero b e h = refl
 no_gap (suc n) b e h = absurd (false≢true (sym e ∙ h (omega arith)))
 
--- nothing is above the greatest number
+-- no number follows the greatest one
 pub rises_at_end : (u : ℕ) (ns : List ℕ) → (u + 1 < 2 ^ 64 → ⊥) → ((i : ℕ) → get_or ns i 0 < 2 ^ 64) → nat_eq (length ns) 0 ≡ rises_on (u + 1) ns
 rises_at_end u [] end fits = refl
 rises_at_end u (x ∷ ns) end fits =

@@ -1,4 +1,4 @@
--- Which dots are put into a list that rises, counter by counter, span by span, and those of a row.
+-- Inserting dots into a sorted list: those of a span, of spans, and of a row.
 use Rattle.std.proofs.Common.{◌≡◌, ℕ, suc, zero, ◌+◌, ◌-◌, ◌<◌, ◌≤◌, Bool, true, false, ◌||◌, ◌&&◌, nat_le, nat_lt, List, [], ◌∷◌, ◌++◌, length, take, get_or, refl, sym, ap, ◌∙◌, arith}
 use Rattle.std.specs.Ordering.{nat_cmp, eq_by_cmp, is_lt}
 use Rattle.std.specs.declared.cmp.Ordering.TheVariants.{Less}
@@ -19,7 +19,7 @@ use Rattle.dac_dots.specs.declared.spans.Span.{Span}
 use Rattle.dac_dots.proofs.RowLemmas.{seen_counter}
 use Rattle.dac_dots.proofs.SpanLemmas.{any_more, has_now}
 
--- ---- a dot behind all of the list
+-- ---- a dot above all in the list
 
 below_append : (x : Dot) (xs ys : List Dot) → is_below_all dot_cmp x xs ≡ true → is_below_all dot_cmp x ys ≡ true → is_below_all dot_cmp x (xs ++ ys) ≡ true
 below_append x [] ys g h = h

@@ -1,4 +1,4 @@
--- What is promised of a success, where a call fails.
+-- A promise about success holds trivially of a failed call.
 use Rattle.std.proofs.Common.{Result, Ok, Err, OnOk}
 use Rattle.std.specs.Result.{IsErr}
 use Rattle.std.proofs.lemmas.Bool.{false≢true}

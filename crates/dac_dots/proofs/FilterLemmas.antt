@@ -1,4 +1,4 @@
--- Which dots are put, where those of some spans or of some rows are.
+-- Filling a filter with the dots of spans and of rows.
 use Rattle.std.proofs.Common.{◌≡◌, ◌∙◌, ℕ, ◌+◌, ◌<◌, ◌≤◌, inl, inr, Bool, true, List, length, take, get_or, sym, ap, subst, arith, zero, suc, false, min, nat_eq, bit_and, bit_or, set, refl, ◌^◌, ◌/◌, ◌%◌, ◌*◌}
 use Rattle.std.specs.Ordering.{nat_cmp, eq_by_cmp}
 use Rattle.std.specs.FinSet as sets
@@ -24,7 +24,7 @@ use Rattle.dac_dots.proofs.PlaceLemmas.{contains_is}
 use Rattle.dac_dots.proofs.RowLemmas.{seen_counter}
 use Rattle.dac_dots.proofs.SpanLemmas.{has_counters}
 
--- a slot is one of them
+-- each slot is below 1024
 slot_there : (q : Dot) → slot_of q < 1024
 slot_there q = omega arith
 
@@ -34,7 +34,7 @@ word_there q = let there = slot_there q in omega (arith, there)
 pub bit_there : (q : Dot) → slot_of q % 64 < 64
 bit_there q = omega arith
 
--- a word with one bit more
+-- a word with one more bit set
 abbrev with_bit : ℕ → ℕ → ℕ
 with_bit n k = bit_or n (1 * 2 ^ k % 2 ^ 64)
 
@@ -64,7 +64,7 @@ put_more slots q p n long is e =
       | false ↦ λ t. ap (λ m. nat_eq (bit_at m k) 1) (get_or-set_other slots i j made 0 (λ same. false≢true (sym t ∙ eq-eqb j i same))) ∙ e
     ] refl
 
--- no word has a bit that both filters set
+-- filters are apart if no word has a bit set in both
 pub apart_from : (a b : List ℕ) → ((j : ℕ) → j < 16 → bit_and (get_or a j 0) (get_or b j 0) ≡ 0) → AreApart a b
 apart_from a b none q e =
     let n = get_or a (slot_of q / 64) 0 in
@@ -78,20 +78,20 @@ apart_from a b none q e =
     lowest (suc zero) p e = cc
     lowest (suc (suc x)) p e = absurd (omega (arith, p))
 
--- what holds where one of the first i has it, and where the next has it, holds where one of i + 1 has it
+-- a consequence of "some of the first i satisfies p" and of "the next one does" follows for the first i + 1
 pub one_further : {T : Type 0} (p : T → Bool) (xs : List T) (i : ℕ) (d : T) (Q : Type 0) → i < length xs → (list_any p (take i xs) ≡ true → Q) → (p (get_or xs i d) ≡ true → Q) → list_any p (take (i + 1) xs) ≡ true → Q
 one_further p xs i d Q at so_far one e = elim (or_cases _ _ (sym (list_any_more p xs i d at) ∙ e)) [ inl before ↦ so_far before | inr here ↦ one here ]
 
--- a counter of the set is one of its spans
+-- each counter of the set is in one of its spans
 pub in_spans : (spans : List Span) (now : List ℕ) → counters_in spans ≡ now → (i : ℕ) → length spans ≤ i → (n : ℕ) → has_key nat_cmp now n ≡ true → any_span (take i spans) n ≡ true
 in_spans spans now view i end n e = ap (λ (l : List Span). any_span l n) (take_all i spans end) ∙ sym (has_counters spans n) ∙ ap (λ (ns : List ℕ). has_key nat_cmp ns n) view ∙ e
 
--- a dot of the row is put where each counter is, under the row's origin
+-- each dot of the row is in the filter if each counter of its origin is
 pub in_row : (o : Origin) (ns : List ℕ) (row : Row) → row_of o ns ≡ row → (slots : List ℕ) → ((n : ℕ) → has_key nat_cmp ns n ≡ true → may_have slots (dot o n) ≡ true) → (q : Dot) → row_has q row ≡ true → may_have slots q ≡ true
 in_row o ns row view slots all q e =
     let parts = and_parts (eq_by_cmp origin_cmp q.origin row.origin) (has_counter row q.n) e in
     subst (λ (o : Origin). may_have slots (dot o q.n) ≡ true) (ap (λ (r : Row). r.origin) view ∙ sym (exact_origins q.origin row.origin (tie _ parts.0))) (all q.n (sym (seen_counter o ns row view q.n) ∙ parts.1))
 
--- a dot of the set is one of its rows
+-- each dot of the set is in one of its rows
 pub in_rows : (rows s : List Row) (dots : Dots) → dots_in rows ≡ dots → s ≡ rows → (i : ℕ) → length s ≤ i → (q : Dot) → sets.contains dots q ≡ true → any_row (take i s) q ≡ true
 in_rows rows s dots view same i end q e = ap (λ (l : List Row). any_row l q) (take_all i s end ∙ same) ∙ sym (contains_is rows dots view q) ∙ e

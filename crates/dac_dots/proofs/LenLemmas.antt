@@ -1,4 +1,4 @@
--- How many dots rows have, and their list.
+-- The number of dots in rows, and the list of them.
 use Rattle.std.proofs.Common.{◌≡◌, ℕ, zero, suc, ◌+◌, ◌<◌, ◌≤◌, inl, inr, Bool, true, false, cond, ◌||◌, ◌&&◌, nat_le, List, [], ◌∷◌, ◌++◌, length, take, get_or, map, refl, sym, ap, ◌∙◌, subst, arith, add-one, length-append}
 use Rattle.std.specs.Ordering.{nat_cmp, eq_by_cmp, is_eq}
 use Rattle.std.specs.declared.cmp.Ordering.{Ordering}
@@ -29,7 +29,7 @@ use Rattle.dac_dots.proofs.RowLemmas.{row_counter, row_kept}
 -- ---- lists without repeats
 
 module _ {K : Type 0} (R : K → K → Ordering) where
-  -- no key of the list comes again
+  -- no key occurs twice
   abbrev pub AreApart : List K → Type 0
   AreApart [] = Unit {0}
   AreApart (k ∷ ks) = (has_key R ks k ≡ false) × AreApart ks
@@ -43,7 +43,7 @@ module _ {K : Type 0} (R : K → K → Ordering) where
   apart_rising [] o h = tt
   apart_rising (k ∷ ks) o h = let parts = and_parts (is_below_all R k ks) (is_rising R ks) h in (below_absent o k ks parts.0, apart_rising ks o parts.1)
 
-  -- each of them counts
+  -- the length of a list without repeats is the size of its set
   len_apart : (ks : List K) → IsTotalOrder R → AreApart ks → length ks ≡ set.len (set.from_list {R = R} ks)
   len_apart [] o h = sym (set.len-empty R)
   len_apart (k ∷ ks) o h =
@@ -53,7 +53,7 @@ module _ {K : Type 0} (R : K → K → Ordering) where
       ∙ ap (λ n. n + 1) (sym (len_apart ks o h.1))
       ∙ add-one (length ks))
 
--- ---- the dots of rows come once each
+-- ---- the dots of rows are distinct
 
 apart_one_to : (u : ℕ) → AreApart nat_cmp (one_to u)
 unfolding one_to
@@ -95,7 +95,7 @@ apart_rows (row ∷ rows) each h =
     subst (AreApart dot_cmp) (sym (flat_map-cons dots_in_row row rows))
     (apart-append dot_cmp (dots_in_row row) (flat_map dots_in_row rows) (apart_dots row.origin (one_to row.upto ++ row.further) (apart_counters row each.0.0)) (apart_rows rows each.1 parts.1) other dots_total)
 
--- how many dots a row has
+-- the number of dots in a row
 abbrev pub row_len : Row → ℕ
 row_len row = row.upto + length row.further
 
@@ -103,7 +103,7 @@ length_row : (row : Row) → length (dots_in_row row) ≡ row_len row
 unfolding dots_in_row
 length_row row = length-map (one_to row.upto ++ row.further) (dot row.origin) ∙ length-append (one_to row.upto) row.further ∙ ap (λ n. n + length row.further) (length_one_to row.upto)
 
--- counters that rise are as many as their row has
+-- ascending counters are as many as the dots of their row
 pub row_length : (o : Origin) (ns : List ℕ) → IsRising nat_cmp ns → (row : Row) → row_of o ns ≡ row → length ns ≡ row_len row
 row_length o ns rising row view =
     let own = row_of o ns in
@@ -116,7 +116,7 @@ row_length o ns rising row view =
     ∙ length-append (one_to own.upto) own.further ∙ ap (λ n. n + length own.further) (length_one_to own.upto)
     ∙ ap row_len view
 
--- counters that rise go so far, and the further ones are the rest
+-- ascending counters are those before the first gap and the further ones
 pub further_length : (ns further : List ℕ) → IsRising nat_cmp ns → further_of (reach_of ns) ns ≡ further → length ns ≡ reach_of ns + length further
 further_length ns further rising view =
     let o : Origin = record { node = record { 0 = 0 }; inc = 0 } in
@@ -133,7 +133,7 @@ len_is rows s dots view kept same_rows i n end so_far =
     so_far ∙ ap (sum_by row_len) (take_all i s end ∙ same_rows) ∙ sym (length_rows rows)
     ∙ len_apart dot_cmp (flat_map dots_in_row rows) dots_total (apart_rows rows kept.each kept.rising) ∙ ap (λ (d : Dots). set.len d) view
 
--- the rows so far and the next one have no more dots than all
+-- the rows so far and the next one have no more dots than the set
 pub so_far_within : (rows s : List Row) (dots : Dots) → dots_in rows ≡ dots → AreKept rows → s ≡ rows → (i : ℕ) (r : Row) (n : ℕ) → i < length s → r ≡ get_or s i r → n ≡ sum_by row_len (take i s) → n + row_len r ≤ set.len dots
 so_far_within rows s dots view kept same_rows i r n p is so_far =
     let all = len_is rows s dots view kept same_rows (length s) (sum_by row_len s) (omega arith) (ap (sum_by row_len) (sym (take_all (length s) s (omega arith)))) in
@@ -141,7 +141,7 @@ so_far_within rows s dots view kept same_rows i r n p is so_far =
     let own : row_len r ≡ row_len (get_or s i r) = ap row_len is in
     omega (arith, all, part, own, so_far)
 
--- each row counts
+-- each row has a dot
 row_counts : (row : Row) → HasSome row → 1 ≤ row_len row
 row_counts row (inl more) = omega arith
 row_counts row (inr more) = omega arith

@@ -1,4 +1,4 @@
--- What holds of a context that keeps no rows.
+-- A context in the representation Nothing is empty.
 use Rattle.std.proofs.Common.{◌≡◌, false, ◌||◌, [], refl, sym, ap, ◌∙◌}
 use Rattle.std.specs.FinSet as set
 use Rattle.std.proofs.lemmas.Bool.{false≢true}

@@ -1,4 +1,4 @@
--- Rows in parts: what the part for an origin says of the origin, and what each part says of all.
+-- Rows in parts: the part for an origin contains all its dots, and properties of all parts are properties of the set.
 use Rattle.std.proofs.Common.{◌≡◌, ℕ, zero, suc, ◌+◌, ◌-◌, ◌*◌, ◌^◌, slice_get, Option, None, Some, MatchOption, ◌<◌, ◌≤◌, ◌↔◌, inl, inr, Bool, true, false, IsTrue, ◌||◌, ◌&&◌, List, [], ◌∷◌, ◌++◌, length, take, get_or, refl, sym, ap, ◌∙◌, subst, arith, ◌⊎◌, append-nil, append_assoc, length-append}
 use Rattle.std.specs.declared.cmp.Ordering.TheVariants.{Less, Equal, Greater}
 use Rattle.std.specs.Ordering.{eq_by_cmp, is_eq, is_lt, ordering_reverse}
@@ -50,14 +50,14 @@ end_says o (row ∷ rows) h x e = elim (or_cases (eq_by_cmp origin_cmp x row.ori
 pub end_is : (o : Origin) (rows : List Row) (b : Bool) → IsTrue b ↔ EndBefore rows o → b ≡ end_before o rows
 end_is o rows b is = both_ways b (end_before o rows) (λ e. end_from o rows (is.0 e)) (λ e. is.1 (end_says o rows e))
 
--- rows before an origin don't have it
+-- rows that end before an origin have no dots of it
 pub absent_before : (o : Origin) (n : ℕ) (rows : List Row) → end_before o rows ≡ true → any_row rows (dot o n) ≡ false
 absent_before o n [] h = refl
 absent_before o n (row ∷ rows) h =
     let parts = and_parts (is_lt (origin_cmp row.origin o)) (end_before o rows) h in
     ap (λ r. (is_eq r && has_counter row n) || any_row rows (dot o n)) (origins_total.antisymm o row.origin ∙ ap ordering_reverse (less _ parts.0)) ∙ absent_before o n rows parts.1
 
--- ---- rows of which the origins rise
+-- ---- rows with ascending origins
 
 rising_right : (xs ys : List Row) → IsRising origin_cmp (origins (xs ++ ys)) → IsRising origin_cmp (origins ys)
 rising_right [] ys h = h
@@ -67,7 +67,7 @@ below_right : (o : Origin) (xs ys : List Row) → is_below_all origin_cmp o (ori
 below_right o [] ys h = h
 below_right o (x ∷ xs) ys h = below_right o xs ys (and_parts (is_lt (origin_cmp o x.origin)) (is_below_all origin_cmp o (origins (xs ++ ys))) h).1
 
--- where rows don't end before an origin, those after them don't have it
+-- if rows don't end before an origin, those after them have no dots of it
 pub above_after : (o : Origin) (xs ys : List Row) → IsRising origin_cmp (origins (xs ++ ys)) → end_before o xs ≡ false → is_below_all origin_cmp o (origins ys) ≡ true
 above_after o [] ys h e = absurd (true≢false e)
 above_after o (x ∷ xs) ys h e =
@@ -79,7 +79,7 @@ above_after o (x ∷ xs) ys h e =
       | Greater ↦ λ q. below_more origins_total o x.origin (origins ys) (origins_total.antisymm o x.origin ∙ ap ordering_reverse q) under
     ] refl
 
--- where rows that come later end before an origin, so do those before them
+-- if rows end before an origin, so do the rows before them
 ends_earlier : (o : Origin) (xs ys : List Row) → IsRising origin_cmp (origins (xs ++ ys)) → 0 < length ys → end_before o ys ≡ true → end_before o xs ≡ true
 ends_earlier o [] ys h some e = refl
 ends_earlier o (x ∷ xs) ys h some e =
@@ -105,7 +105,7 @@ module _ {Z : Type 0} where
   some_part : (p : Arc Dots Z) (ps : List (Arc Dots Z)) (q : Dot) → any_row (all_rows (p ∷ ps)) q ≡ (any_row (rows_in p) q || any_row (all_rows ps) q)
   some_part p ps q = ap (λ (rows : List Row). any_row rows q) (next_part p ps) ∙ list_any-append (row_has q) (rows_in p) (all_rows ps)
 
-  -- where a later part ends before the origin, so do the rows before it
+  -- if a later part ends before the origin, so do the rows before it
   before_later : (o : Origin) (xs : List Row) (ps : List (Arc Dots Z)) (i : ℕ) (d : Arc Dots Z) → IsRising origin_cmp (origins (xs ++ all_rows ps)) → All (λ (part : Arc Dots Z). 0 < length (rows_in part)) ps → i < length ps → end_before o (rows_in (get_or ps i d)) ≡ true → end_before o xs ≡ true
   before_later o xs [] i d h full p e = absurd (omega arith)
   before_later o xs (x ∷ ps) i d h full p e =
@@ -145,7 +145,7 @@ module _ {Z : Type 0} where
   pub parted : (o : Origin) (ps : List (Arc Dots Z)) → AreParts ps → IsPartitionedBy (λ (part : Arc Dots Z). end_before o (rows_in part)) ps
   parted o ps is = parted_from o ps is.kept.rising is.filled
 
-  -- the part for an origin has all dots of it
+  -- the part for an origin has all its dots
   at_part_from : (o : Origin) (n : ℕ) (ps : List (Arc Dots Z)) (i : ℕ) (d : Arc Dots Z) → IsRising origin_cmp (origins (all_rows ps)) → i < length ps → AllWithin (λ (part : Arc Dots Z). end_before o (rows_in part) ≡ true) ps 0 i → end_before o (rows_in (get_or ps i d)) ≡ false
       → any_row (all_rows ps) (dot o n) ≡ any_row (rows_in (get_or ps i d)) (dot o n)
   at_part_from o n [] i d h p before after = absurd (omega arith)
@@ -183,7 +183,7 @@ module _ {Z : Type 0} where
     pub none_have : length ps ≤ i → (n : ℕ) → set.contains dots (dot o n) ≡ false
     none_have end n = contains_is (all_rows ps) dots view (dot o n) ∙ past_parts_from o n ps (λ j e q r. at.before j e q (omega (arith, r, end, at.bound)))
 
-  -- ---- what each part says of all
+  -- ---- properties of all parts
 
   each_in : (ps : List (Arc Dots Z)) (other : Dots) → All (λ (part : Arc Dots Z). IsSubset (arc_value part) other) ps → (q : Dot) → any_row (all_rows ps) q ≡ true → set.contains other q ≡ true
   each_in [] other all q e = absurd (false≢true e)
@@ -204,7 +204,7 @@ module _ {Z : Type 0} where
     pub part_in : (i : ℕ) (part : Arc Dots Z) → i < length s → part ≡ get_or s i part → IsSubset (arc_value part) dots
     part_in i part p is q e = contains_is (all_rows ps) dots view q ∙ ap (λ (l : List (Arc Dots Z)). any_row (all_rows l) q) (sym same) ∙ one_in s i part p is q e
 
--- ---- an origin that a part has
+-- ---- an origin that a part contains
 
 below_member : (o : Origin) (xs ys : List Row) → IsRising origin_cmp (origins (xs ++ ys)) → has_key origin_cmp (origins xs) o ≡ true → is_below_all origin_cmp o (origins ys) ≡ true
 below_member o [] ys h e = absurd (false≢true e)
@@ -235,7 +235,7 @@ or_false true = refl
 or_false false = refl
 
 module _ {Z : Type 0} where
-  -- the part that has a dot has all dots of its origin
+  -- a part with a dot has all dots of its origin
   alone_part : (o : Origin) (n m : ℕ) (ps : List (Arc Dots Z)) (i : ℕ) (part : Arc Dots Z) → IsRising origin_cmp (origins (all_rows ps)) → i < length ps → part ≡ get_or ps i part → set.contains (arc_value part) (dot o n) ≡ true → any_row (all_rows ps) (dot o m) ≡ set.contains (arc_value part) (dot o m)
   alone_part o n m [] i part h p is e = absurd (omega arith)
   alone_part o n m (x ∷ ps) zero part h p is e =
@@ -275,7 +275,7 @@ module _ {Z : Type 0} where
         let all = vector o n (part_in ps s dots view same i part p is_part (dot o n) e) in
         (all.0, λ m q r. sym (alone_part o n m ps i part is.kept.rising short at e) ∙ sym (contains_is (all_rows ps) dots view (dot o m)) ∙ all.1 m q r)
 
--- ---- what is said of an origin goes by its dots
+-- ---- properties of an origin depend only on its dots
 
 module _ (a b : Dots) (o : Origin) (same : (n : ℕ) → set.contains a (dot o n) ≡ set.contains b (dot o n)) where
   used_same : IsUsedUp b o → IsUsedUp a o
@@ -301,7 +301,7 @@ module _ (a b : Dots) (o : Origin) (same : (n : ℕ) → set.contains a (dot o n
 pub none_same : (a : Dots) (o : Origin) → ((n : ℕ) → set.contains a (dot o n) ≡ false) → (n : ℕ) → set.contains a (dot o n) ≡ set.contains (set.empty {R = dot_cmp}) (dot o n)
 none_same a o none n = none n ∙ sym (set.contains-empty dot_cmp (dot o n))
 
--- ---- the rows of a set are kept
+-- ---- the rows of a set satisfy the invariant
 
 each_kept : (dots : Dots) (rows : List Row) → AllByRecursion (IsRowOf dots) rows → AllByRecursion (λ row. IsKept row × HasSome row) rows
 each_kept dots [] each = tt
@@ -312,7 +312,7 @@ each_kept dots (row ∷ rows) each =
 pub kept_rows : (dots : Dots) → AreKept (rows_of dots)
 kept_rows dots = let tell = rows_tell dots in record { each = each_kept dots (rows_of dots) tell.each; rising = tell.rising }
 
--- ---- how many there are
+-- ---- numbers of dots and rows
 
 module _ {Z : Type 0} where
   abbrev pub part_len : Arc Dots Z → ℕ
@@ -339,7 +339,7 @@ module _ {Z : Type 0} where
     pub len_parts : (i n : ℕ) → length s ≤ i → n ≡ sum_by part_len (take i s) → n ≡ set.len dots
     len_parts i n end so_far = so_far ∙ ap (sum_by part_len) (take_all i s end) ∙ len_all
 
-    -- the parts so far and the next one have no more dots than all
+    -- the parts so far and the next one have no more dots than the set
     pub len_within : (i : ℕ) (part : Arc Dots Z) (n : ℕ) → i < length s → part ≡ get_or s i part → n ≡ sum_by part_len (take i s) → n + part_len part ≤ set.len dots
     len_within i part n p at so_far =
         let more = sum_by_more_le part_len s i part p in
@@ -352,7 +352,7 @@ module _ {Z : Type 0} where
   pub one_len : (s : List (Arc Dots Z)) (i : ℕ) (part : Arc Dots Z) (n l : ℕ) → i < length s → part ≡ get_or s i part → n ≡ sum_by part_len (take i s) → l ≡ part_len part → n + l ≡ sum_by part_len (take (i + 1) s)
   one_len s i part n l p at so_far own = (λ k. so_far k + (own ∙ ap part_len at) k) ∙ sym (sum_by_more part_len s i part p)
 
-  -- how many rows there are so far
+  -- the number of rows in the first parts
   abbrev pub rows_so_far : List (Arc Dots Z) → ℕ → ℕ
   rows_so_far s i = sum_by part_rows (take i s)
 
@@ -374,7 +374,7 @@ sum_bound a b x y p q = omega arith
 pub sum_fits : (a l x : ℕ) → x ≤ a * 2 ^ 65 → a ≤ l → l < 2 ^ 63 → x < 2 ^ 128
 sum_fits a l x p q r = omega arith
 
--- ---- the row at a place
+-- ---- the row at an index
 
 one_plus : (a i : ℕ) → suc a + i ≡ suc (a + i)
 one_plus a i = omega arith
@@ -382,13 +382,13 @@ one_plus a i = omega arith
 none_before : (n : ℕ) → 0 + n ≡ n
 none_before n = omega arith
 
--- what the part says of a place in it
+-- a part's row at its index is the row at an index of the whole
 pub row_found : {A : Type 0} (whole rows : List Row) (i left : ℕ) (r : Option A) (P : A → Row) → slice_get whole i ≡ slice_get rows left → left < length rows → MatchOption r (length rows ≤ left) (λ a. slice_get rows left ≡ Some (P a)) → MatchOption r (length whole ≤ i) (λ a. slice_get whole i ≡ Some (P a))
 row_found whole rows i left None P same short h = absurd (omega (arith, h, short))
 row_found whole rows i left (Some a) P same short h = same ∙ h
 
 module _ {Z : Type 0} where
-  -- the rows at a place among those of one part
+  -- the row at an index of a part, as a row of all parts
   pub row_at_from : (ps : List (Arc Dots Z)) (k : ℕ) (part : Arc Dots Z) (left : ℕ) → k < length ps → part ≡ get_or ps k part → left < length (rows_in part) → slice_get (all_rows ps) (rows_so_far ps k + left) ≡ slice_get (rows_in part) left
   row_at_from [] k part left p at short = absurd (omega arith)
   row_at_from (x ∷ ps) zero part left p at short =
@@ -449,14 +449,14 @@ module _ {Z : Type 0} (ps s : List (Arc Dots Z)) (same : s ≡ ps) where
   pub all_short : (count : ℕ) → count ≡ length (all_rows ps) → count < 2 ^ 63 → length (all_rows s) < 2 ^ 63
   all_short count is few = let all = ap (λ (l : List (Arc Dots Z)). length (all_rows l)) same in omega (arith, all, is, few)
 
-  -- no part has the place
+  -- no part has a row at the index
   pub no_row : (k left i : ℕ) → length s ≤ k → i ≡ rows_so_far s k + left → length (all_rows ps) ≤ i
   no_row k left i end is =
       let all = ap (λ (l : List (Arc Dots Z)). length (all_rows l)) same in
       let rows : rows_so_far s k ≡ sum_by part_rows s = ap (sum_by part_rows) (take_all k s end) in
       omega (arith, all, rows_counted s, rows, is)
 
--- ---- rows that are kept, in two pieces
+-- ---- splitting rows that satisfy the invariant
 
 left_below : (z : Origin) (xs ys : List Row) → is_below_all origin_cmp z (origins (xs ++ ys)) ≡ true → is_below_all origin_cmp z (origins xs) ≡ true
 left_below z [] ys h = refl
@@ -484,9 +484,9 @@ kept_left xs ys h = record { each = left_each xs ys h.each; rising = left_rising
 pub kept_right : (xs ys : List Row) → AreKept (xs ++ ys) → AreKept ys
 kept_right xs ys h = record { each = right_each xs ys h.each; rising = rising_right xs ys h.rising }
 
--- ---- rows in the place of others
+-- ---- replacing rows
 
--- x is below each of these, and each of these is one of them
+-- x is below all rows if it is below each origin in them
 all_below : (x : Origin) (ys : List Row) → ((y : Origin) → has_key origin_cmp (origins ys) y ≡ true → origin_cmp x y ≡ Less) → is_below_all origin_cmp x (origins ys) ≡ true
 all_below x [] h = refl
 all_below x (y ∷ ys) h = and_from _ _ (ap is_lt (h y.origin (or_left _ _ (ap is_eq (tied_itself origins_total y.origin))))) (all_below x ys (λ z e. h z (or_right _ _ e)))
@@ -516,7 +516,7 @@ has_left_too : (xs ys : List Row) (o : Origin) → has_key origin_cmp (origins x
 has_left_too [] ys o e = absurd (false≢true e)
 has_left_too (x ∷ xs) ys o e = elim (or_cases (eq_by_cmp origin_cmp o x.origin) (has_key origin_cmp (origins xs) o) e) [ inl at ↦ or_left _ _ at | inr past ↦ or_right _ _ (has_left_too xs ys o past) ]
 
--- the rows in the middle are others, with no further origin but one that comes there
+-- replacing the middle rows keeps the invariant, if the only new origin is o and it belongs there
 pub kept_middle : (A P B new : List Row) (o : Origin) → AreKept (A ++ (P ++ B)) → AreKept new → ((x : Origin) → has_key origin_cmp (origins new) x ≡ true → (has_key origin_cmp (origins P) x ≡ true) ⊎ (x ≡ o)) → end_before o A ≡ true → is_below_all origin_cmp o (origins B) ≡ true → AreKept (A ++ (new ++ B))
 kept_middle A P B new o old is more before after =
     let rest = kept_right A (P ++ B) old in
@@ -536,7 +536,7 @@ kept_middle A P B new o old is more before after =
           ]));
     }
 
--- the origins of a set with a row more
+-- adding a row to a set adds at most the row's origin
 pub one_more_origin : (s t : Dots) (row : Row) → ((q : Dot) → set.contains t q ≡ (row_has q row || set.contains s q)) → (x : Origin) → has_key origin_cmp (origins (rows_of t)) x ≡ true → (has_key origin_cmp (origins (rows_of s)) x ≡ true) ⊎ (x ≡ row.origin)
 one_more_origin s t row more x e =
     let found = origin_has t (rows_of t) (rows_tell t).each x e in
@@ -545,7 +545,7 @@ one_more_origin s t row more x e =
       | inr there ↦ inl ((rows_tell s).every (dot x found.0) there)
     ]
 
--- ---- parts behind others
+-- ---- appending parts
 
 module _ {Z : Type 0} where
   pub rows_both : (xs ys : List (Arc Dots Z)) → all_rows (xs ++ ys) ≡ all_rows xs ++ all_rows ys
@@ -557,7 +557,7 @@ module _ {Z : Type 0} where
   pub filled_pushed : (xs new : List (Arc Dots Z)) (part : Arc Dots Z) → new ≡ xs ++ part ∷ [] → 0 < length (rows_in part) → HaveRows xs → HaveRows new
   filled_pushed xs new part pushed some full = subst HaveRows (sym pushed) (All-push (λ (p : Arc Dots Z). 0 < length (rows_in p)) xs part full some)
 
-  -- one part more is shared
+  -- one more part is appended
   pub shared_more : (first done new s : List (Arc Dots Z)) (i : ℕ) (part copied : Arc Dots Z) → i < length s → part ≡ get_or s i part → all_rows done ≡ all_rows first ++ all_rows (take i s) → arc_value copied ≡ arc_value part → new ≡ done ++ copied ∷ [] → all_rows new ≡ all_rows first ++ all_rows (take (i + 1) s)
   shared_more first done new s i part copied p at so_far same pushed =
       rows_pushed done new copied (rows_in part) pushed (ap rows_of same)
@@ -572,7 +572,7 @@ module _ {Z : Type 0} where
   filled_shared done new s i part copied p at same pushed some full =
       filled_pushed done new copied pushed (subst (λ (d : Dots). 0 < length (rows_of d)) (sym same) (subst (λ (x : Arc Dots Z). 0 < length (rows_in x)) (sym at) (some i part p))) full
 
--- ---- a row more in a part
+-- ---- adding a row to a part
 
 get_mid : {X : Type 0} (xs ys : List X) (x d : X) → get_or (xs ++ x ∷ ys) (length xs) d ≡ x
 get_mid [] ys x d = refl
@@ -584,7 +584,7 @@ middle true false c d = refl
 middle false true c d = refl
 middle false false c d = refl
 
--- a row that comes to a set brings its origin
+-- a set that contains a row's dots isn't empty
 pub some_of_row : (t : Dots) (row : Row) → HasSome row → ((n : ℕ) → has_counter row n ≡ true → set.contains t (dot row.origin n) ≡ true) → 0 < length (rows_of t)
 some_of_row t row some there =
     let counter = some_counter row some in
@@ -668,7 +668,7 @@ module _ {Z : Type 0} where
   three_pieces none one two three before after rows e r1 r2 r3 =
       r3 ∙ (λ i. (r2 ∙ (λ j. (r1 ∙ ap (λ (l : List (Arc Dots Z)). all_rows l ++ all_rows before) e) j ++ rows)) i ++ all_rows after)
 
-  -- one part alone
+  -- a single part satisfies the invariant
   pub single_are : (ps : List (Arc Dots Z)) (part : Arc Dots Z) → ps ≡ part ∷ [] → 0 < length (rows_in part) → AreParts ps
   single_are ps part e some = subst AreParts (sym e) (record {
     kept = subst AreKept (sym (append-nil (rows_in part))) (kept_rows (arc_value part));
@@ -678,7 +678,7 @@ module _ {Z : Type 0} where
   pub single_has : (ps : List (Arc Dots Z)) (part : Arc Dots Z) → ps ≡ part ∷ [] → (q : Dot) → set.contains (dots_in (all_rows ps)) q ≡ set.contains (arc_value part) q
   single_has ps part e q = ap (λ (l : List (Arc Dots Z)). set.contains (dots_in (all_rows l)) q) e ∙ contains-dots_in (all_rows (part ∷ [])) q ∙ ap (λ (l : List Row). any_row l q) (append-nil (rows_in part)) ∙ any_of part q
 
-  -- no part is left, so there is none
+  -- if no part remains at the index, the set is empty
   pub nothing_there : (ps front rest : List (Arc Dots Z)) (dots : Dots) (o : Origin) (i : ℕ) → dots_in (all_rows ps) ≡ dots → IsPlaceIn ps o i → ps ≡ front ++ rest → length front ≡ i → length rest ≡ 0 → (q : Dot) → set.contains dots q ≡ false
   nothing_there ps front rest dots o i view at split short none q =
       let all : length ps ≡ length front + length rest = ap (λ (l : List (Arc Dots Z)). length l) split ∙ length-append front rest in
@@ -704,7 +704,7 @@ none_cases (Some x) P Q not h = absurd (not x refl)
 pub single_same : {Z : Type 0} (ps : List (Arc Dots Z)) (part : Arc Dots Z) → ps ≡ part ∷ [] → dots_in (all_rows ps) ≡ arc_value part
 single_same ps part e = set.same_set dots_total exact_dots (dots_in (all_rows ps)) (arc_value part) (single_has ps part e)
 
--- a row that is there adds nothing
+-- adding a row whose dots are all there changes nothing
 pub row_there_already : (s : Dots) (row : Row) → IsRowIn row s → (q : Dot) → set.contains s q ≡ (row_has q row || set.contains s q)
 row_there_already s row there q = elim (row_has q row) as (λ b. row_has q row ≡ b → set.contains s q ≡ (b || set.contains s q)) [
   | true ↦ λ e.
@@ -713,7 +713,7 @@ row_there_already s row there q = elim (row_has q row) as (λ b. row_has q row �
   | false ↦ λ e. refl
 ] refl
 
--- ---- the dots of each part come to a set
+-- ---- adding the dots of each part
 
 or_thrice : (a b c : Bool) → ((a || b) || c) ≡ (a || (b || c))
 or_thrice true b c = refl
@@ -737,7 +737,7 @@ module _ {Z : Type 0} where
       ∙ ap (λ b. set.contains t q || b) (sym (contains_is (all_rows ps) dots view q))
       ∙ sym (set.contains-union dots_total t dots q))
 
--- ---- sets with a dot more, and both ways
+-- ---- inserting a dot, and unions
 
 pub dot_more : (s more : Dots) (d : Dot) (row : Row) → IsOne d row → ((q : Dot) → set.contains more q ≡ (row_has q row || set.contains s q)) → more ≡ set.insert s d
 dot_more s more d row one is = set.same_set dots_total exact_dots more (set.insert s d) (λ q. is q ∙ ap (λ b. b || set.contains s q) (one_has d q row one) ∙ sym (set.contains-insert dots_total s d q))

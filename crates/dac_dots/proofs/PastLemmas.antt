@@ -1,4 +1,4 @@
--- The counters of the spans that begin above a number, place by place.
+-- The counters of the spans that begin above a number, index by index.
 use Rattle.std.proofs.Common.{◌≡◌, ℕ, zero, suc, ◌+◌, ◌-◌, ◌<◌, ◌≤◌, Bool, true, false, cond, ◌||◌, ◌&&◌, nat_lt, nat_eq, List, [], ◌∷◌, ◌++◌, length, drop, get_or, Some, refl, sym, ap, ◌∙◌, arith, add-one}
 use Rattle.std.specs.Ordering.{nat_cmp, eq_by_cmp}
 use Rattle.std.specs.List.{slice_get}
@@ -6,11 +6,11 @@ use Rattle.std.proofs.lemmas.Bool.{and_from, ltb-true}
 use Rattle.std.proofs.lemmas.List.Folds.{list_any-append}
 use Rattle.dac_origins.specs.Keys.{is_below_all, IsRising, has_key}
 use Rattle.dac_dots.specs.Rows.{further_of, reach_of}
-use Rattle.dac_dots.specs.Spans.{from_on, counters_of_span, counters_in, span_has, any_past, are_apart, past}
+use Rattle.dac_dots.specs.Spans.{from_on, counters_of_span, counters_in, span_has, any_above, are_apart, past}
 use Rattle.dac_dots.specs.declared.spans.Span.{Span}
 use Rattle.dac_dots.proofs.SpanLemmas.{has_span, below_append, below_span, rising_after, apart_first, further_is, zero_alone}
 
--- ---- place by place
+-- ---- index by index
 
 at_in : (f k i : ℕ) (rest : List ℕ) → i < k → slice_get (from_on f k ++ rest) i ≡ Some (f + i)
 unfolding from_on
@@ -39,7 +39,7 @@ at_behind f (suc k) i (suc j) rest e = at_behind (suc f) k i j rest (less k i j 
     less : (k i j : ℕ) → suc j ≡ suc k + i → j ≡ k + i
     less k i j e = omega arith
 
--- the place is in the first of these spans, or behind it
+-- the index lies in the first of these spans, or after it
 pub in_span : (u : ℕ) (spans : List Span) (i : ℕ) (d : Span) (left : ℕ) → i < length spans → nat_lt u (get_or spans i d).first ≡ true → left < (get_or spans i d).last + 1 - (get_or spans i d).first
     → slice_get (past u (drop i spans)) left ≡ Some ((get_or spans i d).first + left)
 unfolding counters_of_span
@@ -70,7 +70,7 @@ pub skipped_span : (u : ℕ) (spans : List Span) (i : ℕ) (d : Span) (left : �
     → slice_get (past u (drop i spans)) left ≡ slice_get (past u (drop (i + 1) spans)) left
 skipped_span u spans i d left lt below = skipped_span_suc u spans i d left lt below ∙ ap (λ k. slice_get (past u (drop k spans)) left) (sym (add-one i))
 
--- ---- they are the further ones
+-- ---- they are the further counters
 
 below_low : (x low u : ℕ) (spans : List Span) → x < low → are_apart low spans ≡ true → is_below_all nat_cmp x (past u spans) ≡ true
 below_low x low u [] p h = refl
@@ -103,7 +103,7 @@ rising_past low u (span ∷ spans) h =
       | false ↦ rising_past (span.last + 2) u spans is.1.1
     ]
 
-has_past : (u : ℕ) (spans : List Span) (n : ℕ) → has_key nat_cmp (past u spans) n ≡ any_past u spans n
+has_past : (u : ℕ) (spans : List Span) (n : ℕ) → has_key nat_cmp (past u spans) n ≡ any_above u spans n
 has_past u [] n = refl
 has_past u (span ∷ spans) n =
     list_any-append (eq_by_cmp nat_cmp n) (cond (nat_lt u span.first) (counters_of_span span) []) (past u spans)
@@ -112,7 +112,7 @@ has_past u (span ∷ spans) n =
     one : has_key nat_cmp (cond (nat_lt u span.first) (counters_of_span span) []) n ≡ (nat_lt u span.first && span_has n span)
     one = elim (nat_lt u span.first) as (λ b. has_key nat_cmp (cond b (counters_of_span span) []) n ≡ (b && span_has n span)) [ true ↦ has_span span n | false ↦ refl ]
 
--- 0, where it is one
+-- the list of 0 if the condition holds, else empty
 abbrev pub zero_if : Bool → List ℕ
 zero_if has = cond has (0 ∷ []) []
 
@@ -145,9 +145,9 @@ further_parts spans h now view =
     further_is spans h now view (zero_if has ++ past u spans) (rising_all u spans has h) (λ n.
     list_any-append (eq_by_cmp nat_cmp n) (zero_if has) (past u spans)
     ∙ (λ i. has_zero has n i || has_past u spans n i)
-    ∙ or_turned (nat_eq n 0 && has) (any_past u spans n))
+    ∙ or_turned (nat_eq n 0 && has) (any_above u spans n))
 
--- by whether 0 is one of them
+-- by cases on 0 in the set
 pub first_is_zero : (spans : List Span) → are_apart 0 spans ≡ true → (now : List ℕ) → counters_in spans ≡ now → has_key nat_cmp now 0 ≡ true → slice_get (further_of (reach_of now) now) 0 ≡ Some 0
 first_is_zero spans h now view has = ap (λ ns. slice_get ns 0) (sym (further_parts spans h now view)) ∙ ap (λ b. slice_get (zero_if b ++ past (reach_of now) spans) 0) has
 

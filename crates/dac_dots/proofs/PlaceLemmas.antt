@@ -1,4 +1,4 @@
--- Where the row of an origin is, and what a row put there changes.
+-- The index of an origin's row, and the effect of inserting or replacing a row there.
 use Rattle.std.proofs.Common.{◌≡◌, ℕ, zero, suc, ◌<◌, ◌≤◌, inl, inr, Bool, true, false, ◌||◌, ◌&&◌, nat_le, List, [], ◌∷◌, length, take, drop, get_or, set as put_at, Result, Ok, Err, refl, sym, ap, ◌∙◌, subst, arith, add-one, take-append-drop}
 use Rattle.std.specs.declared.cmp.Ordering.TheVariants.{Less, Greater}
 use Rattle.std.specs.Ordering.{nat_cmp, eq_by_cmp, is_eq, is_lt, ordering_index, ordering_reverse}
@@ -40,12 +40,12 @@ neighbour_rows rows h i d p =
 rises : (rows : List Row) → IsRising origin_cmp (origins rows) → (o : Origin) → IsNonDecreasingBy (λ (row : Row). ordering_index (origin_cmp row.origin o)) rows
 rises rows h o = searchable_from_sorted origins_total (λ (row : Row). row.origin) rows o (λ i d _ p. rw add-one (neighbour_rows rows h i d (omega arith)))
 
--- what a binary search by origin finds
+-- the result of a binary search by origin
 pub searched : (rows : List Row) (o : Origin) (r : Result ℕ ℕ) → IsRising origin_cmp (origins rows) → IsSearchInRange r (length rows) → IsBinarySearchResult (λ (row : Row). origin_cmp row.origin o) rows r → IsPlaceOf rows o r
 searched rows o (Ok i) h in_range at = (in_range, λ d. exact_origins _ _ (at d))
 searched rows o (Err i) h in_range parted = let parts = parted (rises rows h o) in (in_range, parts.0, parts.1)
 
--- ---- what is at a place
+-- ---- the row at an index
 
 pub at_place : (rows : List Row) (o : Origin) (i : ℕ) (d : Row) → IsRising origin_cmp (origins rows) → i < length rows → (get_or rows i d).origin ≡ o → (n : ℕ) → any_row rows (dot o n) ≡ has_counter (get_or rows i d) n
 at_place rows o i d h p is n = ap (λ o. any_row rows (dot o n)) (sym is) ∙ All-from_recursion (IsAlone rows) rows (alone rows h) i d p n
@@ -61,13 +61,13 @@ no_place rows o i low high n = list_any_none (row_has (dot o n)) rows (λ j d p.
     turned : (x o : Origin) → origin_cmp x o ≡ Greater → origin_cmp o x ≡ Less
     turned x o e = origins_total.antisymm o x ∙ ap ordering_reverse e
 
--- a counter of a row is a dot of the rows
+-- a counter of a row is a dot of the set
 pub row_there : (rows : List Row) (i : ℕ) (d : Row) (n : ℕ) → i < length rows → has_counter (get_or rows i d) n ≡ true → any_row rows (dot (get_or rows i d).origin n) ≡ true
 row_there rows i d n p e =
     let row = get_or rows i d in
     list_any_at (row_has (dot row.origin n)) rows i d p (and_from _ _ (ap is_eq (tied_itself origins_total row.origin)) e)
 
--- ---- a row in the place of another
+-- ---- replacing a row
 
 pub or_assoc : (a b c : Bool) → ((a || b) || c) ≡ (a || (b || c))
 or_assoc true b c = refl
@@ -94,7 +94,7 @@ kept_set rows i row d p h kept some all = record {
   rising = subst (IsRising origin_cmp) (sym (origins_set rows i row d p h)) all.rising;
 }
 
--- ---- one row more
+-- ---- inserting a row
 
 pub any_insert : (rows : List Row) (i : ℕ) (row : Row) (q : Dot) → any_row (insert rows i row) q ≡ (row_has q row || any_row rows q)
 any_insert rows i row q =
@@ -130,7 +130,7 @@ kept_insert rows o i row p low high at kept some all =
       rising = subst (IsRising origin_cmp) (sym (origins_insert rows i row ∙ ap (λ o. insert (origins rows) i o) at)) rising;
     }
 
--- ---- which dots rows have
+-- ---- the dots of rows
 
 pub some_from : (row : Row) (n : ℕ) → has_counter row n ≡ true → HasSome row
 some_from row n e = elim (or_cases (nat_le 1 n && nat_le n row.upto) (has_key nat_cmp row.further n) e) [
@@ -157,30 +157,30 @@ both_has q a b row at h =
     ∙ sym (distribute (eq_by_cmp origin_cmp q.origin a.origin) (has_counter b q.n) (has_counter a q.n))
     ∙ ap (λ o. (eq_by_cmp origin_cmp q.origin o && has_counter b q.n) || row_has q a) at
 
--- a row with the counters of another too
+-- a row that is the union of two is a superset of the first
 pub both_grow : (a b row : Row) → HasBoth a b row → HasMore a row
 both_grow a b row h = record { origin = h.origin; kept = h.kept; more = λ n e. h.exact n ∙ or_right _ _ e }
 
--- the rows of a set with one dot more
+-- the rows with one more dot represent the set with it inserted
 pub inserted : (rows more : List Row) (s : Dots) (d : Dot) → dots_in rows ≡ s → ((q : Dot) → any_row more q ≡ (eq_by_cmp dot_cmp q d || any_row rows q)) → dots_in more ≡ set.insert s d
 inserted rows more s d is h = set.same_set dots_total exact_dots _ _ (λ q.
     contains-dots_in more q ∙ h q ∙ ap (λ b. eq_by_cmp dot_cmp q d || b) (sym (contains-dots_in rows q) ∙ ap (λ t. set.contains t q) is) ∙ sym (set.contains-insert dots_total s d q))
 
--- whether a set has a dot, by its rows
+-- membership in a set, in terms of its rows
 pub contains_is : (rows : List Row) (s : Dots) → dots_in rows ≡ s → (q : Dot) → set.contains s q ≡ any_row rows q
 contains_is rows s is q = sym (ap (λ t. set.contains t q) is) ∙ contains-dots_in rows q
 
 pub none_in : dots_in [] ≡ set.empty
 none_in = set.same_set dots_total exact_dots _ _ (λ q. contains-dots_in [] q ∙ sym (set.contains-empty dot_cmp q))
 
--- ---- a set and a place in its rows, of which s are those that were searched
+-- ---- a set, the rows s that were searched, and an index in them
 
 module _ (rows s : List Row) (dots : Dots) (view : dots_in rows ≡ dots) (kept : AreKept rows) (same : s ≡ rows) (o : Origin) (i : ℕ) where
-  -- a search found the place
+  -- the search returned the row's index
   abbrev Found : Type 0
   Found = (i < length s) × ((d : Row) → (get_or s i d).origin ≡ o)
 
-  -- or the place where a row would be
+  -- the search returned an insertion point
   abbrev Between : Type 0
   Between = (i ≤ length s) × AllWithin (λ (row : Row). origin_cmp row.origin o ≡ Less) s 0 i × AllWithin (λ (row : Row). origin_cmp row.origin o ≡ Greater) s i (length s)
 
@@ -240,7 +240,7 @@ module _ (rows s : List Row) (dots : Dots) (view : dots_in rows ≡ dots) (kept 
     pub new_contains : (q : Dot) → set.contains (dots_in items) q ≡ (row_has q row || set.contains dots q)
     new_contains q = contains-dots_in items q ∙ new_has q ∙ ap (λ b. row_has q row || b) (sym (contains_is rows dots view q))
 
--- a row of one dot has some
+-- a row of one dot isn't empty
 pub one_some : (d : Dot) (row : Row) → IsOne d row → HasSome row
 one_some d row one = some_from row d.n (one.exact d.n ∙ is_same d.n d.n refl)
 

@@ -1,4 +1,4 @@
--- The counters of one origin: what is settled, put in and united.
+-- The counters of one origin: extending a version-vector entry up to the first gap, inserting, and uniting.
 use Rattle.std.proofs.Common.{◌≡◌, ◌↔◌, ℕ, ◌+◌, ◌<◌, ◌≤◌, inl, inr, Bool, true, false, ◌||◌, ◌&&◌, nat_le, nat_lt, nat_eq, IsTrue, List, [], ◌∷◌, length, refl, sym, ap, ◌∙◌, subst, arith, take, get_or}
 use Rattle.std.specs.Ordering.{nat_cmp, eq_by_cmp}
 use Rattle.std.proofs.lemmas.Bool.{and_parts, and_from, or_cases, or_from, or_left, or_right, false≢true, cases_lt, leb-true, le-leb, ltb-true, eqb-true}
@@ -18,7 +18,7 @@ use Rattle.dac_origins.specs.declared.dot.Origin.{Origin}
 use Rattle.dac_dots.proofs.PlaceLemmas.{some_from}
 use Rattle.dac_dots.proofs.SpanLemmas.{reaches}
 
--- ---- what is settled
+-- ---- extended up to the first gap
 
 beyond : (v w n : ℕ) (k : Bool) → v ≤ w → ((nat_lt w n || nat_eq n 0) && ((nat_le 1 n && nat_le n v) || k)) ≡ ((nat_lt w n || nat_eq n 0) && k)
 beyond v w n k p = grind (arith, nat_tests)
@@ -27,7 +27,7 @@ module _ (o : Origin) (v : ℕ) (ns : List ℕ) where
   abbrev pub settled : Row
   settled = record { origin = o; upto = reach_from v ns; further = further_of (reach_from v ns) ns }
 
-  -- it has 1 to v, and these counters
+  -- the extended row contains 1 to v and these counters
   pub settled_has : (n : ℕ) → has_counter settled n ≡ ((nat_le 1 n && nat_le n v) || has_key nat_cmp ns n)
   settled_has n =
       let w = reach_from v ns in
@@ -56,7 +56,7 @@ module _ (o : Origin) (v : ℕ) (ns : List ℕ) where
         ];
   }
 
--- ---- the row of counters that rise
+-- ---- the row of ascending counters
 
 pub no_range : (n : ℕ) (k : Bool) → ((nat_le 1 n && nat_le n 0) || k) ≡ k
 no_range n k = grind (arith, nat_tests)
@@ -68,7 +68,7 @@ module _ (o : Origin) (ns : List ℕ) where
   pub row_kept : IsRising nat_cmp ns → IsKept (row_of o ns)
   row_kept rising = settled_kept o 0 ns rising
 
-  -- the same of a row as it is seen
+  -- the facts about a row, for a value equal to it
   module _ (seen : Row) (view : row_of o ns ≡ seen) where
     pub seen_counter : (n : ℕ) → has_counter seen n ≡ has_key nat_cmp ns n
     seen_counter n = ap (λ (r : Row). has_counter r n) (sym view) ∙ row_counter n
@@ -127,7 +127,7 @@ one_row d new rising is = record {
     or_none true = refl
     or_none false = refl
 
--- ---- the row of 1 to upto and counters that rise from above upto + 1
+-- ---- the row of 1 to upto and counters that ascend from above upto + 1
 
 pub above_low : (low : ℕ) (ns : List ℕ) (n : ℕ) → is_below_all nat_cmp low ns ≡ true → has_key nat_cmp ns n ≡ true → low < n
 above_low low [] n h e = absurd (false≢true e)
@@ -174,7 +174,7 @@ one_of_these true false c = refl
 one_of_these false true c = refl
 one_of_these false false c = refl
 
--- a further counter is put in
+-- one more further counter is inserted
 pub parts_more : (further : List ℕ) (upto i : ℕ) (old new : List ℕ) → i < length further → ((n : ℕ) → has_key nat_cmp old n ≡ (has_key nat_cmp (take i further) n || (nat_le 1 n && nat_le n upto))) → ((n : ℕ) → has_key nat_cmp new n ≡ (eq_by_cmp nat_cmp n (get_or further i 0) || has_key nat_cmp old n))
     → (n : ℕ) → has_key nat_cmp new n ≡ (has_key nat_cmp (take (i + 1) further) n || (nat_le 1 n && nat_le n upto))
 parts_more further upto i old new p so_far one n =
@@ -182,7 +182,7 @@ parts_more further upto i old new p so_far one n =
     let here = eq_by_cmp nat_cmp n (get_or further i 0) in
     one n ∙ ap (λ b. here || b) (so_far n) ∙ one_of_these here (has_key nat_cmp (take i further) n) inside ∙ ap (λ b. b || inside) (sym (list_any_more (eq_by_cmp nat_cmp n) further i 0 p))
 
--- all further counters are in
+-- all further counters are inserted
 pub parts_done : (o : Origin) (upto : ℕ) (further counters : List ℕ) (i : ℕ) → length further ≤ i → IsRising nat_cmp ((upto + 1) ∷ further) → IsRising nat_cmp counters → ((n : ℕ) → has_key nat_cmp counters n ≡ (has_key nat_cmp (take i further) n || (nat_le 1 n && nat_le n upto)))
     → row_of o counters ≡ record { origin = o; upto = upto; further = further }
 parts_done o upto further counters i end can rising so_far = row_of_parts o upto further counters can rising (λ n. so_far n ∙ ap (λ ns. has_key nat_cmp ns n || (nat_le 1 n && nat_le n upto)) (take_all i further end))

@@ -1,4 +1,4 @@
--- The counters of spans: which they are, and what spans that are joined have.
+-- The counters of spans, and of joined spans.
 use Rattle.std.proofs.Common.{◌≡◌, ℕ, zero, suc, ◌+◌, ◌-◌, ◌<◌, ◌≤◌, inl, inr, Bool, true, false, cond, ◌||◌, ◌&&◌, nat_le, nat_lt, nat_eq, IsTrue, List, [], ◌∷◌, ◌++◌, length, take, drop, get_or, min, max, refl, sym, ap, ◌∙◌, subst, arith, take-append-drop, length-append, length-drop}
 use Rattle.std.specs.Ordering.{nat_cmp, eq_by_cmp}
 use Rattle.std.specs.List.{flat_map, AllWithin}
@@ -14,11 +14,11 @@ use Rattle.std.proofs.lemmas.Map.Lookups.{exact_unsigned}
 use Rattle.dac_origins.specs.laws.InOrder.{or_swap, same_rising}
 use Rattle.dac_dots.specs.laws.CounterLaws.{is_less, on_the_way, ends_there, rising_filter, has_key-filter}
 use Rattle.dac_dots.specs.Rows.{IsGreatest, further_of, reach_of}
-use Rattle.dac_dots.specs.Spans.{from_on, counters_of_span, counters_in, span_has, any_span, any_past, are_apart, AreSpans, HaveEnded, IsPlaceFor, hull, absorbed}
+use Rattle.dac_dots.specs.Spans.{from_on, counters_of_span, counters_in, span_has, any_span, any_above, are_apart, AreSpans, HaveEnded, IsPlaceFor, hull, absorbed}
 use Rattle.dac_dots.specs.declared.spans.Span.{Span}
 use Rattle.dac_dots.proofs.PlaceLemmas.{or_assoc}
 
--- ---- which counters spans have
+-- ---- the counters of spans
 
 none_from : (f n : ℕ) → false ≡ (nat_le f n && nat_lt n (f + 0))
 none_from f n = grind (arith, nat_tests)
@@ -49,7 +49,7 @@ pub has_counters : (spans : List Span) (n : ℕ) → has_key nat_cmp (counters_i
 unfolding counters_in
 has_counters spans n = has_spans spans n
 
--- ---- they rise
+-- ---- the counters ascend
 
 below_from : (x f k : ℕ) → x < f → is_below_all nat_cmp x (from_on f k) ≡ true
 unfolding from_on
@@ -70,7 +70,7 @@ pub below_span : (x : ℕ) (span : Span) → x < span.first → is_below_all nat
 unfolding counters_of_span
 below_span x span p = below_from x span.first (span.last + 1 - span.first) p
 
--- what are_apart says of the first
+-- are_apart, unfolded for the first span
 pub apart_first : (low : ℕ) (span : Span) (spans : List Span) → are_apart low (span ∷ spans) ≡ true → (low ≤ span.first) × ((span.first ≤ span.last) × (are_apart (span.last + 2) spans ≡ true))
 apart_first low span spans h =
     let parts = and_parts (nat_le low span.first) (nat_le span.first span.last && are_apart (span.last + 2) spans) h in
@@ -106,9 +106,9 @@ pub rising_counters : (low : ℕ) (spans : List Span) → are_apart low spans �
 unfolding counters_in
 rising_counters low spans h = rising_spans low spans h
 
--- ---- places among spans that are apart
+-- ---- indices of spans with gaps between them
 
--- no span that begins later has the counter
+-- no span that begins after the counter contains it
 pub none_below : (n low : ℕ) (spans : List Span) → n < low → are_apart low spans ≡ true → any_span spans n ≡ false
 none_below n low [] p h = refl
 none_below n low (span ∷ spans) p h =
@@ -121,7 +121,7 @@ none_below n low (span ∷ spans) p h =
     before : (n f l : ℕ) → n < f → (nat_le f n && nat_le n l) ≡ false
     before n f l p = grind (arith, nat_tests)
 
--- each span has a counter, and begins at low or later
+-- no span is empty, and each begins at low or later
 pub apart_at : (low : ℕ) (spans : List Span) → are_apart low spans ≡ true → (i : ℕ) (d : Span) → i < length spans → (low ≤ (get_or spans i d).first) × ((get_or spans i d).first ≤ (get_or spans i d).last)
 apart_at low [] h i d p = absurd (omega arith)
 apart_at low (span ∷ spans) h zero d p = let is = apart_first low span spans h in (is.0, is.1.0)
@@ -146,9 +146,9 @@ ends_rise low (span ∷ spans) h zero (suc j) d p q =
 ends_rise low (span ∷ spans) h (suc i) zero d p q = absurd (omega arith)
 ends_rise low (span ∷ spans) h (suc i) (suc j) d p q = ends_rise (span.last + 2) spans (apart_first low span spans h).1.1 i j d (omega arith) (omega arith)
 
--- ---- spans that are joined
+-- ---- joining spans
 
--- the first span isn't more than one below
+-- the span begins no later than one past the end of the next
 abbrev pub IsNext : Span → List Span → Type 0
 IsNext span [] = Unit {0}
 IsNext span (next ∷ spans) = span.first ≤ next.last + 1
@@ -188,7 +188,7 @@ absorbed_apart span (next ∷ spans) low v p h =
       | false ↦ λ e. let far = leb-false _ _ e in apart_from low span (next ∷ spans) p v (apart_from (span.last + 2) next spans (omega arith) w is.1.1)
     ] refl
 
--- ---- a span that is put at its place
+-- ---- inserting a span
 
 rest_place : (span : Span) (spans : List Span) (place first : ℕ) → IsPlaceFor (span ∷ spans) (suc place) first → IsPlaceFor spans place first
 rest_place span spans place first is = record {
@@ -221,7 +221,7 @@ put_apart span (next ∷ spans) (suc place) low v p at h =
     apart_from low next (take place spans ++ absorbed span (drop place spans)) is.0 is.1.0
     (put_apart span spans place (next.last + 2) v (is_far next.last span.first (at.before 0 next (omega arith) (omega arith))) (rest_place next spans place span.first at) is.1.1)
 
--- ---- where a search ends
+-- ---- results of searches
 
 pub get_or_same : (spans : List Span) (i : ℕ) (d e : Span) → i < length spans → get_or spans i d ≡ get_or spans i e
 get_or_same [] i d e p = absurd (omega arith)
@@ -252,7 +252,7 @@ out_after n f l p = grind (arith, nat_tests)
 out_before : (n f l : ℕ) → n < f → (nat_le f n && nat_le n l) ≡ false
 out_before n f l p = grind (arith, nat_tests)
 
--- where the first span doesn't end before a counter, none does
+-- if the first span doesn't end before a counter, none does
 pub none_ended : (spans : List Span) → are_apart 0 spans ≡ true → (first : Span) → 0 < length spans → first ≡ get_or spans 0 first → (n : ℕ) → n ≤ first.last → HaveEnded spans 0 n
 none_ended spans h first some is n low = (
   λ j d p q. absurd (omega arith),
@@ -262,7 +262,7 @@ none_ended spans h first some is n low = (
       le-ltb (get_or spans j d).last n (omega arith),
 )
 
--- where the last span ends far before a counter, all do
+-- if the last span ends before a counter with a gap, all do
 pub place_at_end : (spans : List Span) → are_apart 0 spans ≡ true → (last : Span) → 0 < length spans → last ≡ get_or spans (length spans - 1) last → (n : ℕ) → nat_lt (last.last + 1) n ≡ true → IsPlaceFor spans (length spans) n
 place_at_end spans h last some is n far = record {
   within = omega arith;
@@ -273,7 +273,7 @@ place_at_end spans h last some is n far = record {
   after = λ j d p q. absurd (omega arith);
 }
 
--- where the last span begins no later than a counter and doesn't end far before it, the others do
+-- if the last span begins no later than a counter and doesn't end before it with a gap, all the others do
 pub place_at_last : (spans : List Span) → are_apart 0 spans ≡ true → (last : Span) → 0 < length spans → last ≡ get_or spans (length spans - 1) last → (n : ℕ) → nat_lt (last.last + 1) n ≡ false → last.first ≤ n → IsPlaceFor spans (length spans - 1) n
 place_at_last spans h last some is n near low = record {
   within = omega arith;
@@ -287,14 +287,14 @@ place_at_last spans h last some is n near low = record {
       ap (λ (r : Span). nat_lt (r.last + 1) n) same ∙ near;
 }
 
--- a number between the spans is in none
+-- a number between spans is in none
 none_between : (spans : List Span) (place n : ℕ) → AllWithin (λ (span : Span). span.last < n) spans 0 place → AllWithin (λ (span : Span). n < span.first) spans place (length spans) → any_span spans n ≡ false
 none_between spans place n low high = list_any_none (span_has n) spans (λ j d p. elim (cases_lt j place) [
   | inl q ↦ out_after n _ _ (low j d (omega arith) q)
   | inr q ↦ out_before n _ _ (high j d q p)
 ])
 
--- a span is among those of a set where it lies in the one that the search finds
+-- a span's counters are in a set exactly if one span of the set, which the search finds, contains it
 module _ (spans : List Span) (h : are_apart 0 spans ≡ true) (now : List ℕ) (view : counters_in spans ≡ now) (span : Span) (valid : span.first ≤ span.last) where
   abbrev HasAll : Type 0
   HasAll = (n : ℕ) → span_has n span ≡ true → has_key nat_cmp now n ≡ true
@@ -345,7 +345,7 @@ module _ (spans : List Span) (h : are_apart 0 spans ≡ true) (now : List ℕ) (
           let q : n ≤ span.last = leb-true _ _ parts.1 in
           now_has n ∙ list_any_at (span_has n) spans place found within (subst (λ (r : Span). span_has n r ≡ true) is (and_from _ _ (le-leb found.first n (omega arith)) (le-leb n found.last (omega arith))))
 
--- ---- a span that none of the others touches
+-- ---- a span that touches no other
 
 middle_from : (low : ℕ) (xs : List Span) (span : Span) (ys : List Span) → are_apart low (xs ++ span ∷ ys) ≡ true → low ≤ span.first
 middle_from low [] span ys h = (apart_first low span ys h).0
@@ -386,7 +386,7 @@ one_counter n = ap (λ k. from_on n k ++ []) (alone n)
 pub two_apart : (a b : Span) → a.first ≤ a.last → b.first ≤ b.last → nat_lt (a.last + 1) b.first ≡ true → are_apart 0 (a ∷ b ∷ []) ≡ true
 two_apart a b v w far = apart_from 0 a (b ∷ []) (omega arith) v (apart_from (a.last + 2) b [] (is_far a.last b.first far) w refl)
 
--- no counter of a later span is in a span that ends far before
+-- no counter of a later span is in a span that ends before it with a gap
 pub none_earlier : (a b : Span) → nat_lt (a.last + 1) b.first ≡ true → (n : ℕ) → span_has n b ≡ true → any_span (a ∷ []) n ≡ false
 none_earlier a b far n e = apart a.first a.last b.first b.last n far e
   where
@@ -405,7 +405,7 @@ second_put a b n = turn (span_has n a) (span_has n b)
 pub hull_valid : (a b : Span) → a.first ≤ a.last → b.first ≤ b.last → (hull a b).first ≤ (hull a b).last
 hull_valid a b v w = omega arith
 
--- ---- the last counter, and how far they go
+-- ---- the last counter, and the first gap
 
 last_holds : (low : ℕ) (spans : List Span) → are_apart low spans ≡ true → (i : ℕ) (d : Span) → suc i ≡ length spans → (n : ℕ) → any_span spans n ≡ true → n ≤ (get_or spans i d).last
 last_holds low [] h i d at n e = absurd (omega arith)
@@ -438,7 +438,7 @@ pub last_none : (spans : List Span) (now : List ℕ) → counters_in spans ≡ n
 last_none [] now view none = record { above = λ n e. absurd (false≢true (sym (ap (λ ns. has_key nat_cmp ns n) (sym view) ∙ has_counters [] n) ∙ e)); there = inl refl }
 last_none (span ∷ spans) now view none = absurd (omega arith)
 
--- counters go as far as they do without a gap
+-- the last counter before the first gap is the one after which a counter is missing
 pub reaches : (ns : List ℕ) → IsRising nat_cmp ns → (u : ℕ) → ((n : ℕ) → 1 ≤ n → n ≤ u → has_key nat_cmp ns n ≡ true) → has_key nat_cmp ns (u + 1) ≡ false → u ≡ reach_of ns
 reaches ns rising u all end = elim (cases_order u (reach_of ns)) [
   | inl is ↦ is
@@ -496,7 +496,7 @@ empty_spans (span ∷ spans) now view h b is = (
       absurd (false≢true (sym (ap (λ ns. has_key nat_cmp ns span.first) (view ∙ e)) ∙ has_counters (span ∷ spans) span.first ∙ or_left _ _ (and_from _ _ (le-leb span.first span.first (omega arith)) (le-leb span.first span.last valid)))),
 )
 
--- each span has a counter
+-- no span is empty
 pub valid_spans : (low : ℕ) (spans : List Span) → are_apart low spans ≡ true → AreSpans spans
 valid_spans low [] h = tt
 valid_spans low (span ∷ spans) h = let is = apart_first low span spans h in (is.1.0, valid_spans (span.last + 2) spans is.1.1)
@@ -511,7 +511,7 @@ valid_drop spans all zero = all
 valid_drop [] all (suc i) = tt
 valid_drop (span ∷ spans) all (suc i) = valid_drop spans all.1 i
 
--- ---- one span more
+-- ---- one more span
 
 or_turn : (a b c : Bool) → (a || (b || c)) ≡ ((b || a) || c)
 or_turn true true c = refl
@@ -548,11 +548,11 @@ all_listed f l k p e old mid new so_far one n =
 pub any_more : (spans : List Span) (i : ℕ) (d : Span) → i < length spans → (n : ℕ) → any_span (take (i + 1) spans) n ≡ (any_span (take i spans) n || span_has n (get_or spans i d))
 any_more spans i d p n = list_any_more (span_has n) spans i d p
 
--- a span of the set has its counters there
+-- the counters of a span of the set are in the set
 pub span_within : (spans : List Span) (now : List ℕ) → counters_in spans ≡ now → (i : ℕ) (d : Span) → i < length spans → (n : ℕ) → span_has n (get_or spans i d) ≡ true → has_key nat_cmp now n ≡ true
 span_within spans now view i d p n e = ap (λ ns. has_key nat_cmp ns n) (sym view) ∙ has_counters spans n ∙ list_any_at (span_has n) spans i d p e
 
--- ---- how many
+-- ---- the number of counters
 
 length_from_on : (f k : ℕ) → length (from_on f k) ≡ k
 unfolding from_on
@@ -576,7 +576,7 @@ len_more (span ∷ spans) (suc i) d p =
     let more = len_more spans i d (omega arith) in
     omega arith
 
--- there are no more than numbers up to the last
+-- spans have no more counters than there are numbers up to the last
 pub len_span : (low : ℕ) (spans : List Span) → are_apart low spans ≡ true → (i : ℕ) (d : Span) → i < length spans → low + length (counters_in (take (suc i) spans)) ≤ (get_or spans i d).last + 1
 len_span low [] h i d p = absurd (omega arith)
 len_span low (span ∷ spans) h zero d p =
@@ -612,7 +612,7 @@ regroup false false true tx = refl
 regroup false false false true = refl
 regroup false false false false = refl
 
--- a span of the first list is put in
+-- a span of the first list is inserted
 pub merged_first : (xs ys : List Span) (i j : ℕ) (d : Span) → i < length xs → (mid new : List ℕ) → ((n : ℕ) → has_key nat_cmp mid n ≡ (any_span (take j ys) n || any_span (take i xs) n)) → ((n : ℕ) → has_key nat_cmp new n ≡ (span_has n (get_or xs i d) || has_key nat_cmp mid n))
     → (n : ℕ) → has_key nat_cmp new n ≡ (any_span (take j ys) n || any_span (take (i + 1) xs) n)
 merged_first xs ys i j d p mid new so_far one n =
@@ -627,7 +627,7 @@ merged_first xs ys i j d p mid new so_far one n =
     or_last false false true = refl
     or_last false false false = refl
 
--- a span of the second is
+-- a span of the second list is inserted
 pub merged_second : (xs ys : List Span) (i j : ℕ) (d : Span) → j < length ys → (mid new : List ℕ) → ((n : ℕ) → has_key nat_cmp mid n ≡ (any_span (take j ys) n || any_span (take i xs) n)) → ((n : ℕ) → has_key nat_cmp new n ≡ (span_has n (get_or ys j d) || has_key nat_cmp mid n))
     → (n : ℕ) → has_key nat_cmp new n ≡ (any_span (take (j + 1) ys) n || any_span (take i xs) n)
 merged_second xs ys i j d p mid new so_far one n =
@@ -656,27 +656,27 @@ merged_rest xs ys i j both mid new so_far first second = merged_both xs ys i j b
 
 -- ---- spans that begin above a number
 
-past_one : (upto : ℕ) (spans : List Span) (i : ℕ) (d : Span) → i < length spans → (n : ℕ) → any_past upto (take (i + 1) spans) n ≡ (any_past upto (take i spans) n || (nat_lt upto (get_or spans i d).first && span_has n (get_or spans i d)))
+past_one : (upto : ℕ) (spans : List Span) (i : ℕ) (d : Span) → i < length spans → (n : ℕ) → any_above upto (take (i + 1) spans) n ≡ (any_above upto (take i spans) n || (nat_lt upto (get_or spans i d).first && span_has n (get_or spans i d)))
 past_one upto spans i d p n = list_any_more (λ (span : Span). nat_lt upto span.first && span_has n span) spans i d p
 
-pub past_more : (upto : ℕ) (spans : List Span) (i : ℕ) (d : Span) → i < length spans → nat_lt upto (get_or spans i d).first ≡ true → (old mid new : List ℕ) → ((n : ℕ) → has_key nat_cmp mid n ≡ (any_past upto (take i spans) n || has_key nat_cmp old n)) → ((n : ℕ) → has_key nat_cmp new n ≡ (span_has n (get_or spans i d) || has_key nat_cmp mid n))
-    → (n : ℕ) → has_key nat_cmp new n ≡ (any_past upto (take (i + 1) spans) n || has_key nat_cmp old n)
+pub past_more : (upto : ℕ) (spans : List Span) (i : ℕ) (d : Span) → i < length spans → nat_lt upto (get_or spans i d).first ≡ true → (old mid new : List ℕ) → ((n : ℕ) → has_key nat_cmp mid n ≡ (any_above upto (take i spans) n || has_key nat_cmp old n)) → ((n : ℕ) → has_key nat_cmp new n ≡ (span_has n (get_or spans i d) || has_key nat_cmp mid n))
+    → (n : ℕ) → has_key nat_cmp new n ≡ (any_above upto (take (i + 1) spans) n || has_key nat_cmp old n)
 past_more upto spans i d p above old mid new so_far one n =
-    one n ∙ ap (λ b. span_has n (get_or spans i d) || b) (so_far n) ∙ or_turn (span_has n (get_or spans i d)) (any_past upto (take i spans) n) (has_key nat_cmp old n)
-    ∙ ap (λ b. b || has_key nat_cmp old n) (ap (λ t. any_past upto (take i spans) n || (t && span_has n (get_or spans i d))) (sym above) ∙ sym (past_one upto spans i d p n))
+    one n ∙ ap (λ b. span_has n (get_or spans i d) || b) (so_far n) ∙ or_turn (span_has n (get_or spans i d)) (any_above upto (take i spans) n) (has_key nat_cmp old n)
+    ∙ ap (λ b. b || has_key nat_cmp old n) (ap (λ t. any_above upto (take i spans) n || (t && span_has n (get_or spans i d))) (sym above) ∙ sym (past_one upto spans i d p n))
 
 or_false : (b : Bool) → (b || false) ≡ b
 or_false true = refl
 or_false false = refl
 
-pub past_same : (upto : ℕ) (spans : List Span) (i : ℕ) (d : Span) → i < length spans → nat_lt upto (get_or spans i d).first ≡ false → (n : ℕ) → any_past upto (take (i + 1) spans) n ≡ any_past upto (take i spans) n
-past_same upto spans i d p below n = past_one upto spans i d p n ∙ ap (λ t. any_past upto (take i spans) n || (t && span_has n (get_or spans i d))) below ∙ or_false (any_past upto (take i spans) n)
+pub past_same : (upto : ℕ) (spans : List Span) (i : ℕ) (d : Span) → i < length spans → nat_lt upto (get_or spans i d).first ≡ false → (n : ℕ) → any_above upto (take (i + 1) spans) n ≡ any_above upto (take i spans) n
+past_same upto spans i d p below n = past_one upto spans i d p n ∙ ap (λ t. any_above upto (take i spans) n || (t && span_has n (get_or spans i d))) below ∙ or_false (any_above upto (take i spans) n)
 
 -- ---- the further counters
 
 module _ (spans : List Span) (h : are_apart 0 spans ≡ true) (now : List ℕ) (view : counters_in spans ≡ now) where
-  -- a span that begins no later than upto ends there too
-  begins_within : (u : ℕ) → has_key nat_cmp now (u + 1) ≡ false → (l : List Span) → ((n : ℕ) → any_span l n ≡ true → has_key nat_cmp now n ≡ true) → (n : ℕ) → u < n → any_past u l n ≡ any_span l n
+  -- a span that begins no later than upto ends no later than upto
+  begins_within : (u : ℕ) → has_key nat_cmp now (u + 1) ≡ false → (l : List Span) → ((n : ℕ) → any_span l n ≡ true → has_key nat_cmp now n ≡ true) → (n : ℕ) → u < n → any_above u l n ≡ any_span l n
   begins_within u end [] there n p = refl
   begins_within u end (span ∷ l) there n p = (λ i. one i || begins_within u end l (λ m e. there m (or_right _ _ e)) n p i)
     where
@@ -694,14 +694,14 @@ module _ (spans : List Span) (h : are_apart 0 spans ≡ true) (now : List ℕ) (
           no_more true = refl
           no_more false = refl
 
-  none_past : (u : ℕ) (l : List Span) (n : ℕ) → n ≤ u → any_past u l n ≡ false
+  none_past : (u : ℕ) (l : List Span) (n : ℕ) → n ≤ u → any_above u l n ≡ false
   none_past u [] n p = refl
   none_past u (span ∷ l) n p = (λ i. out u n span.first span.last p i || none_past u l n p i)
     where
       out : (u n f l : ℕ) → n ≤ u → (nat_lt u f && (nat_le f n && nat_le n l)) ≡ false
       out u n f l p = grind (arith, nat_tests)
 
-  pub further_has : (n : ℕ) → (any_past (reach_of now) spans n || (nat_eq n 0 && has_key nat_cmp now 0)) ≡ ((nat_lt (reach_of now) n || nat_eq n 0) && has_key nat_cmp now n)
+  pub further_has : (n : ℕ) → (any_above (reach_of now) spans n || (nat_eq n 0 && has_key nat_cmp now 0)) ≡ ((nat_lt (reach_of now) n || nat_eq n 0) && has_key nat_cmp now n)
   further_has n = elim (cases_lt (reach_of now) n) [
     | inl past ↦
         let other : nat_eq n 0 ≡ false = not_zero n (reach_of now) past in
@@ -723,12 +723,12 @@ module _ (spans : List Span) (h : are_apart 0 spans ≡ true) (now : List ℕ) (
         | inr e ↦ ap (λ t. t && has_key nat_cmp now 0) e ∙ sym (ap (λ t. t && has_key nat_cmp now n) e)
       ]
 
-  pub further_is : (ns : List ℕ) → IsRising nat_cmp ns → ((n : ℕ) → has_key nat_cmp ns n ≡ (any_past (reach_of now) spans n || (nat_eq n 0 && has_key nat_cmp now 0))) → ns ≡ further_of (reach_of now) now
+  pub further_is : (ns : List ℕ) → IsRising nat_cmp ns → ((n : ℕ) → has_key nat_cmp ns n ≡ (any_above (reach_of now) spans n || (nat_eq n 0 && has_key nat_cmp now 0))) → ns ≡ further_of (reach_of now) now
   further_is ns rising all =
       same_rising nat_cmp_total exact_unsigned ns (further_of (reach_of now) now) rising (rising_filter (λ n. nat_lt (reach_of now) n || nat_eq n 0) now (rising_now spans h now view))
       (λ n. all n ∙ further_has n ∙ sym (has_key-filter (λ n. nat_lt (reach_of now) n || nat_eq n 0) now n))
 
--- 0 where the set has it
+-- 0 is a further counter if the set contains it
 pub zero_alone : (n : ℕ) → (eq_by_cmp nat_cmp n 0 || false) ≡ nat_eq n 0
 zero_alone n = grind (arith, nat_tests)
 

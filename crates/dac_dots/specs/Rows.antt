@@ -1,4 +1,4 @@
--- A context by its origins: of each one how far its counters go without a gap, and which further ones there are.
+-- A context by origin: for each one the counters before its first gap, and the further ones.
 use Rattle.std.specs.Prelude.{◌≡◌, ℕ, zero, suc, ◌+◌, ◌<◌, ◌≤◌, ◌⊎◌, ◌==◌, ◌&&◌, ◌||◌, nat_lt, nat_le, Bool, true, false, if◌then◌else◌, List, [], ◌∷◌, ◌++◌, length, map, Result, MatchResult, refl}
 use Rattle.std.specs.List.{filter, flat_map, fold, list_any, AllByRecursion, AllWithin, HoldsAt}
 use Rattle.std.specs.Coded.{Coded, code_by, coded×, coded_ℕ, coded_list}
@@ -11,24 +11,25 @@ use Rattle.dac_origins.specs.Dots.{Dots, dot, origin_cmp}
 use Rattle.dac_origins.specs.declared.dot.Origin.{Origin}
 use Rattle.dac_origins.specs.declared.dot.Dot.{Dot}
 
--- the counters of one origin: 1 to upto, and the further ones
+-- the dots of one origin: the counters 1 to upto (its entry of the version vector), and further ones (its part of the
+-- cloud)
 pub record Row : Type 0 where
   pub origin : Origin
   pub upto : ℕ
   pub further : List ℕ
 
--- a row as four parts
+-- a row encoded as four components
 abbrev pub coded_row : Coded Row
 coded_row = code_by (ℕ × (ℕ × (ℕ × List ℕ))) (coded× coded_ℕ (coded× coded_ℕ (coded× coded_ℕ (coded_list coded_ℕ))))
     (λ row. (row.origin.node.0, (row.origin.inc, (row.upto, row.further))))
     (λ p. record { origin = record { node = record { 0 = p.0 }; inc = p.1.0 }; upto = p.1.1.0; further = p.1.1.1 })
     (λ _. refl)
 
--- the origins of the dots, in rising order
+-- the origins of the dots, in ascending order
 abbrev pub origins_of : List Dot → List Origin
 origins_of dots = in_order (set.from_list {R = origin_cmp} (map (λ (d : Dot). d.origin) dots))
 
--- whether the dot is one of the origin's
+-- whether the dot is the origin's
 abbrev pub is_of : Origin → Dot → Bool
 is_of origin d = (d.origin.node.0 == origin.node.0) && (d.origin.inc == origin.inc)
 
@@ -36,15 +37,15 @@ is_of origin d = (d.origin.node.0 == origin.node.0) && (d.origin.inc == origin.i
 abbrev pub counters_of : Origin → List Dot → List ℕ
 counters_of origin dots = map (λ (d : Dot). d.n) (filter (is_of origin) dots)
 
--- how far rising counters go on from upto without a gap
+-- the greatest number such that each one from upto + 1 to it is among the ascending counters; else upto
 abbrev pub reach_from : ℕ → List ℕ → ℕ
 reach_from upto counters = fold (λ upto n. if n == upto + 1 then n else upto) upto counters
 
--- how far rising counters go 1, 2, 3, .. without a gap
+-- the last counter before the first gap: 1 to it are among the ascending counters
 abbrev pub reach_of : List ℕ → ℕ
 reach_of counters = reach_from 0 counters
 
--- those of the counters that aren't 1 to upto
+-- the counters outside 1 to upto
 abbrev pub further_of : ℕ → List ℕ → List ℕ
 further_of upto counters = filter (λ n. nat_lt upto n || n == 0) counters
 
@@ -52,24 +53,24 @@ abbrev pub row_of : Origin → List ℕ → Row
 row_of origin counters =
     record { origin = origin; upto = reach_of counters; further = further_of (reach_of counters) counters }
 
--- the rows of a set of dots, their origins in rising order
+-- the rows of a set of dots, in ascending order of origins
 unfoldable pub rows_of : Dots → List Row
 rows_of dots =
     map (λ (origin : Origin). row_of origin (counters_of origin (in_order dots))) (origins_of (in_order dots))
 
--- The row says of its origin which dots the set has, and it has some.
+-- The row describes the dots of its origin in the set, of which there is at least one.
 pub record IsRowOf (dots : Dots) (row : Row) : Type 0 where
-  -- 1 to upto, and the further ones
+  -- the counters are 1 to upto and the further ones
   pub exact : (n : ℕ)
       → set.contains dots (dot row.origin n) ≡ ((nat_le 1 n && nat_le n row.upto) || has_key nat_cmp row.further n)
-  -- upto is as great as it can be
+  -- upto is as great as possible
   pub ends : set.contains dots (dot row.origin (row.upto + 1)) ≡ false
-  -- a further counter isn't 1 to upto
+  -- no further counter is in 1 to upto + 1
   pub apart : (n : ℕ) → has_key nat_cmp row.further n ≡ true → (n ≡ 0) ⊎ (row.upto + 1 < n)
   pub rising : IsRising nat_cmp row.further
   pub some : (n : ℕ) × (set.contains dots (dot row.origin n) ≡ true)
 
--- the rows tell the set: one for each origin that has a dot in it, in rising order
+-- the rows describe the set: one row for each origin with a dot in it, in ascending order
 pub record AreRowsOf (dots : Dots) (rows : List Row) : Type 0 where
   pub each : AllByRecursion (IsRowOf dots) rows
   pub every : (d : Dot) → set.contains dots d ≡ true
@@ -78,7 +79,7 @@ pub record AreRowsOf (dots : Dots) (rows : List Row) : Type 0 where
 
 -- ---- the dots of rows
 
--- 1 to n
+-- the numbers 1 to n
 unfoldable pub one_to : ℕ → List ℕ
 one_to zero = []
 one_to (suc n) = one_to n ++ suc n ∷ []
@@ -87,35 +88,35 @@ one_to (suc n) = one_to n ++ suc n ∷ []
 unfoldable pub dots_in_row : Row → List Dot
 dots_in_row row = map (dot row.origin) (one_to row.upto ++ row.further)
 
--- the dots of these rows
+-- the dots of all these rows
 unfoldable pub dots_in : List Row → Dots
 dots_in rows = set.from_list (flat_map dots_in_row rows)
 
--- whether a row has the counter
+-- whether the row contains the counter
 abbrev pub has_counter : Row → ℕ → Bool
 has_counter row n = (nat_le 1 n && nat_le n row.upto) || has_key nat_cmp row.further n
 
--- whether a row has the dot
+-- whether the row contains the dot
 abbrev pub row_has : Dot → Row → Bool
 row_has q row = eq_by_cmp origin_cmp q.origin row.origin && has_counter row q.n
 
--- whether one of the rows has the dot
+-- whether any of the rows contains the dot
 abbrev pub any_row : List Row → Dot → Bool
 any_row rows q = list_any (row_has q) rows
 
 abbrev pub origins : List Row → List Origin
 origins rows = map (λ (row : Row). row.origin) rows
 
--- The further counters rise, and none of them is 1 to upto, or comes right after.
+-- A row's invariant: the further counters ascend, and none of them is in 1 to upto + 1.
 pub record IsKept (row : Row) : Type 0 where
   pub rising : IsRising nat_cmp row.further
   pub apart : (n : ℕ) → has_key nat_cmp row.further n ≡ true → (n ≡ 0) ⊎ (row.upto + 1 < n)
 
--- the row has some counter
+-- the row has a counter
 abbrev pub HasSome : Row → Type 0
 HasSome row = (1 ≤ row.upto) ⊎ (1 ≤ length row.further)
 
--- what a search for an origin answers: the place of its row, or where one would be
+-- the result of a search for an origin: the index of its row, or of its insertion point
 abbrev pub IsPlaceOf : List Row → Origin → Result ℕ ℕ → Type 0
 IsPlaceOf rows o r = MatchResult r
     (λ i. (i < length rows) × HoldsAt (λ row. row.origin ≡ o) rows i)
@@ -125,61 +126,61 @@ IsPlaceOf rows o r = MatchResult r
 abbrev pub IsRowIn : Row → Dots → Type 0
 IsRowIn row dots = (n : ℕ) → has_counter row n ≡ true → set.contains dots (dot row.origin n) ≡ true
 
--- whether each number is above the one before it, the first above low
+-- whether the numbers ascend strictly from above low
 abbrev pub rises_on : ℕ → List ℕ → Bool
 rises_on low [] = true
 rises_on low (n ∷ ns) = nat_lt low n && rises_on n ns
 
--- rows as a context keeps them
+-- the invariant of a context's rows: each satisfies its own and isn't empty, and the origins ascend
 pub record AreKept (rows : List Row) : Type 0 where
   pub each : AllByRecursion (λ row. IsKept row × HasSome row) rows
   pub rising : IsRising origin_cmp (origins rows)
 
--- the new row has one counter more
+-- the new row has the counters of the old one and k
 pub record HasAlso (old : Row) (k : ℕ) (new : Row) : Type 0 where
   pub origin : new.origin ≡ old.origin
   pub exact : (n : ℕ) → has_counter new n ≡ (eq_by_cmp nat_cmp n k || has_counter old n)
   pub kept : IsKept new
 
--- the new row has the counters of both
+-- the new row is the union of a and b
 pub record HasBoth (a b new : Row) : Type 0 where
   pub origin : new.origin ≡ a.origin
   pub exact : (n : ℕ) → has_counter new n ≡ (has_counter b n || has_counter a n)
   pub kept : IsKept new
 
--- the row has this counter alone
+-- the row of one dot
 pub record IsOne (d : Dot) (row : Row) : Type 0 where
   pub origin : row.origin ≡ d.origin
   pub exact : (n : ℕ) → has_counter row n ≡ eq_by_cmp nat_cmp n d.n
   pub kept : IsKept row
 
--- no counter of the row is greater, and it is one of them, or 0 where there is none
+-- `last` is the greatest counter of the row, or 0 if it has none
 pub record IsLastOf (row : Row) (last : ℕ) : Type 0 where
   pub above : (n : ℕ) → has_counter row n ≡ true → n ≤ last
   pub there : (last ≡ 0) ⊎ (has_counter row last ≡ true)
 
--- no counter of the list is greater, and it is one of them, or 0 where there is none
+-- `last` is the greatest counter of the list, or 0 if it is empty
 pub record IsGreatest (counters : List ℕ) (last : ℕ) : Type 0 where
   pub above : (n : ℕ) → has_key nat_cmp counters n ≡ true → n ≤ last
   pub there : (last ≡ 0) ⊎ (has_key nat_cmp counters last ≡ true)
 
--- each counter of the first row is one of the second
+-- each counter of the first row is in the second
 abbrev pub IsWithinRow : Row → Row → Type 0
 IsWithinRow a b = (n : ℕ) → has_counter a n ≡ true → has_counter b n ≡ true
 
--- the new row has each counter of the old one
+-- the new row is a superset of the old one
 pub record HasMore (old new : Row) : Type 0 where
   pub origin : new.origin ≡ old.origin
   pub more : IsWithinRow old new
   pub kept : IsKept new
 
--- each origin of the rows is before this one
+-- the origin is above those of all the rows
 abbrev pub EndBefore : List Row → Origin → Type 0
 EndBefore rows origin =
     (o : Origin) → has_key origin_cmp (map (λ (row : Row). row.origin) rows) o ≡ true → origin_cmp o origin ≡ Less
 
--- The row comes after these: its origin is above theirs, its further counters rise from above upto + 1, and
--- it has some counter.
+-- The row can be appended: its origin is above those of the rows, its further counters ascend from above upto + 1, and
+-- it has a counter.
 pub record CanFollow (rows : List Row) (row : Row) : Type 0 where
   pub above : EndBefore rows row.origin
   pub rising : IsRising nat_cmp ((row.upto + 1) ∷ row.further)

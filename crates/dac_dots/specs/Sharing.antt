@@ -1,4 +1,4 @@
--- The dots of rows that contexts may share: none where there are no rows.
+-- The set of dots that a context's representation stands for.
 use Rattle.std.specs.FinSet as set
 use Rattle.std.specs.Arc.{arc_value}
 use Rattle.dac_origins.specs.Dots.{Dots}

@@ -1,11 +1,11 @@
--- Counters as spans: numbers that follow one another without a gap.
+-- Spans of consecutive counters.
 use Rattle.std.specs.Prelude.{◌≡◌, ℕ, zero, suc, ◌+◌, ◌-◌, ◌≤◌, min, max, nat_le, nat_lt, ◌&&◌, Bool, true, false, cond, List, [], ◌∷◌, ◌++◌, length}
 use Rattle.std.specs.List.{flat_map, list_any, AllByRecursion, AllWithin}
 use Rattle.dac_dots.specs.declared.spans.Span.{Span}
 use Rattle.dac_dots.specs.declared.spans.Spans.{Spans}
 use Rattle.dac_dots.specs.declared.spans.Spans.TheVariants.{Empty, One, Listed}
 
--- so many numbers, from the first on
+-- n consecutive numbers from `first`
 unfoldable pub from_on : ℕ → ℕ → List ℕ
 from_on first zero = []
 from_on first (suc n) = first ∷ from_on (suc first) n
@@ -14,57 +14,58 @@ from_on first (suc n) = first ∷ from_on (suc first) n
 unfoldable pub counters_of_span : Span → List ℕ
 counters_of_span span = from_on span.first (span.last + 1 - span.first)
 
--- the counters of these spans
+-- the counters of all these spans
 unfoldable pub counters_in : List Span → List ℕ
 counters_in spans = flat_map counters_of_span spans
 
--- whether a span has the counter
+-- whether the span contains the counter
 abbrev pub span_has : ℕ → Span → Bool
 span_has n span = nat_le span.first n && nat_le n span.last
 
--- whether one of the spans has the counter
+-- whether any of the spans contains the counter
 abbrev pub any_span : List Span → ℕ → Bool
 any_span spans n = list_any (span_has n) spans
 
--- whether one of the spans that begin above upto has the counter
-abbrev pub any_past : ℕ → List Span → ℕ → Bool
-any_past upto spans n = list_any (λ (span : Span). nat_lt upto span.first && span_has n span) spans
+-- whether any of the spans that begin above upto contains the counter
+abbrev pub any_above : ℕ → List Span → ℕ → Bool
+any_above upto spans n = list_any (λ (span : Span). nat_lt upto span.first && span_has n span) spans
 
--- the counters of those spans that begin above upto, in the order of the spans
+-- the counters of the spans that begin above upto, in their order
 abbrev pub past : ℕ → List Span → List ℕ
 past upto [] = []
 past upto (span ∷ spans) = cond (nat_lt upto span.first) (counters_of_span span) [] ++ past upto spans
 
--- Each span has a counter, the first begins at low or later, and a counter lies between a span and the next.
+-- No span is empty, the first begins at low or later, and there are gaps between the spans.
 abbrev pub are_apart : ℕ → List Span → Bool
 are_apart low [] = true
 are_apart low (span ∷ spans) = nat_le low span.first && (nat_le span.first span.last && are_apart (span.last + 2) spans)
 
--- each span has a counter
+-- no span is empty
 abbrev pub AreSpans : List Span → Type 0
 AreSpans spans = AllByRecursion (λ (span : Span). span.first ≤ span.last) spans
 
--- a span's place: those before end too early for it, and those from there on don't
+-- `place` is the insertion index of a span that begins at `first`: the spans that end before it with a gap are those
+-- before `place`
 pub record IsPlaceFor (spans : List Span) (place first : ℕ) : Type 0 where
   pub within : place ≤ length spans
   pub before : AllWithin (λ (span : Span). nat_lt (span.last + 1) first ≡ true) spans 0 place
   pub after : AllWithin (λ (span : Span). nat_lt (span.last + 1) first ≡ false) spans place (length spans)
 
--- the spans before the place end before the counter, and those from there on don't
+-- exactly the spans before `place` end before the counter
 abbrev pub HaveEnded : List Span → ℕ → ℕ → Type 0
 HaveEnded spans place n = AllWithin (λ (span : Span). nat_lt span.last n ≡ true) spans 0 place
     × AllWithin (λ (span : Span). nat_lt span.last n ≡ false) spans place (length spans)
 
--- from where the first of both begins to where the last of both ends
+-- the least span that contains both
 abbrev pub hull : Span → Span → Span
 hull a b = record { first = min a.first b.first; last = max a.last b.last }
 
--- the span and those after it, the ones that it reaches joined with it
+-- the span joined with the spans after it that it reaches, followed by the others
 abbrev pub absorbed : Span → List Span → List Span
 absorbed span [] = span ∷ []
 absorbed span (next ∷ spans) = cond (nat_le next.first (span.last + 1)) (absorbed (hull span next) spans) (span ∷ next ∷ spans)
 
--- the spans of a set, wherever it keeps them
+-- the spans of a set, in any representation
 abbrev pub spans_of : Spans → List Span
 spans_of Empty = []
 spans_of (One span) = span ∷ []

@@ -1,7 +1,7 @@
--- Walks over the further counters of a row.
+-- Iteration over the further counters of a row.
 use Rattle.std.specs.Prelude.{ℕ, List, drop}
 use Rattle.dac_dots.specs.declared.row.FurtherIter.{FurtherIter}
 
--- the counters that are left
+-- the counters that remain
 abbrev pub left_of : FurtherIter → List ℕ
 left_of walk = drop walk.place walk.further

@@ -18,31 +18,31 @@ use std::alloc::Global;
 use std::marker::Model;
 use std::sync::Arc;
 
-/// A causal context: the set of the dots that a replica has heard of. Contracts see it as a finite set.
+/// A causal context: the set of dots that a replica has received. Contracts treat it as a finite set.
 ///
-/// Dots may come in any order, so a context need not be a version vector. It may have the fourth dot of an origin and
-/// lack the third.
+/// Dots can arrive in any order, so a context need not be a version vector: it can contain the fourth dot of an origin
+/// without the third.
 ///
-/// Copies share their rows, so a copy costs as much as a pointer. Up to 128 rows stand in one list: if no other context has
-/// it, it changes in place, and otherwise a change copies it first. More rows stand in parts that contexts share, and a change
-/// copies one of them.
+/// Copies share memory, so a copy only increments a reference count. The rows form one list, which a change first
+/// copies if another context shares it. A union of more than 128 rows stores them in shared parts, so that a change
+/// copies only one part, and splits it in two if it has more than 128 rows.
 pub struct Context {
     alloc: Global,
     kept: Kept,
 }
 
-/// How a set is kept.
+/// The representation of a set.
 #[derive(Drop)]
 enum Kept {
-    /// There are no dots.
+    /// No dots.
     Nothing,
-    /// A single part.
+    /// All rows in one list.
     One(Arc<OriginRows, Global>),
-    /// Parts of many rows.
+    /// Rows in shared parts.
     Many(Arc<Parts, Global>),
 }
 
-/// Written out: a drop is one call for a proof, wherever it stands.
+/// Explicit, so that a proof treats each drop as one call.
 impl Drop for Context {
     fn drop(self) {
         let Context {
@@ -65,7 +65,7 @@ impl Model for Context {
 }
 
 impl Context {
-    /// The set of no dots. It takes no memory.
+    /// The empty set.
     pub fn empty(alloc: Global) -> Self
         ensures { result ≡ set.empty }
     {
@@ -89,8 +89,7 @@ impl Context {
         Context::of_parts(alloc, Parts::of_part(alloc, &part)?)
     }
 
-    /// An equal set. It shares memory with this one, which never changes while both are there. [`NoMemory`] is the
-    /// only error.
+    /// An equal set, which shares memory with this one until either changes.
     pub fn copy(&self) -> Result<Self, NoMemory>
         ensures { IfOk result (λ copied. copied ≡ self.now) }
     {
@@ -105,7 +104,7 @@ impl Context {
         })
     }
 
-    /// Whether the set has this dot.
+    /// Whether the set contains the dot.
     pub fn contains(&self, dot: Dot) -> bool
         ensures { result ≡ set.contains self.now dot }
     {
@@ -116,8 +115,7 @@ impl Context {
         }
     }
 
-    /// Puts a dot into the set. One that is there already changes nothing and takes no memory. After
-    /// [`NoMemory`], the only error, the set is as before.
+    /// Inserts a dot. A dot that is in the set changes nothing and allocates nothing.
     pub fn insert(&mut self, dot: Dot) -> Result<(), NoMemory>
         ensures ok { OnOk result (self.new ≡ set.insert self.old dot) }
         ensures err { OnErr result (self.new ≡ self.old) }
@@ -134,7 +132,7 @@ impl Context {
         Ok(())
     }
 
-    /// The set of the dots that this set or the other has. [`NoMemory`] is the only error.
+    /// The union of both sets.
     pub fn union(&self, other: &Self) -> Result<Self, NoMemory>
         ensures { IfOk result (λ both. both ≡ set.union self.now other.now) }
     {
@@ -145,7 +143,7 @@ impl Context {
         }
     }
 
-    /// The set of the dots that this set, which are these, or the other has.
+    /// The union; `mine` is the representation of this set.
     fn union_one(&self, mine: &OriginRows, other: &Self) -> Result<Self, NoMemory>
         requires { mine.now ≡ self.now }
         ensures { IfOk result (λ both. both ≡ set.union self.now other.now) }
@@ -155,12 +153,12 @@ impl Context {
             Kept::One(theirs) => Context::of(self.alloc, mine.union(theirs)?),
             Kept::Many(theirs) => {
                 let both = theirs.copy()?;
-                Context::of_parts(self.alloc, both.and_all(mine)?)
+                Context::of_parts(self.alloc, both.union_rows(mine)?)
             }
         }
     }
 
-    /// The set of the dots that this set, which are these, or the other has.
+    /// The union; `mine` is the representation of this set.
     fn union_many(&self, mine: &Parts, other: &Self) -> Result<Self, NoMemory>
         requires { mine.now ≡ self.now }
         ensures { IfOk result (λ both. both ≡ set.union self.now other.now) }
@@ -169,7 +167,7 @@ impl Context {
             Kept::Nothing => self.copy(),
             Kept::One(theirs) => {
                 let both = mine.copy()?;
-                Context::of_parts(self.alloc, both.and_all(theirs)?)
+                Context::of_parts(self.alloc, both.union_rows(theirs)?)
             }
             Kept::Many(theirs) => Context::of_parts(self.alloc, mine.union(theirs)?),
         }
@@ -186,7 +184,7 @@ impl Context {
         })
     }
 
-    /// Whether the other set has each dot of this one.
+    /// Whether this set is a subset of the other one.
     pub fn is_subset(&self, other: &Self) -> bool
         ensures { IsTrue result ↔ IsSubset self.now other.now }
     {
@@ -197,7 +195,7 @@ impl Context {
         }
     }
 
-    /// Whether the set has each dot of these rows.
+    /// Whether the set contains each dot of these rows.
     fn has_rows(&self, rows: &OriginRows) -> bool
         ensures { IsTrue result ↔ IsSubset rows.now self.now }
     {
@@ -208,7 +206,7 @@ impl Context {
         }
     }
 
-    /// Whether the set has each dot of these parts.
+    /// Whether the set contains each dot of these parts.
     fn has_parts(&self, parts: &Parts) -> bool
         ensures { IsTrue result ↔ IsSubset parts.now self.now }
     {
@@ -219,8 +217,8 @@ impl Context {
         }
     }
 
-    /// The dot for the next operation of an origin: one above its greatest counter here, and 1 where there
-    /// is none. `None` where a counter has reached 2^62, the greatest that is issued.
+    /// The dot of the origin's next operation: one above its greatest counter in the set, or 1 if it has none. `None`
+    /// if that counter has reached 2^62, the greatest that is issued.
     pub fn next(&self, origin: Origin) -> Option<Dot>
         ensures { MatchOption result (IsUsedUp self.now origin) (IsNext self.now origin) }
     {
@@ -231,7 +229,7 @@ impl Context {
         }
     }
 
-    /// Whether the set is a version vector: the counters of each origin are 1 to some number, with no gap.
+    /// Whether the set is a version vector: the counters of each origin are 1 to some number, without gaps.
     pub fn is_vector(&self) -> bool
         ensures { IsTrue result ↔ IsVector self.now }
     {
@@ -242,7 +240,7 @@ impl Context {
         }
     }
 
-    /// How many dots the set has.
+    /// The number of dots.
     pub fn len(&self) -> u128
         ensures { result ≡ set.len self.now }
     {
@@ -253,7 +251,7 @@ impl Context {
         }
     }
 
-    /// Whether the set has at most so many dots. It looks at no more origins than that.
+    /// Whether the set has at most `most` dots. Its time grows with `most`, not with the number of origins.
     pub fn has_at_most(&self, most: usize) -> bool
         ensures { IsTrue result ↔ (set.len self.now ≤ most) }
     {
@@ -275,7 +273,7 @@ impl Context {
         }
     }
 
-    /// The dots in rising order, each once. [`NoMemory`] is the only error.
+    /// The dots in ascending order, each once.
     pub fn dots(&self) -> Result<Vec<Dot>, NoMemory>
         ensures value { IfOk result (λ dots. dots.items ≡ in_order self.now) }
         ensures rising { IfOk result (λ dots. IsRising dot_cmp dots.items) }
@@ -288,7 +286,7 @@ impl Context {
         }
     }
 
-    /// How many origins have dots.
+    /// The number of origins with dots.
     pub fn rows(&self) -> usize
         ensures { result ≡ length (rows_of self.now) }
     {
@@ -299,15 +297,15 @@ impl Context {
         }
     }
 
-    /// The row of the `i`-th origin that has dots, by the order of origins. It is the origin, how far its counters go
-    /// 1, 2, 3, .. without a gap, and the further ones. It takes no memory.
+    /// The `i`-th origin that has dots, in the order of origins: the origin, the last counter before its first gap, and
+    /// its further counters.
     pub fn row(&self, i: usize) -> Option<(Origin, u64, Further<'_>)>
         ensures value { MatchOption result (length (rows_of self.now) ≤ i)
             (λ row. slice_get (rows_of self.now) i
             ≡ Some (record { origin = row.0; upto = row.1; further = row.2 })) }
-        // There are fewer than there are numbers of places.
+        // Each index fits a `usize`.
         ensures few { length (rows_of self.now) < 2 ^ 63 }
-        // What these rows are.
+        // The rows describe the set exactly.
         ensures rows { AreRowsOf self.now (rows_of self.now) }
     {
         match &self.kept {
@@ -317,9 +315,9 @@ impl Context {
         }
     }
 
-    /// Appends the dots of an origin above all that have dots: the counters 1 to `upto`, and further ones,
-    /// which rise from above `upto + 1`. There has to be one at least. Where it isn't so the answer is false,
-    /// and nothing changes; nor does it after [`NoMemory`], the only error.
+    /// Appends the dots of an origin above all origins in the set: the counters 1 to `upto`, and further ones, which
+    /// ascend from above `upto + 1`. Returns false, and changes nothing, unless these conditions hold and there is at
+    /// least one dot.
     pub fn push_row(&mut self, origin: Origin, upto: u64, further: &[u64]) -> Result<bool, NoMemory>
         ensures answer { IfOk result (λ pushed. IsTrue pushed
             ↔ CanFollow (rows_of self.old)
@@ -354,7 +352,7 @@ impl Context {
         }
     }
 
-    /// Whether these dots of an origin can be appended.
+    /// Whether `push_row` accepts these dots of an origin.
     fn can_follow(&self, origin: Origin, upto: u64, further: &[u64]) -> bool
         ensures { IsTrue result
             ↔ CanFollow (rows_of self.now)
@@ -377,7 +375,7 @@ fn first_row(alloc: Global, dot: Dot) -> Result<Arc<OriginRows, Global>, NoMemor
     Ok(shared)
 }
 
-/// These parts with a dot more.
+/// These parts with a dot inserted.
 fn with_dot(alloc: Global, parts: &Parts, dot: Dot) -> Result<Arc<Parts, Global>, NoMemory>
     ensures { IfOk result (λ more. arc_value more ≡ set.insert parts.now dot) }
 {

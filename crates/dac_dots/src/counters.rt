@@ -1,4 +1,4 @@
-//! Sets of counters, kept as spans of counters that follow one another.
+//! Sets of counters, stored as spans of consecutive counters.
 ghost use Rattle.std.specs.Prelude.{◌≡◌, ◌↔◌, ◌^◌, ◌<◌, ◌≤◌, ◌||◌, ◌&&◌, ◌∷◌, [], false, true, length, nat_le, IfOk, IsTrue, OnErr, OnOk};
 ghost use Rattle.std.specs.Ordering.{eq_by_cmp, nat_cmp};
 ghost use Rattle.dac_origins.specs.Dots.{dot, dot_cmp, origin_cmp};
@@ -6,7 +6,7 @@ ghost use Rattle.dac_origins.specs.Keys.{IsRising, has_key};
 ghost use Rattle.dac_origins.specs.declared.dot.Dot.{Dot};
 ghost use Rattle.dac_dots.specs.DotFilters.{may_have};
 ghost use Rattle.dac_dots.specs.Rows.{IsGreatest, further_of, reach_of};
-ghost use Rattle.dac_dots.specs.Spans.{AreSpans, HaveEnded, any_past, any_span, are_apart, counters_in, past, span_has};
+ghost use Rattle.dac_dots.specs.Spans.{AreSpans, HaveEnded, any_above, any_span, are_apart, counters_in, past, span_has};
 ghost use Rattle.std.specs.List.{slice_get};
 
 use crate::filter::DotFilter;
@@ -17,10 +17,10 @@ use dac_origins::{Dot, Origin};
 use std::alloc::Global;
 use std::marker::Model;
 
-/// How many spans of another set are put in one by one. Where there are more, both sets are gone through.
+/// Up to this many spans of another set are inserted one by one; more are merged in one pass over both sets.
 const FEW: usize = 8;
 
-/// Puts the counters of a span into a list that rises.
+/// Inserts the counters of a span into a sorted list.
 fn list_span(counters: &mut Vec<u64>, span: Span) -> Result<(), NoMemory>
     requires valid { span.first ≤ span.last }
     requires rising { IsRising nat_cmp counters.old.items }
@@ -36,14 +36,14 @@ fn list_span(counters: &mut Vec<u64>, span: Span) -> Result<(), NoMemory>
     Ok(())
 }
 
-/// Puts the counters of those spans that begin above `upto` into a list that rises.
-fn list_past(counters: &mut Vec<u64>, upto: u64, spans: &[Span]) -> Result<(), NoMemory>
+/// Inserts the counters of the spans that begin above `upto` into a sorted list.
+fn list_above(counters: &mut Vec<u64>, upto: u64, spans: &[Span]) -> Result<(), NoMemory>
     requires valid { AreSpans spans.now }
     requires rising { IsRising nat_cmp counters.old.items }
     ensures rising { IsRising nat_cmp counters.new.items }
     ensures ok { OnOk result ((n : _)
         → has_key nat_cmp counters.new.items n
-        ≡ (any_past upto spans.now n || has_key nat_cmp counters.old.items n)) }
+        ≡ (any_above upto spans.now n || has_key nat_cmp counters.old.items n)) }
 {
     for span in spans {
         if upto < span.first {
@@ -53,8 +53,8 @@ fn list_past(counters: &mut Vec<u64>, upto: u64, spans: &[Span]) -> Result<(), N
     Ok(())
 }
 
-/// The counter at this place among those of the spans that begin above `low`.
-fn past_at(spans: &[Span], low: u64, place: u128) -> Option<u64>
+/// The counter at index `place` among those of the spans that begin above `low`.
+fn counter_above(spans: &[Span], low: u64, place: u128) -> Option<u64>
     requires { AreSpans spans.now }
     ensures { result ≡ slice_get (past low spans.now) place }
 {
@@ -71,7 +71,7 @@ fn past_at(spans: &[Span], low: u64, place: u128) -> Option<u64>
     None
 }
 
-/// Sets the slot of each dot of an origin whose counter is in a span.
+/// Sets the slot of each dot of the origin whose counter is in the span.
 fn fill_span(origin: Origin, span: Span, filter: &mut DotFilter)
     requires { span.first ≤ span.last }
     ensures own { (n : _) → span_has n span ≡ true → may_have filter.new.slots (dot origin n) ≡ true }
@@ -86,7 +86,7 @@ fn fill_span(origin: Origin, span: Span, filter: &mut DotFilter)
     });
 }
 
-/// Puts the dots of an origin whose counters are in a span into a list of dots that rise.
+/// Inserts the origin's dots with counters in the span into a sorted list.
 fn put_span_dots(origin: Origin, span: Span, dots: &mut Vec<Dot>) -> Result<(), NoMemory>
     requires valid { span.first ≤ span.last }
     requires rising { IsRising dot_cmp dots.old.items }
@@ -104,8 +104,8 @@ fn put_span_dots(origin: Origin, span: Span, dots: &mut Vec<Dot>) -> Result<(), 
     Ok(())
 }
 
-/// Puts a dot in its place in a list of dots that rise, unless it is there. Most dots come behind all of the
-/// list, so its end is looked at first.
+/// Inserts a dot into a sorted list, unless it is there. Compares with the last dot first, because most dots are
+/// appended.
 fn put_dot(dots: &mut Vec<Dot>, dot: Dot) -> Result<(), NoMemory>
     requires { IsRising dot_cmp dots.old.items }
     ensures rising { IsRising dot_cmp dots.new.items }
@@ -120,8 +120,8 @@ fn put_dot(dots: &mut Vec<Dot>, dot: Dot) -> Result<(), NoMemory>
     Ok(())
 }
 
-/// How many of the spans end before a counter. A set without a gap is one span, so the first is looked at first.
-fn ended_before(spans: &[Span], n: u64) -> usize
+/// The number of spans that end before a counter. Tries the first span first, because a set without gaps is one span.
+fn spans_before(spans: &[Span], n: u64) -> usize
     requires { are_apart 0 spans.now ≡ true }
     ensures { HaveEnded spans.now result n }
 {
@@ -131,14 +131,14 @@ fn ended_before(spans: &[Span], n: u64) -> usize
     }
 }
 
-/// A set of counters. It costs by gaps and not by counters: each span is as long as it can be.
+/// A set of counters. Its cost depends on gaps and not on counters, because each span is maximal.
 #[derive(Debug)]
 pub(crate) struct Counters {
     alloc: Global,
     spans: Spans,
 }
 
-/// Written out: a drop is one call for a proof, wherever it stands.
+/// Explicit, so that a proof treats each drop as one call.
 impl Drop for Counters {
     fn drop(self) {
         let Counters {
@@ -153,7 +153,7 @@ impl Model for Counters {
     ghost use Rattle.std.specs.Coded.{coded_ℕ, coded_list};
     ghost use Rattle.dac_dots.specs.Spans.{are_apart, counters_in, spans_of};
 
-    // The counters in rising order.
+    // The counters in ascending order.
     ghost Value = { List ℕ };
 
     ghost coded = { coded_list coded_ℕ };
@@ -164,7 +164,7 @@ impl Model for Counters {
 }
 
 impl Counters {
-    /// The set of no counters. It takes no memory.
+    /// The empty set.
     pub(crate) fn empty(alloc: Global) -> Self
         ensures { result ≡ [] }
     {
@@ -174,7 +174,7 @@ impl Counters {
         }
     }
 
-    /// The set of one counter. It takes no memory.
+    /// The set of one counter.
     pub(crate) fn one(alloc: Global, n: u64) -> Self
         ensures { result ≡ n ∷ [] }
     {
@@ -184,7 +184,7 @@ impl Counters {
         }
     }
 
-    /// The spans in rising order.
+    /// The spans in ascending order.
     fn spans(&self) -> &[Span]
         ensures value { counters_in result.now ≡ self.now }
         ensures apart { are_apart 0 result.now ≡ true }
@@ -192,7 +192,7 @@ impl Counters {
         self.spans.as_slice()
     }
 
-    /// An equal set. Without a gap it takes no memory, and otherwise it has room for one span more.
+    /// An equal set. With a gap it reserves room for one more span; without one it allocates nothing.
     pub(crate) fn copy(&self, alloc: Global) -> Result<Self, NoMemory>
         ensures { IfOk result (λ copied. copied ≡ self.now) }
     {
@@ -200,34 +200,34 @@ impl Counters {
         Ok(Counters { alloc, spans })
     }
 
-    /// Whether there are no counters.
+    /// Whether the set is empty.
     pub(crate) fn is_empty(&self) -> bool
         ensures { IsTrue result ↔ (self.now ≡ []) }
     {
         self.spans().is_empty()
     }
 
-    /// Whether the set has each counter of a span.
+    /// Whether the set contains each counter of a span.
     fn has_span(&self, span: Span) -> bool
         requires { span.first ≤ span.last }
         ensures { IsTrue result
             ↔ ((n : _) → span_has n span ≡ true → has_key nat_cmp self.now n ≡ true) }
     {
         let spans = self.spans();
-        match spans.get(ended_before(spans, span.first)) {
+        match spans.get(spans_before(spans, span.first)) {
             Some(found) => found.first <= span.first && span.last <= found.last,
             None => false,
         }
     }
 
-    /// Whether the set has a counter.
+    /// Whether the set contains a counter.
     pub(crate) fn contains(&self, n: u64) -> bool
         ensures { result ≡ has_key nat_cmp self.now n }
     {
         self.has_span(Span { first: n, last: n })
     }
 
-    /// Puts the counters of a span into the set. Where all are there it takes no memory.
+    /// Inserts the counters of a span. Allocates nothing if all are there.
     fn put(&mut self, span: Span) -> Result<(), NoMemory>
         requires { span.first ≤ span.last }
         ensures rising { IsRising nat_cmp self.new }
@@ -240,7 +240,7 @@ impl Counters {
         self.spans.put(self.alloc, span)
     }
 
-    /// Puts a counter into the set. One that is there takes no memory.
+    /// Inserts a counter. Allocates nothing if it is there.
     pub(crate) fn insert(&mut self, n: u64) -> Result<(), NoMemory>
         ensures rising { IsRising nat_cmp self.new }
         ensures ok { OnOk result ((m : _)
@@ -251,7 +251,7 @@ impl Counters {
         self.put(Span { first: n, last: n })
     }
 
-    /// Puts the counters 1 to `upto` into the set.
+    /// Inserts the counters 1 to `upto`.
     pub(crate) fn insert_upto(&mut self, upto: u64) -> Result<(), NoMemory>
         ensures rising { IsRising nat_cmp self.old → IsRising nat_cmp self.new }
         ensures ok { OnOk result ((n : _)
@@ -267,8 +267,7 @@ impl Counters {
         Ok(())
     }
 
-    /// Puts the counters of these spans into the set. [`NoMemory`] is the only error, and may leave some of
-    /// them there.
+    /// Inserts the counters of these spans. After [`NoMemory`] the set can contain some of them.
     fn put_all(&mut self, spans: &[Span]) -> Result<(), NoMemory>
         requires { AreSpans spans.now }
         ensures rising { IsRising nat_cmp self.old → IsRising nat_cmp self.new }
@@ -283,13 +282,12 @@ impl Counters {
         Ok(())
     }
 
-    /// Whether so few spans are best put in one by one.
+    /// Whether there are so few spans that `absorb` is faster than `union`.
     pub(crate) fn are_few(&self) -> bool {
         self.spans().len() <= FEW
     }
 
-    /// Puts the counters of the other set into this one. [`NoMemory`] is the only error, and may leave some
-    /// of them there.
+    /// Inserts the counters of the other set. After [`NoMemory`] this set can contain some of them.
     pub(crate) fn absorb(&mut self, other: &Self) -> Result<(), NoMemory>
         ensures rising { IsRising nat_cmp self.old → IsRising nat_cmp self.new }
         ensures ok { OnOk result ((n : _)
@@ -301,7 +299,7 @@ impl Counters {
         self.put_all(other.spans())
     }
 
-    /// The counters of both sets.
+    /// The union of both sets.
     pub(crate) fn union(&self, alloc: Global, other: &Self) -> Result<Self, NoMemory>
         ensures { IfOk result (λ both. IsRising nat_cmp both
             × ((n : _)
@@ -311,7 +309,7 @@ impl Counters {
         merge_spans(alloc, self.spans(), other.spans())
     }
 
-    /// Whether the other set has each counter of this one.
+    /// Whether this set is a subset of the other one.
     pub(crate) fn is_subset(&self, other: &Self) -> bool
         ensures { IsTrue result
             ↔ ((n : _) → has_key nat_cmp self.now n ≡ true → has_key nat_cmp other.now n ≡ true) }
@@ -324,7 +322,7 @@ impl Counters {
         true
     }
 
-    /// The greatest counter, and 0 where there is none.
+    /// The greatest counter, or 0 if there is none.
     pub(crate) fn last(&self) -> u64
         ensures { IsGreatest self.now result }
     {
@@ -334,7 +332,7 @@ impl Counters {
         }
     }
 
-    /// How far the counters go 1, 2, 3, .. without a gap.
+    /// The last counter before the first gap, or 0 if the set lacks 1.
     pub(crate) fn upto(&self) -> u64
         ensures { result ≡ reach_of self.now }
     {
@@ -344,7 +342,7 @@ impl Counters {
         }
     }
 
-    /// How many counters there are.
+    /// The number of counters.
     pub(crate) fn len(&self) -> u128
         ensures value { result ≡ length self.now }
         ensures bound { result < 2 ^ 65 }
@@ -356,7 +354,7 @@ impl Counters {
         len
     }
 
-    /// The counters that aren't 1 to `upto`, in rising order.
+    /// The counters outside 1 to `upto`, in ascending order.
     pub(crate) fn further(&self, alloc: Global) -> Result<Vec<u64>, NoMemory>
         ensures { IfOk result (λ further. further.items ≡ further_of (reach_of self.now) self.now) }
     {
@@ -364,11 +362,11 @@ impl Counters {
         if self.contains(0) {
             insert_key(&mut further, 0)?;
         }
-        list_past(&mut further, self.upto(), self.spans())?;
+        list_above(&mut further, self.upto(), self.spans())?;
         Ok(further)
     }
 
-    /// The counter at this place, from 0, among those that aren't 1 to `upto`, in rising order. It takes no memory.
+    /// The counter at index `place` among those outside 1 to `upto`, in ascending order.
     pub(crate) fn further_at(&self, place: u128) -> Option<u64>
         ensures { result ≡ slice_get (further_of (reach_of self.now) self.now) place }
     {
@@ -380,10 +378,10 @@ impl Counters {
             }
             left -= 1;
         }
-        past_at(spans, self.upto(), left)
+        counter_above(spans, self.upto(), left)
     }
 
-    /// Sets the slot of each dot of an origin whose counter is in the set.
+    /// Sets the slot of each dot of the origin whose counter is in the set.
     pub(crate) fn fill(&self, origin: Origin, filter: &mut DotFilter)
         ensures own { (n : _) → has_key nat_cmp self.now n ≡ true
             → may_have filter.new.slots (dot origin n) ≡ true }
@@ -395,7 +393,7 @@ impl Counters {
         }
     }
 
-    /// Puts the dots of an origin whose counters are in the set into a list of dots that rise.
+    /// Inserts the origin's dots with counters in the set into a sorted list.
     pub(crate) fn put_dots(&self, origin: Origin, dots: &mut Vec<Dot>) -> Result<(), NoMemory>
         requires { IsRising dot_cmp dots.old.items }
         ensures rising { IsRising dot_cmp dots.new.items }
@@ -411,8 +409,7 @@ impl Counters {
     }
 }
 
-/// The counters of both lists of spans. Where both rise they are gone through in order, so that each span is
-/// put at the end.
+/// The union of two lists of spans. If both are sorted, the merge keeps their order, so that each span is appended.
 fn merge_spans(alloc: Global, xs: &[Span], ys: &[Span]) -> Result<Counters, NoMemory>
     requires first { AreSpans xs.now }
     requires second { AreSpans ys.now }

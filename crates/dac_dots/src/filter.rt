@@ -1,21 +1,21 @@
-//! A filter that tells of most dots at once that they aren't among some.
+//! A filter that proves most dots absent from a set without searching it.
 ghost use Rattle.std.specs.Prelude.{◌≡◌, ◌<◌, false, true};
 ghost use Rattle.dac_origins.specs.declared.dot.Dot.{Dot};
 ghost use Rattle.dac_dots.specs.DotFilters.{AreApart, may_have, slot_of};
 
 use dac_origins::Dot;
 
-/// How many words of slots there are.
+/// The number of words of slots.
 const WORDS: usize = 16;
 
-/// A filter of dots, as a Bloom filter with one hash and 1,024 slots: 128 by counter for each of 8 nodes. Many dots have
-/// one slot: one that is set tells nothing of a dot, and one that isn't tells that none of its dots was put.
+/// A Bloom filter of dots with one hash and 1,024 slots: 128 by counter for each of 8 nodes. Dots share slots, so an
+/// unset slot proves its dots absent, but a set one proves nothing.
 #[derive(Clone, Copy, Debug)]
 pub struct DotFilter {
     pub(crate) slots: [u64; WORDS],
 }
 
-/// Which slot a dot has.
+/// The slot of a dot.
 fn slot_of(dot: Dot) -> u64
     ensures value { result ≡ slot_of dot }
     ensures bound { result < 1024 }
@@ -24,12 +24,12 @@ fn slot_of(dot: Dot) -> u64
 }
 
 impl DotFilter {
-    /// No slot is set.
+    /// The empty filter: no slot is set.
     pub fn none() -> Self {
         DotFilter { slots: [0; WORDS] }
     }
 
-    /// Each slot is set: it tells nothing of any dot.
+    /// The full filter: each slot is set, so it excludes no dot.
     pub fn all() -> Self
         ensures { (q : Dot) → may_have result.slots q ≡ true }
     {
@@ -58,7 +58,7 @@ impl DotFilter {
         self.slots[word] >> (slot % 64) & 1 == 1
     }
 
-    /// Whether some slot is set in both. It looks at each word, so that a processor can take several at once.
+    /// Whether a slot is set in both. Examines each word, so that a processor can take several at once.
     pub fn meets(&self, other: &Self) -> bool
         ensures { result ≡ false → AreApart self.now.slots other.now.slots }
     {

@@ -1,4 +1,4 @@
-//! Contexts that are asked about many dots.
+//! Contexts with a filter, for many membership tests.
 ghost use Rattle.std.specs.Prelude.{◌≡◌};
 ghost use Rattle.std.specs.FinSet as set;
 ghost use Rattle.dac_dots.specs.DotFilters.{MayHaveAll};
@@ -8,14 +8,14 @@ use crate::filter::DotFilter;
 use dac_origins::Dot;
 use std::marker::Model;
 
-/// The most dots that are put one by one. So many in a row of one origin set each slot that dots of its node have.
-const MOST_FILTERED: usize = 128;
+/// The greatest number of dots that are put one by one; this many consecutive dots of one origin set every slot of
+/// their node.
+const MAX_FILTERED_DOTS: usize = 128;
 
-/// How many dots a context is asked about at least, where its own are put one by one.
-const LEAST_ASKED: usize = 3;
+/// The least number of expected tests for which filling a filter pays.
+const MIN_TESTS: usize = 3;
 
-/// A context that is asked about many dots. Of a dot whose slot no dot of the context has, the answer comes at once.
-/// Contracts see it as the context.
+/// A context with a filter that makes most negative tests cheap. Contracts treat it as the context.
 #[derive(Drop)]
 pub struct FilteredContext<'a> {
     context: &'a Context,
@@ -37,8 +37,7 @@ impl<'a> Model for FilteredContext<'a> {
 }
 
 impl<'a> FilteredContext<'a> {
-    /// This context, for questions about some `asked` dots. Their number changes how soon the answers come, and none of
-    /// them. It takes no memory.
+    /// This context, for about `asked` membership tests. The number affects only the time of the tests.
     pub fn of(context: &'a Context, asked: usize) -> Self
         ensures { result ≡ context.now }
     {
@@ -46,21 +45,21 @@ impl<'a> FilteredContext<'a> {
         FilteredContext { context, filter }
     }
 
-    /// The context.
+    /// The context without its filter.
     pub fn context(&self) -> &Context
         ensures { result.now ≡ self.now }
     {
         self.context
     }
 
-    /// A filter that has all dots of the context, and maybe others.
+    /// A filter that contains all dots of the context, and maybe others.
     pub fn filter(&self) -> &DotFilter
         ensures { MayHaveAll result.now.slots self.now }
     {
         &self.filter
     }
 
-    /// Whether the set has this dot.
+    /// Whether the context contains the dot.
     pub fn contains(&self, dot: Dot) -> bool
         ensures { result ≡ set.contains self.now dot }
     {
@@ -68,11 +67,11 @@ impl<'a> FilteredContext<'a> {
     }
 }
 
-/// A filter with all dots of a context, which is asked about some `asked` dots.
+/// A filter that contains all dots of a context, for about `asked` membership tests.
 fn filter_of(context: &Context, asked: usize) -> DotFilter
     ensures { MayHaveAll result.slots context.now }
 {
-    if asked < LEAST_ASKED || !context.has_at_most(MOST_FILTERED) {
+    if asked < MIN_TESTS || !context.has_at_most(MAX_FILTERED_DOTS) {
         return DotFilter::all();
     }
     let mut filter = DotFilter::none();

@@ -1,12 +1,15 @@
-//! Causal contexts: the sets of dots that a replica has heard of.
+//! Causal contexts: the sets of dots that a replica has received.
 //!
-//! The sets are after the causal contexts of delta-state replicated data types. Contracts see a context as a finite set
-//! of dots and nothing of how it is kept. So this crate promises the sets' own laws. They say what a set contains,
-//! that equal sets are equal values, and which dot of an origin comes next.
+//! These are the causal contexts of delta-state CRDTs. Contracts treat a context as a finite set of dots and say
+//! nothing about its representation. They promise the laws of sets: the members, equality of sets with the same
+//! members, and the next dot of an origin.
 //!
-//! A context is kept by origin, as spans of counters that follow one another. So calls cost by the number of
-//! origins and of gaps, and not by that of dots. Only the list of all dots, and that of the further counters
-//! of a row, cost by what they list. Copies share what is kept, so a copy costs as much as a pointer.
+//! A context is stored by origin, as spans of consecutive counters, so that the time of calls depends on the number of
+//! origins and gaps and not on that of dots. Only listing all dots, or the further counters of a row, takes time for
+//! each one. Copies share memory, so a copy only increments a reference count.
+//!
+//! Public functions that don't return `Result<_, NoMemory>` allocate nothing. One that fails, only ever with
+//! [`NoMemory`], leaves its borrowed arguments unchanged.
 #![tactic(auto)]
 
 pub use context::Context;

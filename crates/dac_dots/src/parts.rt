@@ -1,4 +1,4 @@
-//! The rows of a set of dots of many origins, in parts that sets share.
+//! The rows of a set of dots of many origins, in shared parts.
 ghost use Rattle.std.specs.Prelude.{◌≡◌, ◌↔◌, ◌≤◌, ◌<◌, ◌^◌, ◌||◌, ◌++◌, Some, slice_get, IsTrue, IfOk, IfSome, OnOk, OnErr, MatchOption, length};
 ghost use Rattle.std.specs.FinSet as set;
 ghost use Rattle.std.specs.Arc.{arc_value};
@@ -7,7 +7,7 @@ ghost use Rattle.dac_origins.specs.declared.dot.Dot.{Dot};
 ghost use Rattle.dac_dots.specs.Rows.{CanFollow, EndBefore, HasSome, IsKept, IsRowIn, dots_in, row_has, rows_of};
 ghost use Rattle.dac_dots.specs.Parts.{AreParts, HaveRows, IsPartFor, IsPlaceIn, all_rows};
 
-use crate::row::{Further, OriginRow, has_no_dots, rises_from};
+use crate::row::{Further, OriginRow, ascends_from, has_no_dots};
 use crate::rows::OriginRows;
 use dac_base::NoMemory;
 use dac_origins::{Dot, Origin};
@@ -15,21 +15,21 @@ use std::alloc::Global;
 use std::marker::Model;
 use std::sync::Arc;
 
-/// How many rows a part has at most, where a row is put in. Of more, two parts are made.
+/// A changed part with more rows than this is split in two.
 pub(crate) const MOST: usize = 128;
 
-/// Parts have fewer rows than this, so that each has a place.
-const MOST_ROWS: usize = 1 << 63;
+/// The rows of all parts are fewer than this, so that each has an index.
+const MAX_ROWS: usize = 1 << 63;
 
-/// The rows of a set of dots, in parts that sets share. Each part has rows, whose origins are above those of the parts
-/// before it. Contracts see the parts as the set.
+/// The rows of a set of dots, in parts that sets share. No part is empty, and each part's origins are above those of
+/// the part before it. Contracts treat the parts as the set.
 pub(crate) struct Parts {
     parts: Vec<Arc<OriginRows, Global>>,
-    // How many rows there are.
+    // The number of rows.
     count: usize,
 }
 
-/// Written out: a drop is one call for a proof, wherever it stands.
+/// Explicit, so that a proof treats each drop as one call.
 impl Drop for Parts {
     fn drop(self) {
         let Parts {
@@ -54,7 +54,7 @@ impl Model for Parts {
     ghost invariant = { λ a. AreCounted a.parts.items a.count };
 }
 
-/// Where the part is among whose rows that of an origin is, or would be.
+/// The index of the part that contains the origin's row, or would contain it.
 fn part_for(parts: &[Arc<OriginRows, Global>], origin: Origin) -> usize
     requires { AreParts parts.now }
     ensures { IsPartFor parts.now origin result }
@@ -63,7 +63,7 @@ fn part_for(parts: &[Arc<OriginRows, Global>], origin: Origin) -> usize
 }
 
 impl Parts {
-    /// Whether the set has this dot.
+    /// Whether the set contains the dot.
     pub(crate) fn contains(&self, dot: Dot) -> bool
         ensures { result ≡ set.contains self.now dot }
     {
@@ -73,8 +73,8 @@ impl Parts {
         }
     }
 
-    /// The dot for the next operation of an origin: one above its greatest counter here, and 1 where there
-    /// is none. `None` where a counter has reached 2^62, the greatest that is issued.
+    /// The dot of the origin's next operation: one above its greatest counter in the set, or 1 if it has none. `None`
+    /// if that counter has reached 2^62, the greatest that is issued.
     pub(crate) fn next(&self, origin: Origin) -> Option<Dot>
         ensures { MatchOption result (IsUsedUp self.now origin) (IsNext self.now origin) }
     {
@@ -84,7 +84,7 @@ impl Parts {
         }
     }
 
-    /// Whether the set has each dot of a row.
+    /// Whether the set contains each dot of a row.
     fn has_row(&self, row: &OriginRow) -> bool
         ensures { IsTrue result ↔ IsRowIn row.now self.now }
     {
@@ -94,7 +94,7 @@ impl Parts {
         }
     }
 
-    /// Whether the set has each dot of these rows.
+    /// Whether the set contains each dot of these rows.
     pub(crate) fn has_all(&self, rows: &OriginRows) -> bool
         ensures { IsTrue result ↔ IsSubset rows.now self.now }
     {
@@ -106,7 +106,7 @@ impl Parts {
         true
     }
 
-    /// Whether these rows have each dot of the set.
+    /// Whether these rows contain each dot of the set.
     pub(crate) fn is_within(&self, rows: &OriginRows) -> bool
         ensures { IsTrue result ↔ IsSubset self.now rows.now }
     {
@@ -118,7 +118,7 @@ impl Parts {
         true
     }
 
-    /// Whether the other set has each dot of this one.
+    /// Whether this set is a subset of the other one.
     pub(crate) fn is_subset(&self, other: &Self) -> bool
         ensures { IsTrue result ↔ IsSubset self.now other.now }
     {
@@ -130,7 +130,7 @@ impl Parts {
         true
     }
 
-    /// Whether the set is a version vector: the counters of each origin are 1 to some number, with no gap.
+    /// Whether the set is a version vector: the counters of each origin are 1 to some number, without gaps.
     pub(crate) fn is_vector(&self) -> bool
         ensures { IsTrue result ↔ IsVector self.now }
     {
@@ -142,7 +142,7 @@ impl Parts {
         true
     }
 
-    /// How many dots the set has.
+    /// The number of dots.
     pub(crate) fn len(&self) -> u128
         ensures { result ≡ set.len self.now }
     {
@@ -153,7 +153,7 @@ impl Parts {
         len
     }
 
-    /// Whether the set has at most so many dots. It looks at no more origins than that.
+    /// Whether the set has at most `most` dots. Its time grows with `most`, not with the number of origins.
     pub(crate) fn has_at_most(&self, most: usize) -> bool
         ensures { IsTrue result ↔ (set.len self.now ≤ most) }
     {
@@ -170,20 +170,20 @@ impl Parts {
         true
     }
 
-    /// How many origins have dots.
+    /// The number of origins with dots.
     pub(crate) fn rows(&self) -> usize
         ensures { result ≡ length (rows_of self.now) }
     {
         self.count
     }
 
-    /// The row of the `i`-th origin that has dots, by the order of origins. It is the origin, how far its counters go
-    /// 1, 2, 3, .. without a gap, and the further ones. It takes no memory.
+    /// The `i`-th origin that has dots, in the order of origins: the origin, the last counter before its first gap, and
+    /// its further counters.
     pub(crate) fn row(&self, i: usize) -> Option<(Origin, u64, Further<'_>)>
         ensures value { MatchOption result (length (rows_of self.now) ≤ i)
             (λ row. slice_get (rows_of self.now) i
             ≡ Some (record { origin = row.0; upto = row.1; further = row.2 })) }
-        // There are fewer than there are numbers of places.
+        // Each index fits a `usize`.
         ensures few { length (rows_of self.now) < 2 ^ 63 }
     {
         let mut left = i;
@@ -197,14 +197,14 @@ impl Parts {
         None
     }
 
-    /// Whether the origin is above all that have dots.
+    /// Whether the origin is above all origins in the set.
     pub(crate) fn is_below(&self, origin: Origin) -> bool
         ensures { IsTrue result ↔ EndBefore (rows_of self.now) origin }
     {
         part_for(&self.parts, origin) == self.parts.len()
     }
 
-    /// No dots. It takes no memory.
+    /// The empty set.
     pub(crate) fn empty(alloc: Global) -> Self
         ensures { result ≡ set.empty }
     {
@@ -214,7 +214,7 @@ impl Parts {
         }
     }
 
-    /// The set of the dots of these parts. [`NoMemory`] is the only error.
+    /// The set of the dots of these parts. Fails with [`NoMemory`] if they have 2^63 rows or more.
     fn of(parts: Vec<Arc<OriginRows, Global>>) -> Result<Self, NoMemory>
         requires { AreParts parts.items }
         ensures { IfOk result (λ made. made ≡ dots_in (all_rows parts.items)) }
@@ -225,7 +225,7 @@ impl Parts {
         Ok(Parts { parts, count })
     }
 
-    /// An equal set, which shares the parts. [`NoMemory`] is the only error.
+    /// An equal set, which shares the parts.
     pub(crate) fn copy(&self) -> Result<Self, NoMemory>
         ensures { IfOk result (λ copied. copied ≡ self.now) }
     {
@@ -234,7 +234,7 @@ impl Parts {
         Parts::of(parts)
     }
 
-    /// The set with the dots of a row too. [`NoMemory`] is the only error.
+    /// The set with the dots of a row added.
     pub(crate) fn with_row(&self, row: &OriginRow) -> Result<Self, NoMemory>
         requires kept { IsKept row.now }
         requires some { HasSome row.now }
@@ -255,7 +255,7 @@ impl Parts {
         Parts::of(parts)
     }
 
-    /// The set of the dots of a row. [`NoMemory`] is the only error.
+    /// The set of the dots of a row.
     fn single(alloc: Global, row: &OriginRow) -> Result<Self, NoMemory>
         requires kept { IsKept row.now }
         requires some { HasSome row.now }
@@ -267,7 +267,7 @@ impl Parts {
         Parts::of(parts)
     }
 
-    /// The set of the dots of a part, which shares it. [`NoMemory`] is the only error.
+    /// The set of the dots of a part, which shares it.
     pub(crate) fn of_part(alloc: Global, part: &Arc<OriginRows, Global>) -> Result<Self, NoMemory>
         requires { 0 < length (rows_of (arc_value part.now)) }
         ensures { IfOk result (λ made. made ≡ arc_value part.now) }
@@ -277,8 +277,8 @@ impl Parts {
         Parts::of(parts)
     }
 
-    /// The set with the dots of a row too. Where it has them it stays as it is. [`NoMemory`] is the only error.
-    fn and_row(self, row: &OriginRow) -> Result<Self, NoMemory>
+    /// The set with the dots of a row added, or the set itself if it contains them.
+    fn union_row(self, row: &OriginRow) -> Result<Self, NoMemory>
         requires kept { IsKept row.now }
         requires some { HasSome row.now }
         ensures { IfOk result (λ more. (q : Dot)
@@ -290,29 +290,29 @@ impl Parts {
         self.with_row(row)
     }
 
-    /// The set with the dots of these rows too. [`NoMemory`] is the only error.
-    pub(crate) fn and_all(self, rows: &OriginRows) -> Result<Self, NoMemory>
+    /// The union of the set and these rows.
+    pub(crate) fn union_rows(self, rows: &OriginRows) -> Result<Self, NoMemory>
         ensures { IfOk result (λ both. both ≡ set.union self rows.now) }
     {
         let mut both = self;
         for row in rows.list() {
-            both = both.and_row(row)?;
+            both = both.union_row(row)?;
         }
         Ok(both)
     }
 
-    /// The set of the dots that this set or the other has. [`NoMemory`] is the only error.
+    /// The union of both sets.
     pub(crate) fn union(&self, other: &Self) -> Result<Self, NoMemory>
         ensures { IfOk result (λ both. both ≡ set.union self.now other.now) }
     {
         let mut both = self.copy()?;
         for part in &other.parts {
-            both = both.and_all(part)?;
+            both = both.union_rows(part)?;
         }
         Ok(both)
     }
 
-    /// The set with a dot more. [`NoMemory`] is the only error.
+    /// The set with a dot inserted.
     pub(crate) fn with_dot(&self, alloc: Global, dot: Dot) -> Result<Self, NoMemory>
         ensures { IfOk result (λ more. more ≡ set.insert self.now dot) }
     {
@@ -320,7 +320,7 @@ impl Parts {
         self.with_row(&row)
     }
 
-    /// All rows in one, with memory of their own. [`NoMemory`] is the only error.
+    /// All rows in one list, which shares nothing.
     pub(crate) fn all(&self) -> Result<OriginRows, NoMemory>
         ensures { IfOk result (λ rows. rows ≡ self.now) }
     {
@@ -331,7 +331,7 @@ impl Parts {
         Ok(all)
     }
 
-    /// Whether these dots of an origin can be appended.
+    /// Whether `Context::push_row` accepts these dots of an origin.
     pub(crate) fn can_follow(&self, origin: Origin, upto: u64, further: &[u64]) -> bool
         ensures { IsTrue result
             ↔ CanFollow (rows_of self.now)
@@ -343,11 +343,11 @@ impl Parts {
         if !self.is_below(origin) {
             return false;
         }
-        rises_from(upto, further)
+        ascends_from(upto, further)
     }
 }
 
-/// Where the part is into which a row of an origin comes. It is the last one where all end before the origin.
+/// The index of the part that will contain the row of an origin: the last part, if all end before the origin.
 fn place_in(parts: &[Arc<OriginRows, Global>], origin: Origin) -> usize
     requires { AreParts parts.now }
     ensures { IsPlaceIn parts.now origin result }
@@ -360,7 +360,7 @@ fn place_in(parts: &[Arc<OriginRows, Global>], origin: Origin) -> usize
     }
 }
 
-/// How many rows the parts have, if it is a number of places.
+/// The number of rows of the parts, or `None` if it is 2^63 or more.
 fn count_rows(parts: &[Arc<OriginRows, Global>]) -> Option<usize>
     ensures { IfSome result (λ count. (count ≡ length (all_rows parts.now)) × (count < 2 ^ 63)) }
 {
@@ -369,10 +369,10 @@ fn count_rows(parts: &[Arc<OriginRows, Global>]) -> Option<usize>
         let more = count.checked_add(part.rows())?;
         count = more;
     }
-    if count < MOST_ROWS { Some(count) } else { None }
+    if count < MAX_ROWS { Some(count) } else { None }
 }
 
-/// Puts parts behind others, which share them. [`NoMemory`] is the only error.
+/// Appends parts, sharing them.
 fn share(
     parts: &mut Vec<Arc<OriginRows, Global>>,
     more: &[Arc<OriginRows, Global>],
@@ -386,7 +386,7 @@ fn share(
     Ok(())
 }
 
-/// Puts rows behind others, as one part or as two. [`NoMemory`] is the only error.
+/// Appends rows, as one part, or as two if there are more than [`MOST`].
 fn put(
     alloc: Global,
     parts: &mut Vec<Arc<OriginRows, Global>>,

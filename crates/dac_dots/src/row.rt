@@ -1,4 +1,4 @@
-//! The dots of one origin: how far its counters go without a gap, and the further ones.
+//! The dots of one origin: the last counter before its first gap, and the further counters.
 ghost use Rattle.std.specs.Prelude.{◌≡◌, ◌↔◌, ◌+◌, ◌^◌, ◌<◌, ◌≤◌, ◌||◌, ◌∷◌, [], length, false, true, IfOk, IsTrue, OnErr, OnOk};
 ghost use Rattle.std.specs.List.{slice_get};
 ghost use Rattle.std.specs.Ordering.{nat_cmp};
@@ -16,7 +16,7 @@ use dac_origins::{Dot, Origin};
 use std::alloc::Global;
 use std::marker::Model;
 
-/// The counters of an origin.
+/// The counters of one origin.
 #[derive(Debug, Drop)]
 pub(crate) struct OriginRow {
     pub(crate) origin: Origin,
@@ -37,8 +37,8 @@ impl Model for OriginRow {
     ghost invariant = { λ a. IsRising nat_cmp a.counters };
 }
 
-/// The further counters of an origin: those that aren't 1, 2, 3, .. without a gap, in rising order. It is lent
-/// from a context, and takes no memory. Contracts see it as the list of these counters.
+/// The further counters of an origin: those after the first gap, and 0, in ascending order. Borrowed from a context.
+/// Contracts treat it as the list of these counters.
 #[derive(Debug, Drop)]
 pub struct Further<'a> {
     counters: &'a Counters,
@@ -58,21 +58,22 @@ impl<'a> Model for Further<'a> {
 }
 
 impl<'a> Further<'a> {
-    /// The counters in rising order. [`NoMemory`] is the only error.
+    /// The counters in ascending order.
     pub fn list(&self, alloc: Global) -> Result<Vec<u64>, NoMemory>
         ensures { IfOk result (λ further. further.items ≡ self.now) }
     {
         self.counters.further(alloc)
     }
 
-    /// The counter at this place, from 0. It takes no memory, and goes through the gaps before it.
+    /// The counter at index `place`. The time grows with the number of gaps before it.
     pub fn get(&self, place: usize) -> Option<u64>
         ensures { result ≡ slice_get self.now place }
     {
         self.counters.further_at(place as u128)
     }
 
-    /// The counters in rising order, one by one. It takes no memory, and each step goes through the gaps before its counter.
+    /// Iterates over the counters in ascending order. The time of each step grows with the number of gaps before its
+    /// counter.
     pub fn iter(&self) -> FurtherIter<'a>
         ensures { left_of result ≡ self.now }
     {
@@ -84,7 +85,7 @@ impl<'a> Further<'a> {
         }
     }
 
-    /// How many counters there are.
+    /// The number of counters.
     pub fn len(&self) -> u128
         ensures { result ≡ length self.now }
     {
@@ -99,7 +100,7 @@ impl<'a> Further<'a> {
     }
 }
 
-/// An iterator over the further counters of an origin, in rising order.
+/// An iterator over the further counters of an origin, in ascending order.
 #[derive(Debug, Drop)]
 pub struct FurtherIter<'a> {
     further: Further<'a>,
@@ -127,7 +128,7 @@ impl<'a> Iterator for FurtherIter<'a> {
 }
 
 impl OriginRow {
-    /// The row of one dot. It takes no memory.
+    /// The row of one dot.
     pub(crate) fn one(alloc: Global, dot: Dot) -> Self
         ensures { IsOne dot result }
     {
@@ -137,7 +138,7 @@ impl OriginRow {
         }
     }
 
-    /// The row with the counters 1 to `upto` and these further ones, which rise from above `upto + 1`.
+    /// The row with the counters 1 to `upto` and further ones, which ascend from above `upto + 1`.
     pub(crate) fn of(
         alloc: Global,
         origin: Origin,
@@ -156,7 +157,7 @@ impl OriginRow {
         Ok(OriginRow { origin, counters })
     }
 
-    /// An equal row, with memory of its own where there are gaps.
+    /// An equal row, which shares nothing.
     pub(crate) fn copy(&self, alloc: Global) -> Result<Self, NoMemory>
         ensures { IfOk result (λ copied. copied ≡ self.now) }
     {
@@ -166,14 +167,14 @@ impl OriginRow {
         })
     }
 
-    /// Whether the row has a counter.
+    /// Whether the row contains a counter.
     pub(crate) fn holds(&self, n: u64) -> bool
         ensures { result ≡ has_counter self.now n }
     {
         self.counters.contains(n)
     }
 
-    /// Puts a counter into the row.
+    /// Inserts a counter.
     pub(crate) fn insert(&mut self, n: u64) -> Result<(), NoMemory>
         ensures ok { OnOk result (HasAlso self.old n self.new) }
         ensures err { OnErr result (self.new ≡ self.old) }
@@ -182,8 +183,7 @@ impl OriginRow {
         self.counters.insert(n)
     }
 
-    /// Puts the counters of the other row into this one. [`NoMemory`] is the only error, and may leave some
-    /// of them there.
+    /// Inserts the counters of the other row. After [`NoMemory`] this row can contain some of them.
     pub(crate) fn absorb(&mut self, alloc: Global, other: &Self) -> Result<(), NoMemory>
         ensures ok { OnOk result (HasBoth self.old other.now self.new) }
         ensures err { OnErr result (HasMore self.old self.new) }
@@ -196,14 +196,14 @@ impl OriginRow {
         Ok(())
     }
 
-    /// Whether each counter of this row is one of the other.
+    /// Whether the other row contains each counter of this one.
     pub(crate) fn is_within(&self, other: &Self) -> bool
         ensures { IsTrue result ↔ IsWithinRow self.now other.now }
     {
         self.counters.is_subset(&other.counters)
     }
 
-    /// The greatest counter, and 0 where there is none.
+    /// The greatest counter, or 0 if there is none.
     pub(crate) fn last(&self) -> u64
         ensures { IsLastOf self.now result }
     {
@@ -217,14 +217,14 @@ impl OriginRow {
         self.counters.is_empty()
     }
 
-    /// How far the counters go 1, 2, 3, .. without a gap.
+    /// The last counter before the first gap, or 0 if the row lacks 1.
     pub(crate) fn upto(&self) -> u64
         ensures { result ≡ self.now.upto }
     {
         self.counters.upto()
     }
 
-    /// The counters besides 1 to `upto`, in rising order.
+    /// The counters outside 1 to `upto`, in ascending order.
     pub(crate) fn further(&self) -> Further<'_>
         ensures { result ≡ self.now.further }
     {
@@ -233,14 +233,14 @@ impl OriginRow {
         }
     }
 
-    /// Whether there are counters besides 1 to `upto`.
+    /// Whether there are counters outside 1 to `upto`.
     pub(crate) fn has_gap(&self) -> bool
         ensures { IsTrue result ↔ (1 ≤ length self.now.further) }
     {
         u128::from(self.upto()) < self.len()
     }
 
-    /// Puts the dots of the row into a list of dots that rise.
+    /// Inserts the dots of the row into a sorted list.
     pub(crate) fn put_dots(&self, dots: &mut Vec<Dot>) -> Result<(), NoMemory>
         requires { IsRising dot_cmp dots.old.items }
         ensures rising { IsRising dot_cmp dots.new.items }
@@ -260,7 +260,7 @@ impl OriginRow {
         self.counters.fill(self.origin, filter);
     }
 
-    /// How many counters there are.
+    /// The number of counters.
     pub(crate) fn len(&self) -> u128
         ensures value { result ≡ self.now.upto + length self.now.further }
         ensures bound { result < 2 ^ 65 }
@@ -269,15 +269,15 @@ impl OriginRow {
     }
 }
 
-/// Whether 1 to `upto` and the further counters are none.
+/// Whether the row of 1 to `upto` and the further counters would be empty.
 pub(crate) fn has_no_dots(upto: u64, further: &[u64]) -> bool
     ensures { IsTrue result ↔ (upto ≡ 0) × (length further.now ≡ 0) }
 {
     upto == 0 && further.is_empty()
 }
 
-/// Whether numbers rise from above the one after `upto`.
-pub(crate) fn rises_from(upto: u64, numbers: &[u64]) -> bool
+/// Whether the numbers ascend strictly from above `upto + 1`.
+pub(crate) fn ascends_from(upto: u64, numbers: &[u64]) -> bool
     ensures { result ≡ rises_on (upto + 1) numbers.now }
 {
     let Some(mut before) = upto.checked_add(1) else {
@@ -292,7 +292,7 @@ pub(crate) fn rises_from(upto: u64, numbers: &[u64]) -> bool
     true
 }
 
-/// Where the row of an origin is, or would be.
+/// The index of the row of an origin, or of its insertion point.
 pub(crate) fn place_of(rows: &[OriginRow], origin: Origin) -> Result<usize, usize>
     requires { IsRising origin_cmp (origins rows.now) }
     ensures { IsPlaceOf rows.now origin result }
@@ -300,7 +300,7 @@ pub(crate) fn place_of(rows: &[OriginRow], origin: Origin) -> Result<usize, usiz
     rows.binary_search_by_key(&origin, |row| row.origin)
 }
 
-/// Where the row of an origin is, or would be. It is looked for at this place first.
+/// The index of the row of an origin, or of its insertion point. The search tries index `place` first.
 pub(crate) fn place_near(rows: &[OriginRow], place: usize, origin: Origin) -> Result<usize, usize>
     requires { IsRising origin_cmp (origins rows.now) }
     ensures { IsPlaceOf rows.now origin result }

@@ -10,18 +10,18 @@ ghost use Rattle.dac_origins.specs.declared.dot.Dot.{Dot};
 ghost use Rattle.dac_dots.specs.Parts.{end_before};
 
 use crate::filter::DotFilter;
-use crate::row::{Further, OriginRow, has_no_dots, place_near, place_of, rises_from};
+use crate::row::{Further, OriginRow, ascends_from, has_no_dots, place_near, place_of};
 use dac_base::{MAX_COUNTER, NoMemory};
 use dac_origins::{Dot, Origin};
 use std::alloc::{AllocError, Global};
 use std::marker::Model;
 
-/// The rows of a set of dots, in the order of their origins. Contracts see it as the set.
+/// The rows of a set of dots, sorted by origin. Contracts treat them as the set.
 pub(crate) struct OriginRows {
     rows: Vec<OriginRow>,
 }
 
-/// Written out: a drop is one call for a proof, wherever it stands.
+/// Explicit, so that a proof treats each drop as one call.
 impl Drop for OriginRows {
     fn drop(self) {
         let OriginRows { rows: _rows } = self;
@@ -42,7 +42,7 @@ impl Model for OriginRows {
     ghost invariant = { λ a. AreKept a.rows.items };
 }
 
-/// A clone is a copy.
+/// A clone is a copy, which `Arc::make_mut` requires.
 impl Clone for OriginRows {
     ghost use Rattle.std.specs.Prelude.{◌≡◌};
 
@@ -57,7 +57,7 @@ impl Clone for OriginRows {
 }
 
 impl OriginRows {
-    /// The set of no dots. It takes no memory.
+    /// The empty set.
     pub(crate) fn empty(alloc: Global) -> Self
         ensures { result ≡ set.empty }
     {
@@ -66,7 +66,7 @@ impl OriginRows {
         }
     }
 
-    /// The set of one dot. [`NoMemory`] is the only error.
+    /// The set of one dot.
     pub(crate) fn one(alloc: Global, dot: Dot) -> Result<Self, NoMemory>
         ensures { IfOk result (λ rows. rows ≡ set.insert set.empty dot) }
     {
@@ -75,7 +75,7 @@ impl OriginRows {
         Ok(OriginRows { rows })
     }
 
-    /// Equal rows, with memory of their own. [`NoMemory`] is the only error.
+    /// Equal rows, which share nothing.
     pub(crate) fn copy(&self) -> Result<Self, NoMemory>
         ensures { IfOk result (λ copied. copied ≡ self.now) }
     {
@@ -87,7 +87,7 @@ impl OriginRows {
         Ok(OriginRows { rows })
     }
 
-    /// Whether the set has this dot.
+    /// Whether the set contains the dot.
     pub(crate) fn contains(&self, dot: Dot) -> bool
         ensures { result ≡ set.contains self.now dot }
     {
@@ -97,8 +97,7 @@ impl OriginRows {
         }
     }
 
-    /// Puts a dot into the set. One that is there already changes nothing and takes no memory. After
-    /// [`NoMemory`], the only error, the set is as before.
+    /// Inserts a dot. A dot that is in the set changes nothing and allocates nothing.
     pub(crate) fn insert(&mut self, dot: Dot) -> Result<(), NoMemory>
         ensures ok { OnOk result (self.new ≡ set.insert self.old dot) }
         ensures err { OnErr result (self.new ≡ self.old) }
@@ -117,7 +116,8 @@ impl OriginRows {
         Ok(())
     }
 
-    /// Puts the dots of a row into the set. A row of its own is looked for at this place first.
+    /// Inserts the dots of a row. The search for the origin tries index `near` first. After [`NoMemory`] some can be
+    /// there.
     pub(crate) fn unite_row(&mut self, near: usize, row: &OriginRow) -> Result<(), NoMemory>
         requires kept { IsKept row.now }
         requires some { HasSome row.now }
@@ -138,7 +138,7 @@ impl OriginRows {
         Ok(())
     }
 
-    /// The set with the dots of a row too, with memory of its own. [`NoMemory`] is the only error.
+    /// The set with the dots of a row added, which shares nothing.
     pub(crate) fn with_row(&self, row: &OriginRow) -> Result<Self, NoMemory>
         requires kept { IsKept row.now }
         requires some { HasSome row.now }
@@ -150,7 +150,7 @@ impl OriginRows {
         Ok(more)
     }
 
-    /// The set of the dots that this set or the other has. [`NoMemory`] is the only error.
+    /// The union of both sets.
     pub(crate) fn union(&self, other: &Self) -> Result<Self, NoMemory>
         ensures { IfOk result (λ both. both ≡ set.union self.now other.now) }
     {
@@ -163,7 +163,7 @@ impl OriginRows {
         Ok(both)
     }
 
-    /// Whether the set has each dot of a row. A row of its own is looked for at this place first.
+    /// Whether the set contains each dot of a row. The search for the origin tries index `near` first.
     pub(crate) fn has_row(&self, near: usize, row: &OriginRow) -> bool
         ensures { IsTrue result ↔ IsRowIn row.now self.now }
     {
@@ -173,11 +173,11 @@ impl OriginRows {
         }
     }
 
-    /// Whether the other set has each dot of this one.
+    /// Whether this set is a subset of the other one.
     pub(crate) fn is_subset(&self, other: &Self) -> bool
         ensures { IsTrue result ↔ IsSubset self.now other.now }
     {
-        // Both lists go by their origins, so that a row mostly has the same place in both.
+        // Both lists are sorted by origin, so that a row mostly has the same index in both.
         let mut near: usize = 0;
         for row in &self.rows {
             if !other.has_row(near, row) {
@@ -188,8 +188,8 @@ impl OriginRows {
         true
     }
 
-    /// The dot for the next operation of an origin: one above its greatest counter here, and 1 where there
-    /// is none. `None` where a counter has reached 2^62, the greatest that is issued.
+    /// The dot of the origin's next operation: one above its greatest counter in the set, or 1 if it has none. `None`
+    /// if that counter has reached 2^62, the greatest that is issued.
     pub(crate) fn next(&self, origin: Origin) -> Option<Dot>
         ensures { MatchOption result (IsUsedUp self.now origin) (IsNext self.now origin) }
     {
@@ -207,7 +207,7 @@ impl OriginRows {
         }
     }
 
-    /// Whether the set is a version vector: the counters of each origin are 1 to some number, with no gap.
+    /// Whether the set is a version vector: the counters of each origin are 1 to some number, without gaps.
     pub(crate) fn is_vector(&self) -> bool
         ensures { IsTrue result ↔ IsVector self.now }
     {
@@ -219,7 +219,7 @@ impl OriginRows {
         true
     }
 
-    /// How many dots the set has.
+    /// The number of dots.
     pub(crate) fn len(&self) -> u128
         ensures value { result ≡ set.len self.now }
         ensures bound { result ≤ length (rows_of self.now) * 2 ^ 65 }
@@ -231,11 +231,11 @@ impl OriginRows {
         len
     }
 
-    /// Whether the set has at most so many dots. It looks at no more origins than that.
+    /// Whether the set has at most `most` dots. It examines at most `most` origins.
     pub(crate) fn has_at_most(&self, most: usize) -> bool
         ensures { IsTrue result ↔ (set.len self.now ≤ most) }
     {
-        // Each origin that is kept has a dot.
+        // Each row has a dot.
         if self.rows.len() > most {
             return false;
         }
@@ -258,7 +258,7 @@ impl OriginRows {
         }
     }
 
-    /// The dots in rising order, each once. [`NoMemory`] is the only error.
+    /// The dots in ascending order, each once.
     pub(crate) fn dots(&self) -> Result<Vec<Dot>, NoMemory>
         ensures value { IfOk result (λ dots. dots.items ≡ in_order self.now) }
         ensures rising { IfOk result (λ dots. IsRising dot_cmp dots.items) }
@@ -272,29 +272,29 @@ impl OriginRows {
         Ok(dots)
     }
 
-    /// How many origins have dots.
+    /// The number of origins with dots.
     pub(crate) fn rows(&self) -> usize
         ensures { result ≡ length (rows_of self.now) }
     {
         self.rows.len()
     }
 
-    /// The row of the `i`-th origin that has dots, by the order of origins. It is the origin, how far its counters go
-    /// 1, 2, 3, .. without a gap, and the further ones. It takes no memory.
+    /// The `i`-th origin that has dots, in the order of origins: the origin, the last counter before its first gap, and
+    /// its further counters.
     pub(crate) fn row(&self, i: usize) -> Option<(Origin, u64, Further<'_>)>
         ensures value { MatchOption result (length (rows_of self.now) ≤ i)
             (λ row. slice_get (rows_of self.now) i
             ≡ Some (record { origin = row.0; upto = row.1; further = row.2 })) }
-        // There are fewer than there are numbers of places.
+        // Each index fits a `usize`.
         ensures few { length (rows_of self.now) < 2 ^ 63 }
-        // What these rows are.
+        // The rows describe the set exactly.
         ensures rows { AreRowsOf self.now (rows_of self.now) }
     {
         let row = self.rows.get(i)?;
         Some((row.origin, row.upto(), row.further()))
     }
 
-    /// Whether the origin is above all that have dots.
+    /// Whether the origin is above all origins in the set.
     fn is_below(&self, origin: Origin) -> bool
         ensures { IsTrue result ↔ EndBefore (rows_of self.now) origin }
     {
@@ -304,21 +304,21 @@ impl OriginRows {
         }
     }
 
-    /// Whether the origin is above all that have dots.
+    /// Whether the origin is above all origins in the set, as the boolean that a binary search over parts requires.
     pub(crate) fn ends_before(&self, origin: Origin) -> bool
         ensures { result ≡ end_before origin (rows_of self.now) }
     {
         self.is_below(origin)
     }
 
-    /// The rows, in the order of their origins.
+    /// The rows, sorted by origin.
     pub(crate) fn list(&self) -> &[OriginRow]
         ensures { result.now ≡ rows_of self.now }
     {
         self.rows.as_slice()
     }
 
-    /// The first half of the rows, and the others. [`NoMemory`] is the only error.
+    /// The first half of the rows and the second, which share nothing.
     pub(crate) fn halves(&self) -> Result<(Self, Self), NoMemory>
         requires { 1 < length (rows_of self.now) }
         ensures all { IfOk result (λ both. rows_of both.0 ++ rows_of both.1 ≡ rows_of self.now) }
@@ -330,7 +330,7 @@ impl OriginRows {
         Ok((copy_rows(alloc, first)?, copy_rows(alloc, second)?))
     }
 
-    /// Whether these dots of an origin can be appended.
+    /// Whether `push_row` accepts these dots of an origin.
     pub(crate) fn can_follow(&self, origin: Origin, upto: u64, further: &[u64]) -> bool
         ensures { IsTrue result
             ↔ CanFollow (rows_of self.now)
@@ -342,12 +342,12 @@ impl OriginRows {
         if !self.is_below(origin) {
             return false;
         }
-        rises_from(upto, further)
+        ascends_from(upto, further)
     }
 
-    /// Appends the dots of an origin above all that have dots: the counters 1 to `upto`, and further ones,
-    /// which rise from above `upto + 1`. There has to be one at least. Where it isn't so the answer is false,
-    /// and nothing changes; nor does it after [`NoMemory`], the only error.
+    /// Appends the dots of an origin above all origins in the set: the counters 1 to `upto`, and further ones, which
+    /// ascend from above `upto + 1`. Returns false, and changes nothing, unless these conditions hold and there is at
+    /// least one dot.
     pub(crate) fn push_row(
         &mut self,
         origin: Origin,
@@ -377,7 +377,7 @@ impl OriginRows {
     }
 }
 
-/// A set of these rows, with memory of its own. [`NoMemory`] is the only error.
+/// The set of these rows, which shares nothing.
 fn copy_rows(alloc: Global, rows: &[OriginRow]) -> Result<OriginRows, NoMemory>
     requires { AreKept rows.now }
     ensures { IfOk result (λ copied. rows_of copied ≡ rows.now) }

@@ -1,4 +1,4 @@
-//! Contexts that several values share.
+//! Immutable contexts that several values share.
 ghost use Rattle.std.specs.Prelude.{◌≡◌, IfOk};
 ghost use Rattle.std.specs.FinSet as set;
 
@@ -6,13 +6,12 @@ use crate::context::Context;
 use dac_base::NoMemory;
 use std::marker::Model;
 
-/// A context that never changes, which several values may have without a copy for each. Contracts see it as
-/// the context.
+/// An immutable context, which several values can share without a copy for each. Contracts treat it as the context.
 pub struct SharedContext {
     context: Context,
 }
 
-/// Written out: a drop is one call for a proof, wherever it stands.
+/// Explicit, so that a proof treats each drop as one call.
 impl Drop for SharedContext {
     fn drop(self) {
         let SharedContext { context: _context } = self;
@@ -31,28 +30,28 @@ impl Model for SharedContext {
 }
 
 impl SharedContext {
-    /// This context. It takes no memory.
+    /// This context, which copies will share.
     pub fn of(context: Context) -> Self
         ensures { result ≡ context }
     {
         SharedContext { context }
     }
 
-    /// This context, which copies will share. It takes no memory today. [`NoMemory`] is the only error.
+    /// This context, which copies will share. Allocates nothing at present.
     pub fn new(context: Context) -> Result<Self, NoMemory>
         ensures { IfOk result (λ shared. shared ≡ context) }
     {
         Ok(SharedContext::of(context))
     }
 
-    /// The context.
+    /// The context that is shared.
     pub fn context(&self) -> &Context
         ensures { result.now ≡ self.now }
     {
         &self.context
     }
 
-    /// The same context, shared with it. [`NoMemory`] is the only error.
+    /// The same context, which both share.
     pub fn copy(&self) -> Result<Self, NoMemory>
         ensures { IfOk result (λ copied. copied ≡ self.now) }
     {
@@ -60,8 +59,7 @@ impl SharedContext {
         Ok(SharedContext::of(copied))
     }
 
-    /// The set of the dots that this context or the other has, which copies will share. [`NoMemory`] is the only
-    /// error.
+    /// The union of both contexts, which copies will share.
     pub fn union(&self, other: &Self) -> Result<Self, NoMemory>
         ensures { IfOk result (λ both. both ≡ set.union self.now other.now) }
     {

@@ -1,4 +1,4 @@
-//! Spans of counters that follow one another.
+//! Spans of consecutive counters.
 ghost use Rattle.std.specs.Prelude.{◌≡◌, ◌+◌, ◌-◌, ◌^◌, ◌<◌, ◌≤◌, ◌⊎◌, ◌||◌, ◌∷◌, [], false, true, length, nat_le, nat_lt, take, drop, vec_capacity, IfOk, OnErr, OnOk};
 ghost use Rattle.dac_dots.specs.Spans.{IsPlaceFor, absorbed, any_span, are_apart, hull, span_has, spans_of};
 
@@ -6,7 +6,7 @@ use dac_base::NoMemory;
 use std::alloc::Global;
 use std::slice::from_ref;
 
-/// Counters that follow one another: `first`, the one after it, and so on to `last`.
+/// Consecutive counters, from `first` to `last`, both included.
 #[derive(Clone, Copy, Debug)]
 pub(crate) struct Span {
     pub(crate) first: u64,
@@ -14,7 +14,7 @@ pub(crate) struct Span {
 }
 
 impl Span {
-    /// Whether this span ends so far before the other that a counter lies between them.
+    /// Whether a counter lies between the end of this span and the beginning of the other.
     fn ends_before(self, other: Span) -> bool
         ensures { result ≡ nat_lt (self.last + 1) other.first }
     {
@@ -28,7 +28,7 @@ impl Span {
         other.first <= self.last || other.first - self.last == 1
     }
 
-    /// How many counters there are.
+    /// The number of counters.
     pub(crate) fn len(self) -> u128
         requires { self.first ≤ self.last }
         ensures value { result ≡ self.last + 1 - self.first }
@@ -37,7 +37,7 @@ impl Span {
         u128::from(self.last - self.first) + 1
     }
 
-    /// The counter at this place of the span, from 0.
+    /// The counter at index `place` of the span.
     pub(crate) fn at(self, place: u128) -> u64
         requires valid { self.first ≤ self.last }
         requires within { place < self.last + 1 - self.first }
@@ -46,7 +46,7 @@ impl Span {
         self.first + place as u64
     }
 
-    /// From where the first of both begins to where the last of both ends.
+    /// The least span that contains both.
     fn hull(self, other: Span) -> Span
         ensures { result ≡ hull self other }
     {
@@ -57,7 +57,7 @@ impl Span {
     }
 }
 
-/// Spans between which counters lie, in rising order. A single one takes no memory.
+/// Spans in ascending order with gaps between them. A single one needs no allocation.
 #[derive(Debug, Drop)]
 pub(crate) enum Spans {
     /// No spans.
@@ -69,7 +69,7 @@ pub(crate) enum Spans {
 }
 
 impl Spans {
-    /// The spans in rising order. It takes no memory.
+    /// The spans in ascending order.
     pub(crate) fn as_slice(&self) -> &[Span]
         ensures { result.now ≡ spans_of self.now }
     {
@@ -80,7 +80,7 @@ impl Spans {
         }
     }
 
-    /// Equal spans. Where there are gaps it has room for one span more.
+    /// Equal spans. A list reserves room for one more span.
     pub(crate) fn copy(&self, alloc: Global) -> Result<Self, NoMemory>
         ensures { IfOk result (λ copied. spans_of copied ≡ spans_of self.now) }
     {
@@ -94,7 +94,7 @@ impl Spans {
         }
     }
 
-    /// Puts the counters of a span in. Where all are there it takes no memory.
+    /// Inserts the counters of a span. Allocates nothing if all are there.
     pub(crate) fn put(&mut self, alloc: Global, span: Span) -> Result<(), NoMemory>
         requires valid { span.first ≤ span.last }
         requires apart { are_apart 0 (spans_of self.old) ≡ true }
@@ -124,7 +124,7 @@ fn copy_listed(alloc: Global, spans: &[Span]) -> Result<Vec<Span>, NoMemory>
     Ok(copied)
 }
 
-/// The counters of a single span and of another, as one span if no counter lies between them.
+/// The union of two spans: one span, unless a counter lies between them.
 fn one_or_two(alloc: Global, single: Span, span: Span) -> Result<Spans, NoMemory>
     requires single { single.first ≤ single.last }
     requires span { span.first ≤ span.last }
@@ -143,7 +143,7 @@ fn one_or_two(alloc: Global, single: Span, span: Span) -> Result<Spans, NoMemory
     Ok(Spans::One(single.hull(span)))
 }
 
-/// Two spans, the lower one first.
+/// The list of two spans, the lower one first.
 fn two(alloc: Global, lower: Span, upper: Span) -> Result<Spans, NoMemory>
     ensures { IfOk result (λ both. spans_of both ≡ lower ∷ upper ∷ []) }
 {
@@ -151,7 +151,7 @@ fn two(alloc: Global, lower: Span, upper: Span) -> Result<Spans, NoMemory>
     Ok(Spans::Listed(both))
 }
 
-/// Puts the counters of a span into a list of spans. Where all are there it takes no memory.
+/// Inserts the counters of a span into a list of spans. Allocates nothing if all are there.
 fn put_among(spans: &mut Vec<Span>, span: Span) -> Result<(), NoMemory>
     requires valid { span.first ≤ span.last }
     requires apart { are_apart 0 spans.old.items ≡ true }
@@ -163,13 +163,13 @@ fn put_among(spans: &mut Vec<Span>, span: Span) -> Result<(), NoMemory>
         ((n : _) → span_has n span ≡ true → any_span spans.old.items n ≡ false) }
 {
     let place = place_for(spans, span);
-    let joined = take_touched(spans, place, span);
+    let joined = absorb_touching(spans, place, span);
     spans.insert(place, joined)?;
     Ok(())
 }
 
-/// Takes the spans from a place on out that reach on from this span, and answers the span of all of them.
-fn take_touched(spans: &mut Vec<Span>, place: usize, span: Span) -> Span
+/// Removes the spans from index `place` on that touch this span or each other, and returns the hull of all of them.
+fn absorb_touching(spans: &mut Vec<Span>, place: usize, span: Span) -> Span
     ensures front { take place spans.new.items ≡ take place spans.old.items }
     ensures value { absorbed span (drop place spans.old.items) ≡ result ∷ drop place spans.new.items }
     ensures room { ((spans.new.items ≡ spans.old.items) × (result ≡ span))
@@ -182,8 +182,8 @@ fn take_touched(spans: &mut Vec<Span>, place: usize, span: Span) -> Span
     joined
 }
 
-/// Where a span is put: how many of the spans end so far before it that a counter lies between. Most spans are
-/// put behind the last one, or lengthen it, so that is looked at first.
+/// The insertion index of a span: the number of spans that end so far before it that a counter lies between. Tries the
+/// last span first, because most spans are appended or lengthen it.
 fn place_for(spans: &[Span], span: Span) -> usize
     requires { are_apart 0 spans.now ≡ true }
     ensures { IsPlaceFor spans.now result span.first }

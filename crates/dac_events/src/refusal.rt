@@ -1,63 +1,63 @@
-//! Why a node does nothing.
+//! Refusals of a node.
 
 ghost use Rattle.std.specs.Prelude.{◌≡◌};
 
 use dac_base::NoMemory;
 use std::fmt;
 
-/// Why an event is refused. The causes are looked for in the order of their numbers, the first that holds
-/// is answered, and the node is as before.
+/// Why a node refuses an event. Causes are checked in the order of their numbers, the first that holds is returned, and
+/// the node stays as before.
 #[derive(Clone, Copy, Debug, PartialEq, Eq, Hash)]
 pub enum Refusal {
     /// The node is off.
     Off,
     /// The node runs already.
     AlreadyOn,
-    /// This incarnation isn't the live one of its own node, by what is known here: it was declared down.
+    /// This node's own incarnation was declared down, as far as the node knows.
     DeclaredDown,
     /// The configuration has no such application.
     UnknownApp,
     /// The configuration has no such node.
     UnknownNode,
-    /// A node neither ships to itself nor hears itself nor declares itself down.
+    /// A node can't ship to itself, hear itself or declare itself down.
     OnSelf,
     /// The node isn't in the application's list.
     NotInList,
-    /// The moment lies before one at which the node was booted or ticked.
+    /// The moment is before the node's boot or last tick.
     MomentBack,
-    /// No live incarnation of the node is known here.
+    /// The node knows no live incarnation of the node that the command names.
     NotLive,
     /// No start wish stands for the application at the node.
     NotStarted,
-    /// The node isn't eligible for the application that it is to take over.
+    /// The node isn't eligible for the application that it should take over.
     NotEligible,
-    /// The application that is to be taken over runs nowhere.
+    /// The application that should be taken over runs nowhere.
     NotRunning,
     /// The application runs here already.
     AlreadyHolder,
     /// The application runs at a node of an earlier group.
     LowerPriority,
-    /// The message is for another node, or for another incarnation of this node alone.
+    /// The message is for another node, or only for another incarnation of this node.
     NotForMe,
-    /// The node that is to be shipped to has acknowledged all, and is owed no answer.
+    /// The receiver has acknowledged everything, and no reply to it is due.
     UpToDate,
     /// The operation would replace more than 1,024 dots.
     TooManyDots,
-    /// The terms of the application's claims are used up.
+    /// There is no greater term for a claim of the application.
     TermsUsedUp,
-    /// The counters of this incarnation's operations are used up, or the numbers of its deltas. A tick is taken to need
-    /// one of each for each application, and one at least.
+    /// This incarnation's counters of operations or its numbers of deltas are used up. A tick is counted as if it
+    /// needed one of each for every application, and at least one.
     DotsUsedUp,
-    /// The numbers of this node's incarnations are used up.
+    /// The node has no greater incarnation number.
     IncarnationsUsedUp,
-    /// Memory was refused.
+    /// An allocation failed.
     NoMemory,
 }
 
 impl Refusal {
     ghost use Rattle.dac_events.specs.Refusals.{number_of, name_of};
 
-    /// The number that stands for it in the program's output, 1 to 21.
+    /// Its number in the program's output, 1 to 21.
     pub fn number(self) -> u8
         ensures { result ≡ number_of self }
     {

@@ -1,8 +1,8 @@
-//! Why nothing happens in the world of all controllers.
+//! Faults of the world of all controllers.
 
 use crate::Refusal;
 
-/// Why an event of the world does nothing. The causes are looked for in this order.
+/// Why an event of the world has no effect. Causes are checked in this order.
 #[derive(Clone, Copy, Debug, PartialEq, Eq)]
 pub enum WorldFault {
     /// The world has no such node.
@@ -11,6 +11,6 @@ pub enum WorldFault {
     NoSuchMessage,
     /// No operation of this number was issued.
     NoSuchOperation,
-    /// The node refuses it.
+    /// The node refuses the event.
     Refused(Refusal),
 }

@@ -1,4 +1,4 @@
--- Readers that, from one token on, are another one.
+-- Readers that, from some token, behave as another reader.
 use Rattle.std.proofs.Common.{◌≡◌, ℕ, ◌<◌, List, [], ◌∷◌, ◌++◌, length, Result, Ok, Err, refl, sym, ap, subst, ◌∙◌, arith}
 use Rattle.dac_tokens.specs.declared.fault.ConfigFault.{ConfigFault}
 use Rattle.dac_tokens.specs.Words.{Located}
@@ -7,7 +7,7 @@ use Rattle.dac_shapes.specs.Shape.{State}
 use Rattle.dac_shapes.specs.laws.AgainLists.{at}
 use Rattle.dac_first_fault.proofs.Outcomes.{Wants, Fails, Outcome, Took, Failed, Asked, Reader, Gives}
 
--- a reader that is the same at each state
+-- a reader with the same result at each state
 pub same_reader : {A : Type 0} (f g : Reader A) → ((s : State) → f s ≡ g s) → (us : List Located) (seen : Seen) → Gives g us seen → Gives f us seen
 same_reader f g same us seen (Took k) = Took (record { a = k.a; b = k.b; x = k.x; after = k.after; whole = k.whole; some = k.some; goes = λ i last rest room. same (at last (k.a ++ rest) seen) ∙ k.goes i last rest room })
 same_reader f g same us seen (Failed k) = Failed (record {

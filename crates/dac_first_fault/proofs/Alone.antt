@@ -1,4 +1,4 @@
--- The law of the first fault admits one fault alone.
+-- The law of the first fault admits at most one fault of a text.
 use Rattle.std.proofs.Common.{◌≡◌, ℕ, zero, suc, ◌<◌, ◌≤◌, Bool, true, false, ltb, List, [], ◌∷◌, ◌++◌, length, Result, Ok, Err, refl, sym, ap, subst, ◌∙◌, append_assoc, append-nil, arith, inl, inr}
 use Rattle.std.specs.Prelude.{◌⊎◌, ◌↔◌}
 use Rattle.std.proofs.lemmas.Bool.{ltb-true, ltb-false}
@@ -14,18 +14,18 @@ use Rattle.dac_tokens.specs.TokenGrammar.{AreTokensOf}
 use Rattle.dac_tokens.specs.TokenFaults.{StopAt}
 use Rattle.dac_shapes.specs.Written.{Section}
 use Rattle.dac_shapes.specs.Grammar.{IsFile}
-use Rattle.dac_first_fault.specs.FirstFault.{StandsAt, Itself, InList, InTuple, CanBring, words, IsWell, IsFileWithinLimits, IsNoName, Only, Before, IsOfName, Breaks, rank, BeginsWith, IsFaultOf, Long, NoToken, Token, Ends, Nobody, CanBeginLoosely, Spoils, Brings, apps_in}
+use Rattle.dac_first_fault.specs.FirstFault.{IsLocatedAt, Itself, InList, InTuple, CanCause, words, IsWell, IsFileWithinLimits, IsNoName, Only, Before, IsOfName, Breaks, rank, BeginsWith, IsFaultOf, Long, NoToken, Token, Ends, Nobody, CanBeginLoosely, Spoils, Brings, apps_in}
 use Rattle.dac_first_fault.proofs.Order.{words_append, well_so_far}
 use Rattle.dac_first_fault.proofs.Offsets.{name_or_not}
 use Rattle.dac_first_fault.proofs.Fewer.{keeps_fewer}
 
--- ---- one name brings one fault
+-- ---- a name causes one fault
 
--- a name can bring a fault of this kind
+-- a name can cause a fault of this kind
 abbrev IsNameKind : FaultKind → Type 0
 IsNameKind k = rank k < 6
 
-can_kind : (k : FaultKind) (w : Word) (name : List ℕ) → w ≡ Name name → CanBring k w → IsNameKind k
+can_kind : (k : FaultKind) (w : Word) (name : List ℕ) → w ≡ Name name → CanCause k w → IsNameKind k
 can_kind kind.BadShape w name is can = omega arith
 can_kind kind.NameTooLong w name is can = omega arith
 can_kind kind.TwiceApp w name is can = omega arith
@@ -39,8 +39,8 @@ can_kind _ w name is can = absurd can
 no_mark : (w : Word) (name : List ℕ) (x : Symbol) → w ≡ Name name → w ≡ Punctuation x → ⊥
 no_mark w name x is other = let wrong : Name name ≡ Punctuation x = sym is ∙ other in absurd cc
 
--- the fault of a name stands at it
-name_kind : (a : List Located) (l : Located) (e : ConfigFault) (name : List ℕ) → l.word ≡ Name name → StandsAt a l e → (e.at ≡ l.at) × IsNameKind e.kind
+-- the fault of a name is at its offset
+name_kind : (a : List Located) (l : Located) (e : ConfigFault) (name : List ℕ) → l.word ≡ Name name → IsLocatedAt a l e → (e.at ≡ l.at) × IsNameKind e.kind
 name_kind a l e name is (Itself offset can) = (offset, can_kind e.kind l.word name is can)
 name_kind a l e name is (InList front o parts w v k) = absurd (no_mark l.word name _ is v)
 name_kind a l e name is (InTuple front o parts w v k) = absurd (no_mark l.word name _ is v)
@@ -54,13 +54,12 @@ of_name kind.TooManyApps fits some = tt
 of_name kind.TooManyNodes fits some = tt
 of_name _ fits some = absurd (omega (arith, fits))
 
--- of two limits, no file keeps the first
+-- two limits can't both be broken first
 clash : (ws : List Word) (j k : FaultKind) → Breaks ws j → Breaks ws k → IsNameKind k → rank j < rank k → ⊥
 clash ws j k b c fits less =
     let g = c.first (of_name k fits (omega (arith, less))) in
     b.broken (record { more = g.more; sections = g.sections; file = g.file; keeps = keeps_fewer (Only j) (Before k) (λ other is. subst (λ (o : FaultKind). rank o < rank k) (sym is) less) g.sections g.keeps })
 
--- the kind of this rank
 abbrev of_rank : ℕ → FaultKind
 of_rank zero = kind.BadShape
 of_rank (suc zero) = kind.NameTooLong
@@ -91,13 +90,13 @@ one_kind ws j k b c fits other = by (ltb (rank j) (rank k)) (ltb (rank k) (rank 
 same_fault : (e f : ConfigFault) → e.kind ≡ f.kind → e.at ≡ f.at → e ≡ f
 same_fault e f k n = ap (λ (k : FaultKind). record { kind = k; at = e.at }) k ∙ ap (λ (n : ℕ). record { kind = f.kind; at = n }) n
 
--- ---- one token that is no name brings one fault
+-- ---- a token that is no name causes one fault
 
--- what a token that is no name can bring at its own offset
+-- the kinds that a token that is no name can cause at its own offset
 abbrev IsPlainKind : FaultKind → Word → Type 0
 IsPlainKind k w = (k ≡ kind.BadShape) ⊎ (((k ≡ kind.Unsupported) × (w ≡ Text)) ⊎ ((k ≡ kind.NumberTooLarge) × ((digits : List ℕ) × (w ≡ Number false digits))))
 
-plain_kind : (k : FaultKind) (w : Word) → CanBring k w → IsNoName w → IsPlainKind k w
+plain_kind : (k : FaultKind) (w : Word) → CanCause k w → IsNoName w → IsPlainKind k w
 plain_kind kind.BadShape w can plain = inl refl
 plain_kind kind.Unsupported w can plain = inr (inl (refl, can))
 plain_kind kind.NumberTooLarge w can plain = inr (inr (refl, (can.0, can.1)))
@@ -121,7 +120,7 @@ module _ (ws : List Word) (w : Word) where
     ]
   ]
 
-  -- one kind is told of these words
+  -- these words determine one kind
   one_plain : (j k : FaultKind) → IsPlainKind j w → IsPlainKind k w → Spoils ws j → Spoils ws k → j ≡ k
   one_plain j k a b told other = elim a [
     | inl shape ↦ elim b [
@@ -166,19 +165,19 @@ spoils_of (Number negative digits) ws k no_name brings = brings
 spoils_of Text ws k no_name brings = brings
 spoils_of End ws k no_name brings = brings
 
--- the last of tokens is one
+-- the last of a list of tokens is unique
 last_same : (a b : List Located) (o p : Located) → a ++ o ∷ [] ≡ b ++ p ∷ [] → o ≡ p
 last_same [] [] o p e = (cons_both o p [] [] e).0
 last_same [] (v ∷ b) o p e = absurd (none_more b p (cons_both o v [] (b ++ p ∷ []) e).1)
 last_same (u ∷ a) [] o p e = absurd (none_more a o (sym (cons_both u p (a ++ o ∷ []) [] e).1))
 last_same (u ∷ a) (v ∷ b) o p e = last_same a b o p (cons_both u v (a ++ o ∷ []) (b ++ p ∷ []) e).1
 
--- a fault at a closing bracket, or at the one that it closes, tells them apart
+-- a fault at a closing bracket excludes one at the bracket that it closes
 module _ (before : List Located) (t : Located) (no_name : IsNoName t.word) where
   abbrev ws : List Word
   ws = words before ++ t.word ∷ []
 
-  shape_not : (e f : ConfigFault) (x : Symbol) → t.word ≡ Punctuation x → CanBring e.kind t.word → Spoils ws e.kind → CanBeginLoosely ws → ⊥
+  shape_not : (e f : ConfigFault) (x : Symbol) → t.word ≡ Punctuation x → CanCause e.kind t.word → Spoils ws e.kind → CanBeginLoosely ws → ⊥
   shape_not e f x is can told loosely = subst (λ (k : FaultKind). Spoils ws k) (no_closing ws t.word e.kind x is (plain_kind e.kind t.word can no_name)) told loosely
 
   no_two : (x y : Symbol) → t.word ≡ Punctuation x → t.word ≡ Punctuation y → x ≡ y
@@ -193,7 +192,7 @@ module _ (before : List Located) (t : Located) (no_name : IsNoName t.word) where
   closes_one : t.word ≡ Punctuation CloseList → t.word ≡ Punctuation CloseTuple → ⊥
   closes_one a b = let wrong : CloseList ≡ CloseTuple = no_two CloseList CloseTuple a b in absurd cc
 
-  one_here : (e f : ConfigFault) → Spoils ws e.kind → Spoils ws f.kind → StandsAt before t e → StandsAt before t f → e ≡ f
+  one_here : (e f : ConfigFault) → Spoils ws e.kind → Spoils ws f.kind → IsLocatedAt before t e → IsLocatedAt before t f → e ≡ f
   one_here e f a b (Itself p can) (Itself q other) = same_fault e f (one_plain ws t.word e.kind f.kind (plain_kind e.kind t.word can no_name) (plain_kind f.kind t.word other no_name) a b) (p ∙ sym q)
   one_here e f a b (Itself p can) (InList front o parts w v k) = absurd (shape_not e f CloseList v can a (list_told f o k b))
   one_here e f a b (Itself p can) (InTuple front o parts w v k) = absurd (shape_not e f CloseTuple v can a (tuple_told f o k b))
@@ -204,7 +203,7 @@ module _ (before : List Located) (t : Located) (no_name : IsNoName t.word) where
   one_here e f a b (InList front o parts w v k) (InTuple other p pieces x y m) = absurd (closes_one v y)
   one_here e f a b (InTuple front o parts w v k) (InList other p pieces x y m) = absurd (closes_one y v)
 
--- ---- where two tokens stand among the same ones
+-- ---- the order of two tokens in one list
 
 data Order (a : List Located) (l : Located) (c : List Located) (m : Located) : Type 0 where
   Same : a ≡ c → l ≡ m → Order a l c m
@@ -222,7 +221,7 @@ order_of [] l b (v ∷ c) m d e = Earlier c (ap (λ (w : Located). w ∷ c) (sym
 order_of (u ∷ a) l b [] m d e = Later a (ap (λ (w : Located). w ∷ a) (cons_both u m (a ++ l ∷ b) d e).0)
 order_of (u ∷ a) l b (v ∷ c) m d e = let p = cons_both u v (a ++ l ∷ b) (c ++ m ∷ d) e in behind_one u v a l c m p.0 (order_of a l b c m d p.1)
 
--- words in order are so up to a token among them
+-- a valid prefix is valid up to each of its tokens
 well_to : (a : List Located) (l : Located) (b : List Located) → IsWell (words (a ++ l ∷ b)) → IsWell (words a ++ l.word ∷ [])
 well_to a l b w = well_so_far (words a ++ l.word ∷ []) (words b) (subst IsWell (words_append a (l ∷ b) ∙ sym (append_assoc (words a) (l.word ∷ []) (words b))) w)
 
@@ -241,7 +240,6 @@ well_within ws is =
 -- ---- two faults of a text
 
 module _ (text : List ℕ) (s : Stream) (spelled : (ts : List Located) → (AreTokensOf text ts ↔ (s ≡ ended_by (length text) ts))) (stops : (ts : List Located) (e : ConfigFault) → (StopAt 0 0 text ts e ↔ (s ≡ stopped ts e))) where
-  -- a token brings it
   pub record ByToken (e : ConfigFault) : Type 0 where
     pub before : List Located
     pub t : Located
@@ -251,9 +249,9 @@ module _ (text : List ℕ) (s : Stream) (spelled : (ts : List Located) → (AreT
     pub well : IsWell (words before)
     pub not_well : IsWell (words before ++ t.word ∷ []) → ⊥
     pub brings : Brings t.word (words before ++ t.word ∷ []) e.kind
-    pub stands : StandsAt before t e
+    pub stands : IsLocatedAt before t e
 
-  -- what is behind all tokens brings it
+  -- the cause is the end of the tokens
   pub data AtEnd (e : ConfigFault) : Type 0 where
     Stopped : s ≡ stopped s.tokens e → AtEnd e
     NoFile : s ≡ ended_by (length text) s.tokens → ((sections : List Section) → IsFile (words s.tokens) sections → ⊥) → e ≡ record { kind = kind.BadShape; at = length text } → AtEnd e
@@ -314,8 +312,8 @@ module _ (text : List ℕ) (s : Stream) (spelled : (ts : List Located) → (AreT
   one_end e f (Empty a is listed p) (NoFile b none q) = absurd (none is.sections is.file)
   one_end e f (Empty a is listed p) (Empty b other empty q) = p ∙ sym q
 
-  -- one token brings both
-  shared : (e f : ConfigFault) (b : ByToken e) → Brings b.t.word (words b.before ++ b.t.word ∷ []) f.kind → StandsAt b.before b.t f → e ≡ f
+  -- both faults have the same token as their cause
+  shared : (e f : ConfigFault) (b : ByToken e) → Brings b.t.word (words b.before ++ b.t.word ∷ []) f.kind → IsLocatedAt b.before b.t f → e ≡ f
   shared e f b brings stands = elim (name_or_not b.t.word) [
     | inl n ↦
         let ws = words b.before ++ b.t.word ∷ [] in
@@ -330,7 +328,7 @@ module _ (text : List ℕ) (s : Stream) (spelled : (ts : List Located) → (AreT
   one_token : (e f : ConfigFault) (b : ByToken e) (c : ByToken f) → Order b.before b.t c.before c.t → e ≡ f
   one_token e f b c (Same p q) =
       let at_t = λ (P : List Located → Located → Type 0) (k : P c.before c.t). subst (λ (ts : List Located). P ts b.t) (sym p) (subst (λ (t : Located). P c.before t) (sym q) k) in
-      shared e f b (at_t (λ ts t. Brings t.word (words ts ++ t.word ∷ []) f.kind) c.brings) (at_t (λ ts t. StandsAt ts t f) c.stands)
+      shared e f b (at_t (λ ts t. Brings t.word (words ts ++ t.word ∷ []) f.kind) c.brings) (at_t (λ ts t. IsLocatedAt ts t f) c.stands)
   one_token e f b c (Earlier x p) = absurd (b.not_well (well_to b.before b.t x (subst (λ (ts : List Located). IsWell (words ts)) p c.well)))
   one_token e f b c (Later x p) = absurd (c.not_well (well_to c.before c.t x (subst (λ (ts : List Located). IsWell (words ts)) p b.well)))
 

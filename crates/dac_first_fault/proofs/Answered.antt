@@ -1,4 +1,4 @@
--- The fault that a reader of the code answers.
+-- The fault that a reader of the code returns.
 use Rattle.std.proofs.Common.{◌≡◌, ◌≢◌, ℕ, Result, Ok, Err, refl}
 use Rattle.std.specs.Prelude.{IfErr}
 use Rattle.dac_tokens.specs.declared.fault.FaultKind.{FaultKind}
@@ -6,12 +6,12 @@ use Rattle.dac_tokens.specs.declared.fault.FaultKind.TheVariants.{NoMemory}
 use Rattle.dac_tokens.specs.declared.fault.ConfigFault.{ConfigFault}
 use Rattle.dac_tokens.specs.Gives.{OrMemory, Gives}
 
--- where memory didn't run out, the claim holds
+-- the claim holds unless memory ran out
 claimed : (k : FaultKind) (at : ℕ) (P : Type 0) → k ≢ NoMemory → OrMemory k at P → P
 claimed NoMemory at P other h = absurd (other refl)
 claimed _ at P other h = h
 
--- what holds of the fault of a reading holds of the fault that is answered, unless memory ran out
+-- a property of the definition's fault holds of the returned fault, unless memory ran out
 pub answered : {X Y : Type 0} (view : X → Y) (result : Result X ConfigFault) (read : Result Y ConfigFault) (P : ConfigFault → Type 0) → ((e : ConfigFault) → read ≡ Err e → P e) → Gives view result read → IfErr result (λ e. e.kind ≢ NoMemory → P e)
 answered view (Ok x) read P law gives = tt
 answered view (Err e) read P law gives = λ other. law e (claimed e.kind e.at (read ≡ Err e) other gives)

@@ -1,4 +1,4 @@
--- Where a reader came to the end of the tokens that are there, some thing begins with their words.
+-- If a reader reached the end of the given tokens, some item begins with their words.
 use Rattle.std.proofs.Common.{◌≡◌, ℕ, zero, suc, Bool, true, false, cond, List, [], ◌∷◌, ◌++◌, map, Result, Ok, Err, refl, sym, ap, subst, ◌∙◌, append_assoc}
 use Rattle.dac_tokens.specs.declared.fault.ConfigFault.{ConfigFault}
 use Rattle.dac_tokens.specs.declared.fault.FaultKind.{FaultKind}
@@ -13,7 +13,8 @@ use Rattle.dac_shapes.specs.Grammar.{Parted, IsListOf}
 use Rattle.dac_shapes.specs.laws.AgainLists.{at}
 use Rattle.dac_first_fault.proofs.Steps.{mark_is}
 
--- The fault behind the tokens. No reader of shapes brings one of its kind: who has it came to their end.
+-- A fault placed after the tokens. No reader returns this kind itself, so whoever returns it reached the end of the
+-- tokens.
 abbrev pub halt : ConfigFault
 halt = record { kind = TooLong; at = 0 }
 
@@ -27,13 +28,13 @@ IsShort s = s.left.last ≡ Err halt
 abbrev pub words_in : State → List Word
 words_in s = map (λ t. t.word) s.left.tokens
 
--- some thing begins with these words
+-- some item begins with these words
 pub record Begun {X : Type 0} (Is : List Word → X → Type 0) (ws : List Word) : Type 0 where
   pub more : List Word
   pub x : X
   pub is : Is (ws ++ more) x
 
--- what an answer leaves to read
+-- the words that a result leaves to read
 pub record Via (X : Type 0) : Type 0 where
   pub rest : X → List Word
   pub state : X → State
@@ -44,18 +45,18 @@ by_pair = record { rest = λ x. words_in x.1; state = λ x. x.1 }
 abbrev pub by_state : Via State
 by_state = record { rest = λ s. words_in s; state = λ s. s }
 
--- it answers the token behind
+-- the result is the token after the item
 abbrev pub by_behind : Via (Located × State)
 by_behind = record { rest = λ x. x.0.word ∷ words_in x.1; state = λ x. x.1 }
 
--- this was read of these words
+-- a result was read from these words
 pub record Read {X : Type 0} (via : Via X) (Is : List Word → X → Type 0) (ws : List Word) (x : X) : Type 0 where
   pub own : List Word
   pub whole : ws ≡ own ++ via.rest x
   pub is : Is own x
   pub short : IsShort (via.state x)
 
--- an answer to these words is a thing that they are, or they begin one
+-- a result for these words is an item that they spell, or some item begins with them
 abbrev pub Sees : {X : Type 0} → Via X → (List Word → X → Type 0) → List Word → Result X ConfigFault → Type 0
 Sees via Is ws (Ok x) = Read via Is ws x
 Sees via Is ws (Err e) = Halts e.kind → Begun Is ws
@@ -71,12 +72,12 @@ pub weaker : {X : Type 0} (via : Via X) (Is Is' : List Word → X → Type 0) �
 weaker via Is Is' to ws (Ok x) k = record { own = k.own; whole = k.whole; is = to k.own x k.is; short = k.short }
 weaker via Is Is' to ws (Err e) k = λ h. let b = k h in record { more = b.more; x = b.x; is = to (ws ++ b.more) b.x b.is }
 
--- the same behind these words
+-- a result after a prefix of words
 pub shifted : {X : Type 0} (via : Via X) (Is : List Word → X → Type 0) (a ws : List Word) (r : Result X ConfigFault) → Sees via (λ vs x. Is (a ++ vs) x) ws r → Sees via Is (a ++ ws) r
 shifted via Is a ws (Ok x) k = record { own = a ++ k.own; whole = ap (λ (l : List Word). a ++ l) k.whole ∙ sym (append_assoc a k.own (via.rest x)); is = k.is; short = k.short }
 shifted via Is a ws (Err e) k = λ h. let b = k h in record { more = b.more; x = b.x; is = subst (λ (l : List Word). Is l b.x) (sym (append_assoc a ws b.more)) b.is }
 
--- one reading, and another behind it
+-- one reading, followed by another
 module _ {X Y : Type 0} (vx : Via X) (vy : Via Y) (IsX : List Word → X → Type 0) (Is : List Word → Y → Type 0) (next : X → Result Y ConfigFault) where
   pub and_then : (ws : List Word) (r : Result X ConfigFault) → Sees vx IsX ws r → ((own : List Word) (x : X) → IsX own x → IsShort (vx.state x) → Sees vy (λ vs y. Is (own ++ vs) y) (vx.rest x) (next x))
       → ((own : List Word) (x : X) → IsX own x → Begun (λ vs y. Is (own ++ vs) y) []) → Sees vy Is ws (r >>= next)
@@ -96,7 +97,7 @@ module _ {Y : Type 0} (vy : Via Y) (Is : List Word → Y → Type 0) where
       by [] last e = subst (λ (l : Result Located ConfigFault). Sees vy Is [] (token (at l [] s.seen) >>= next)) (sym e) (λ h. some)
       by (t ∷ ts) last e = behind t (at last ts s.seen) e
 
--- the token behind nothing
+-- the next token, with no words before it
 pub token_behind : (s : State) → IsShort s → Sees by_behind (λ own x. own ≡ []) (words_in s) (token s)
 token_behind s short = by s.left.tokens s.left.last short
   where
@@ -116,7 +117,7 @@ module _ {Y : Type 0} (vy : Via Y) (Is : List Word → Y → Type 0) where
       and_then by_state vy (λ own u. own ≡ Punctuation x ∷ []) Is next (words_in s) (symbol_at x s) (symbol_sees x s short)
       (λ own u e short. subst (λ (l : List Word). Sees vy (λ vs y. Is (l ++ vs) y) (words_in u) (next u)) (sym e) (behind u short)) (λ own u e. subst (λ (l : List Word). Begun (λ vs y. Is (l ++ vs) y) []) (sym e) some)
 
--- ---- what a token is
+-- ---- one token's contents
 
 abbrev pub Looks : {K : Type 0} → (K → Type 0) → Result K ConfigFault → Type 0
 Looks P (Ok k) = P k
@@ -126,7 +127,7 @@ pub look_then : {K X : Type 0} (P : K → Type 0) (via : Via X) (Is : List Word 
 look_then P via Is ws (Ok k) next is behind = behind k is
 look_then P via Is ws (Err e) next is behind = λ h. absurd (is h)
 
--- one look after another
+-- one look at a token, followed by another
 pub looks_then : {K L : Type 0} (P : K → Type 0) (Q : L → Type 0) (r : Result K ConfigFault) (next : K → Result L ConfigFault) → Looks P r → ((k : K) → P k → Looks Q (next k)) → Looks Q (r >>= next)
 looks_then P Q (Ok k) next is behind = behind k is
 looks_then P Q (Err e) next is behind = is
@@ -139,7 +140,7 @@ looks_if P false r q a b = b refl
 
 module _ {A : Type 0} (Is : List Word → A → Type 0) (some : Begun Is []) (close : Symbol) (read : List A → Located → State → Result (A × State) ConfigFault)
     (reads : (before : List A) (t : Located) (s : State) → IsShort s → Sees by_pair (λ own x. Is own x.0) (t.word ∷ words_in s) (read before t s)) where
-  -- behind these things, more of them and the closing symbol
+  -- after these items, more of them and the closing symbol
   abbrev pub IsRun : List A → List Word → List A × State → Type 0
   IsRun before own ys = (xs : List A) × (inner : List Word) × (own ≡ inner ++ Punctuation close ∷ []) × (ys.0 ≡ before ++ xs) × Parted Is inner xs
 
@@ -163,7 +164,7 @@ module _ {A : Type 0} (Is : List Word → A → Type 0) (some : Begun Is []) (cl
       (λ e. record { own = t.word ∷ []; whole = refl; is = ap (λ (w : Word). w ∷ []) (mark_is Comma t.word e); short = short })
       (λ no. chosen by_pair IsMore (t.word ∷ words_in u) (is_symbol close t.word) (Ok (false, u)) (fails BadShape t.at) (λ e. record { own = t.word ∷ []; whole = refl; is = ap (λ (w : Word). w ∷ []) (mark_is close t.word e); short = short }) (λ e h. absurd h)))
 
-  -- behind one of them
+  -- after one of the items
   module _ (n : ℕ) (before : List A) (own : List Word) (x : A) (is : Is own x)
       (again : (t : Located) (s : State) → IsShort s → Sees by_pair (IsRun (before ++ x ∷ [])) (t.word ∷ words_in s) (comma_list read close n (before ++ x ∷ []) t s)) where
     comma_some : Begun (λ vs ys. IsRun before (own ++ Punctuation Comma ∷ vs) ys) []

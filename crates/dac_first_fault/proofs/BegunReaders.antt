@@ -1,4 +1,4 @@
--- Names, nodes, applications and permissions, as beginnings.
+-- The readers of names, nodes, applications and permissions: if they reach the end, an item begins so.
 use Rattle.std.proofs.Common.{◌≡◌, ℕ, Bool, true, false, cond, not, ◌&&◌, eqb, ltb, leb, List, [], ◌∷◌, ◌++◌, length, map, Result, Ok, Err, refl, sym, ap, subst, ◌∙◌, codes, inl, inr}
 use Rattle.std.specs.Str.{bytes_eq}
 use Rattle.std.proofs.lemmas.Bool.{ltb-true, eqb-true}
@@ -18,13 +18,13 @@ use Rattle.dac_shapes.specs.laws.Names.{is_named}
 use Rattle.dac_first_fault.proofs.Steps.{mark_is}
 use Rattle.dac_first_fault.proofs.Begun.{Begun, Via, IsShort, words_in, by_pair, Sees, blank, chosen, weaker, shifted, and_then, token_then, symbol_then, Looks, look_then, looks_then, looks_if, IsRun, list_sees, IsClosed, closed_sees, pair_sees}
 
--- what is made of what was read
+-- a function applied to the item that was read
 pub made_sees : {A B : Type 0} (IsA : List Word → A → Type 0) (Is : List Word → B → Type 0) (to : A → B) → ((own : List Word) (x : A) → IsA own x → Is own (to x)) → (ws : List Word) (r : Result (A × State) ConfigFault) → Sees by_pair (λ own x. IsA own x.0) ws r
     → Sees by_pair (λ own (y : B × State). Is own y.0) ws (r >>= λ x. Ok (to x.0, x.1))
 made_sees IsA Is to so ws (Ok x) k = record { own = k.own; whole = k.whole; is = so k.own x.0 k.is; short = k.short }
 made_sees IsA Is to so ws (Err e) k = λ h. let b = k h in record { more = b.more; x = (to b.x.0, blank); is = so (ws ++ b.more) b.x.0 b.is }
 
--- a word before
+-- an item with one more word before it
 pub word_before : {A : Type 0} (Is : List Word → A → Type 0) (w : Word) → Begun (λ vs x. Is (w ∷ vs) x) [] → Begun Is []
 word_before Is w b = record { more = w ∷ b.more; x = b.x; is = b.is }
 

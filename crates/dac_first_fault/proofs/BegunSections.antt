@@ -1,4 +1,4 @@
--- Parameters, sections and a whole file, as beginnings.
+-- The readers of parameters, sections and files: if they reach the end, an item begins so.
 use Rattle.std.proofs.Common.{◌≡◌, ◌≢◌, ℕ, Bool, true, false, cond, eqb, List, [], ◌∷◌, ◌++◌, length, Option, Some, None, Result, Ok, Err, refl, sym, ap, subst, ◌∙◌, append_assoc, codes}
 use Rattle.std.specs.Str.{bytes_eq}
 use Rattle.dac_tokens.specs.declared.fault.ConfigFault.{ConfigFault}
@@ -21,7 +21,7 @@ use Rattle.dac_first_fault.proofs.BegunReaders.{made_sees, word_before, pair_of,
 
 -- ---- names of parameters
 
--- what a parameter's name says of it
+-- the two cases of a parameter's name
 abbrev pub IsFor : List ℕ → Option ParamName → Type 0
 IsFor name (Some known) = name ≡ spelled known
 IsFor name None = (known : ParamName) → name ≢ spelled known
@@ -100,7 +100,7 @@ begun_param = word_before (λ vs x. IsParam (Punctuation OpenTuple ∷ vs) x) (N
 some_param : Begun IsParam []
 some_param = word_before IsParam (Punctuation OpenTuple) begun_param
 
--- what is made of a term that was passed over
+-- an item made after a term was skipped
 passed_made : {A : Type 0} (Is : List Word → A → Type 0) (y : A) → ((vs : List Word) → IsPassed vs → Is vs y) → (ws : List Word) (r : Result State ConfigFault) → Sees by_state (λ own u. IsPassed own) ws r → Seen Is ws (r >>= λ behind. Ok (y, behind))
 passed_made Is y so ws (Ok u) k = record { own = k.own; whole = k.whole; is = so k.own k.is; short = k.short }
 passed_made Is y so ws (Err e) k = λ h. let b = k h in record { more = b.more; x = (y, blank); is = so (ws ++ b.more) b.is }
@@ -172,7 +172,7 @@ section_sees before t s short =
 
 -- ---- a file
 
--- where reading came to the end, a file begins so
+-- if reading reached the end, some file begins so
 abbrev Falls : {X : Type 0} → List Word → Result X ConfigFault → Type 0
 Falls ws (Ok x) = Unit {0}
 Falls ws (Err e) = Halts e.kind → Begun IsFile ws
@@ -217,7 +217,7 @@ file_falls : (s : State) → IsShort s → Falls (words_in s) (file_at s)
 unfolding file_at
 file_falls s short = list_falls (words_in s) (list_of section_at s) (bracketed_sees IsSection some_section section_at section_sees s short)
 
--- a file begins with the words of tokens whose reader comes to their end
+-- if reading a file reaches the end of the tokens, some file begins with their words
 pub file_begun : (ts : List Located) → file_at (at (Err halt) ts nothing) ≡ Err halt → Begun IsFile (words_in (at (Err halt) ts nothing))
 file_begun ts e = by (file_at (at (Err halt) ts nothing)) e (file_falls (at (Err halt) ts nothing) refl)
   where

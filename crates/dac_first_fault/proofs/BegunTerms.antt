@@ -1,4 +1,4 @@
--- Terms that are passed over, as beginnings.
+-- The reader that skips terms: if it reaches the end, a term begins so.
 use Rattle.std.proofs.Common.{◌≡◌, ℕ, zero, suc, true, cond, List, [], ◌∷◌, ◌++◌, Result, Ok, refl, sym, ap, subst, ◌∙◌, append_assoc}
 use Rattle.std.specs.Prelude.{All}
 use Rattle.std.proofs.lemmas.List.Elements.{All-nil, All-cons}
@@ -45,7 +45,7 @@ texts_see (suc n) s short =
 
 -- ---- terms between brackets
 
--- terms parted by commas, and the closing symbol
+-- terms separated by commas, and the closing symbol
 abbrev AreClosed : Symbol → List Word → Type 0
 AreClosed close own = (inner : List Word) × (own ≡ inner ++ Punctuation close ∷ []) × AreTerms inner
 
@@ -88,7 +88,7 @@ module _ (pass : Located → State → Result (Located × State) ConfigFault) (c
       and_then by_behind by_behind (λ own x. IsTerm own) (λ own x. AreClosed close own) (λ b. cond (is_symbol close b.0.word) (token b.1) (cond (is_symbol Comma b.0.word) (token b.1 >>= λ next. terms_at pass close n next.0 next.1) (fails BadShape b.0.at))) (t.word ∷ words_in s) (pass t s) (passes t s short)
       (λ own x is short. mark_sees n (terms_see n) own is x.0 x.1 short) (λ own x is. record { more = Punctuation close ∷ []; x = some_token; is = one_term own is })
 
-  -- what stands between brackets is a term with them
+  -- brackets with their contents are a term
   module _ (left : Symbol) (are : AreBrackets left close) where
     abbrev Inside : List Word → Type 0
     Inside vs = IsTerm (Punctuation left ∷ vs)

@@ -1,4 +1,4 @@
--- Sections that keep every limit may come, and tokens among which nothing stands behind a bad name.
+-- Sections that keep every limit are allowed; and tokens after which only quiet ones follow a bad name.
 use Rattle.std.proofs.Common.{ℕ, suc, ◌+◌, ◌≤◌, Bool, true, false, List, [], ◌∷◌, ◌++◌, arith}
 use Rattle.std.proofs.lemmas.List.Elements.{All-nil}
 use Rattle.dac_tokens.specs.declared.fault.FaultKind.{FaultKind}
@@ -49,9 +49,9 @@ section_may before seen Section.Other k = tt
 pub sections_may : (sections : List Section) → Keeps Every sections → MaySections sections
 sections_may sections k = all_to with_section (SectionKeeps Every) MaySection section_may [] nothing sections k
 
--- ---- places
+-- ---- offsets
 
--- an offset behind all of these
+-- an offset after all of these
 abbrev pub beyond : List Located → ℕ
 beyond [] = 0
 beyond (t ∷ ts) = suc (t.at + beyond ts)
@@ -60,7 +60,7 @@ pub lone_beyond : (bad : ℕ) (Bound : FaultKind → Type 0) (ts : List Located)
 lone_beyond bad Bound [] le = tt
 lone_beyond bad Bound (t ∷ ts) le = (λ e. absurd (omega (arith, e)), lone_beyond bad Bound ts (omega arith))
 
--- behind the last of tokens there is none
+-- no tokens follow the last one
 quiet_none : (w : Word) → QuietBehind w []
 quiet_none (Punctuation OpenList) = All-nil IsQuiet
 quiet_none (Punctuation OpenTuple) = All-nil IsQuiet
@@ -77,7 +77,7 @@ pub lone_last : (bad : ℕ) (Bound : FaultKind → Type 0) (a : List Located) (l
 lone_last bad Bound [] l clear = (λ e. quiet_none l.word, tt)
 lone_last bad Bound (t ∷ a) l clear = (λ e. absurd (clear.0 e), lone_last bad Bound a l clear.1)
 
--- and behind an opening bracket the last one alone
+-- after an opening bracket, only the last token follows
 pub lone_two : (bad : ℕ) (Bound : FaultKind → Type 0) (a : List Located) (o l : Located) → QuietBehind o.word (l ∷ []) → Clear bad a → Lone bad Bound (a ++ o ∷ l ∷ [])
 lone_two bad Bound [] o l quiet clear = (λ e. quiet, (λ e. quiet_none l.word, tt))
 lone_two bad Bound (t ∷ a) o l quiet clear = (λ e. absurd (clear.0 e), lone_two bad Bound a o l quiet clear.1)

@@ -1,4 +1,4 @@
--- Sections that keep limits keep fewer of them too.
+-- Sections that keep some limits also keep any subset of them.
 use Rattle.std.proofs.Common.{ℕ, Bool, true, false, List, []}
 use Rattle.dac_tokens.specs.declared.fault.FaultKind.{FaultKind}
 use Rattle.dac_tokens.specs.declared.fault.FaultKind.TheVariants.{BadShape, TwiceApp, TwiceInList, TooManyNodes, TooManyApps, NameTooLong}

@@ -10,7 +10,7 @@ use Rattle.dac_tokens.specs.declared.token.Symbol.TheVariants.{FullStop}
 use Rattle.dac_tokens.specs.Gives.{◌>>=◌}
 use Rattle.dac_tokens.specs.Words.{Word, Punctuation, Name, Number, Text, End, Located, is_end}
 use Rattle.dac_tokens.specs.Stream.{Stream, tokens_of, end_at as end_of, ended as ended_by, stopped}
-use Rattle.dac_tokens.specs.TokenGrammar.{AreTokensOf, AreSpelled, Spells, depth_behind}
+use Rattle.dac_tokens.specs.TokenGrammar.{AreTokensOf, AreSpelled, Spells, depth_after_word}
 use Rattle.dac_tokens.specs.TokenFaults.{StopAt}
 use Rattle.dac_shapes.specs.Written.{Section, Written, written}
 use Rattle.dac_shapes.specs.Limits.{Seen, nothing, steps, with_section, MaySections}
@@ -21,7 +21,7 @@ use Rattle.dac_shapes.specs.laws.AgainLists.{at, ended}
 use Rattle.dac_shapes.specs.laws.Again.{sections_again}
 use Rattle.dac_first_fault.specs.Loose.{IsLooseSection, IsLooseFile}
 use Rattle.dac_first_fault.specs.Keeps.{Keeps}
-use Rattle.dac_first_fault.specs.FirstFault.{StandsAt, Itself, InList, InTuple, words, CanBegin, CanBring, Only, Before, IsOfName, Breaks, NoKind, CanBeginLoosely, Spoils, Brings, IsWell, IsFileWithinLimits, IsNoName, apps_in, BeginsWith, IsFaultOf, Long, NoToken, Token, Ends, Nobody}
+use Rattle.dac_first_fault.specs.FirstFault.{IsLocatedAt, Itself, InList, InTuple, words, CanBegin, CanCause, Only, Before, IsOfName, Breaks, NoKind, CanBeginLoosely, Spoils, Brings, IsWell, IsFileWithinLimits, IsNoName, apps_in, BeginsWith, IsFaultOf, Long, NoToken, Token, Ends, Nobody}
 use Rattle.dac_first_fault.proofs.Outcomes.{Took, Failed, Asked, Takes, Always, Plain, Gives}
 use Rattle.dac_first_fault.proofs.Steps.{mark_is, symbol_yes, symbol_no, symbol_none, symbol_end}
 use Rattle.dac_first_fault.proofs.Sections.{sections_reader}
@@ -46,7 +46,6 @@ brings_by (Number negative digits) ws k breaks spoils = spoils tt
 brings_by Text ws k breaks spoils = spoils tt
 brings_by End ws k breaks spoils = spoils tt
 
--- words that are quiet hold no name
 quiet_name : (w : Word) → IsQuiet w → IsNoName w
 quiet_name (Name name) quiet = quiet
 quiet_name (Punctuation symbol) quiet = tt
@@ -101,13 +100,13 @@ file_is s = refl
 abbrev Done : List Located → Type 0
 Done ts = (sections : List Section) × IsFile (words ts) sections × MaySections sections
 
--- what fault reading can have where the end is behind these tokens
+-- the possible faults if the text ends after these tokens
 abbrev AtEnd : List Located → ℕ → ConfigFault → Type 0
 AtEnd ts offset e = (e ≡ record { kind = BadShape; at = offset }) ⊎ ((e ≡ record { kind = NoDistributed; at = offset }) × Done ts)
 
--- what reading a file makes of these tokens
+-- the result of reading a file from these tokens
 data Judged (ts : List Located) : Type 0 where
-  By : (a : List Located) (l : Located) (b : List Located) (e : ConfigFault) → ts ≡ a ++ l ∷ b → ((last : Result Located ConfigFault) (rest : List Located) → file_at (at last (a ++ l ∷ rest) nothing) ≡ Err e) → StandsAt a l e → ((p : ConfigFault) → file_at (at (Err p) a nothing) ≡ Err p) → Judged ts
+  By : (a : List Located) (l : Located) (b : List Located) (e : ConfigFault) → ts ≡ a ++ l ∷ b → ((last : Result Located ConfigFault) (rest : List Located) → file_at (at last (a ++ l ∷ rest) nothing) ≡ Err e) → IsLocatedAt a l e → ((p : ConfigFault) → file_at (at (Err p) a nothing) ≡ Err p) → Judged ts
   Unsettled : ((p : ConfigFault) → file_at (at (Err p) ts nothing) ≡ Err p) → ((t : Located) (e : ConfigFault) → t.word ≡ End → file_at (at (Ok t) ts nothing) ≡ Err e → AtEnd ts t.at e) → ((t : Located) (w : Written) → t.word ≡ End → file_at (at (Ok t) ts nothing) ≡ Ok w → Done ts) → Judged ts
 
 no_draft : {A : Type 0} (e : ConfigFault) (w : Written) (r : Result Written ConfigFault) → r ≡ Err e → r ≡ Ok w → A
@@ -137,7 +136,7 @@ no_end_spelled offset bytes (t ∷ ts) is = (no_end_word t.word is.0 is.1 is.2.s
 
 no_end_stopped : (offset depth : ℕ) (bytes : List ℕ) (ts : List Located) (e : ConfigFault) → StopAt offset depth bytes ts e → NoEnd ts
 no_end_stopped offset depth bytes [] e is = tt
-no_end_stopped offset depth bytes (t ∷ ts) e is = (no_end_word t.word is.0 is.1 is.2.spelled, no_end_stopped (t.at + length is.0) (depth_behind depth t.word) is.1 ts e is.4)
+no_end_stopped offset depth bytes (t ∷ ts) e is = (no_end_word t.word is.0 is.1 is.2.spelled, no_end_stopped (t.at + length is.0) (depth_after_word depth t.word) is.1 ts e is.4)
 
 module _ (ts : List Located) (k : Takes Always Plain (λ _. list_of section_at) ts nothing) where
   goes : (last : Result Located ConfigFault) (rest : List Located) → file_at (at last (k.a ++ rest) nothing) ≡ (end_at (at last rest k.after) >>= judged k.x)
@@ -158,7 +157,7 @@ module _ (ts : List Located) (k : Takes Always Plain (λ _. list_of section_at) 
   list_wants : (p : ConfigFault) → file_at (at (Err p) k.a nothing) ≡ Err p
   list_wants p = ap (λ (l : List Located). file_at (at (Err p) l nothing)) (sym (append-nil k.a)) ∙ goes (Err p) [] ∙ ap (λ r. r >>= judged k.x) (end_none p k.after)
 
-  -- what was read is a file that keeps the limits
+  -- the tokens read are a file that keeps the limits
   done : (c : Located) → is_symbol FullStop c.word ≡ true → Done (k.a ++ c ∷ [])
   done c is =
       let ts = k.a ++ c ∷ [] in
@@ -192,7 +191,7 @@ judged_by ts no_end (Asked w) = Unsettled (λ p. file_is (at (Err p) ts nothing)
 -- ---- a file that keeps the limits is read
 
 module _ (order : (sections : List Section) → (MaySections sections ↔ AreWithinLimits sections)) (nodes : (sections : List Section) → (steps with_section nothing sections).met ≡ nodes_in sections) where
-  -- tokens whose reader comes to their end are in order
+  -- if reading reaches the end of the tokens, they are a valid prefix
   well : (ts : List Located) → file_at (at (Err halt) ts nothing) ≡ Err halt → IsWell (words ts)
   well ts e =
       let b = file_begun ts e in
@@ -237,7 +236,7 @@ module _ (order : (sections : List Section) → (MaySections sections ↔ AreWit
       let read = within_judged (end_of (suc e.at)) (a ++ l ∷ rest) is.sections refl (subst (λ (m : List Word). IsFile m is.sections) (sym same) is.file) is.within in
       no_clash e (eqb (apps_in is.sections) 0) (written is.sections (nodes_in is.sections)) (sym read ∙ fault (Ok (end_of (suc e.at))) rest)
 
-  -- reading a file gives a fault that a name brings whose limit it doesn't keep, or that nobody is listed
+  -- reading a file fails only at a name that breaks a limit outside `Kept`, or because no application is listed
   file_read : (end : Located) (Bad : ℕ → Type 0) (Kept : FaultKind → Type 0) (ts : List Located) (sections : List Section) (e : ConfigFault) → end.word ≡ End → IsLooseFile Kept (words ts) sections → Keeps Kept sections → Fine Bad ts → file_at (at (Ok end) ts nothing) ≡ Err e
       → Unkept Bad Kept e.kind e.at ⊎ (e ≡ record { kind = NoDistributed; at = end.at })
   file_read end Bad Kept ts sections e w file keep fine h =
@@ -264,7 +263,7 @@ module _ (order : (sections : List Section) → (MaySections sections ↔ AreWit
   placed_fine bad [] = tt
   placed_fine bad (w ∷ ws) = (λ name is e. absurd (omega (arith, e)), placed_fine bad ws)
 
-  -- what reading makes of a file that goes on behind the token of the fault
+  -- the result of reading a file that continues after the token of the fault
   module _ (a : List Located) (l : Located) (e : ConfigFault) (fault : (last : Result Located ConfigFault) (rest : List Located) → file_at (at last (a ++ l ∷ rest) nothing) ≡ Err e) (Bad : ℕ → Type 0) (Kept : FaultKind → Type 0) where
     goes_on : (offset : ℕ) (more : List Word) (sections : List Section) → IsLooseFile Kept ((words a ++ l.word ∷ []) ++ more) sections → Keeps Kept sections → Fine Bad (a ++ l ∷ map (place_at offset) more) → Unkept Bad Kept e.kind e.at
     goes_on offset more sections file keep fine =
@@ -276,17 +275,17 @@ module _ (order : (sections : List Section) → (MaySections sections ↔ AreWit
           | inr is ↦ let offset : e.at ≡ suc e.at = ap (λ (f : ConfigFault). f.at) is in absurd (omega (arith, offset))
         ]
 
-  no_file : (a : List Located) (l : Located) (e : ConfigFault) → ((last : Result Located ConfigFault) (rest : List Located) → file_at (at last (a ++ l ∷ rest) nothing) ≡ Err e) → StandsAt a l e → IsNoName l.word → Fine (At l.at) a
+  no_file : (a : List Located) (l : Located) (e : ConfigFault) → ((last : Result Located ConfigFault) (rest : List Located) → file_at (at last (a ++ l ∷ rest) nothing) ≡ Err e) → IsLocatedAt a l e → IsNoName l.word → Fine (At l.at) a
       → (more : List Word) (sections : List Section) → IsFile ((words a ++ l.word ∷ []) ++ more) sections → ⊥
   no_file a l e fault stands no_name fine more sections file =
       let all = fine_both (At l.at) a (l ∷ map (place_at (suc l.at)) more) fine (λ name is. absurd (subst IsNoName is no_name), placed_fine l.at more) in
       not_name a l e stands no_name (goes_on a l e fault (At l.at) Strict (suc l.at) more sections (file_loose Strict ((words a ++ l.word ∷ []) ++ more) sections file) (strictly_so sections) all)
 
-  -- no file that keeps the limit of the fault goes on with its token
+  -- no file that keeps the limit of the fault continues with its token
   none_keeps : (a : List Located) (l : Located) (e : ConfigFault) → ((last : Result Located ConfigFault) (rest : List Located) → file_at (at last (a ++ l ∷ rest) nothing) ≡ Err e) → CanBegin (Keeps (Only e.kind)) (words a ++ l.word ∷ []) → ⊥
   none_keeps a l e fault c = not_kept e.kind e.at (goes_on a l e fault Nowhere (Only e.kind) 0 c.more c.sections (file_loose (Only e.kind) ((words a ++ l.word ∷ []) ++ c.more) c.sections c.file) c.keeps (fine_nowhere (a ++ l ∷ map (place_at 0) c.more)))
 
-  -- where reading stopped by the last token, something begins with all of them
+  -- if reading stopped at the last token, some loose file begins with all tokens
   stopped_kept : (bad : ℕ) (Bound : FaultKind → Type 0) (a : List Located) (l : Located) (e : ConfigFault) → ((last : Result Located ConfigFault) (rest : List Located) → file_at (at last (a ++ l ∷ rest) nothing) ≡ Err e) → Lone bad Bound (a ++ l ∷ []) → Stops bad Bound e.kind e.at → (IsQuiet l.word → ⊥)
       → (more : List Word) × (sections : List Section) × IsLooseFile Bound ((words a ++ l.word ∷ []) ++ more) sections × Keeps Bound sections
   stopped_kept bad Bound a l e fault lone stops loud =
@@ -296,24 +295,24 @@ module _ (order : (sections : List Section) → (MaySections sections ↔ AreWit
       let all : words a ++ l.word ∷ [] ≡ k.named = sym same ∙ k.parts ∙ ap (λ (l : List Word). k.named ++ l) none ∙ append-nil k.named in
       (k.begun.more, k.begun.x, subst (λ (m : List Word). IsLooseFile Bound (m ++ k.begun.more) k.begun.x) (sym all) k.begun.is.0, k.begun.is.1)
 
-  -- a file that keeps the limits that count before it begins so
-  first_kept : (a : List Located) (l : Located) (e : ConfigFault) → ((last : Result Located ConfigFault) (rest : List Located) → file_at (at last (a ++ l ∷ rest) nothing) ≡ Err e) → StandsAt a l e → Clear l.at a → IsOfName e.kind → CanBegin (Keeps (Before e.kind)) (words a ++ l.word ∷ [])
+  -- some file that keeps the limits that count before the fault's begins so
+  first_kept : (a : List Located) (l : Located) (e : ConfigFault) → ((last : Result Located ConfigFault) (rest : List Located) → file_at (at last (a ++ l ∷ rest) nothing) ≡ Err e) → IsLocatedAt a l e → Clear l.at a → IsOfName e.kind → CanBegin (Keeps (Before e.kind)) (words a ++ l.word ∷ [])
   first_kept a l e fault stands clear of =
       let n = name_of_it a l e stands of in
       let Bound = Strictly e.kind in
       let k = stopped_kept l.at Bound a l e fault (lone_last l.at Bound a l clear) (stops_so e.kind e.at l.at n.1 of) (λ quiet. subst IsQuiet n.0.1 quiet) in
       record { more = k.0; sections = k.1; file = file_strict Bound (inr tt) (inr tt) (inr tt) (inr tt) ((words a ++ l.word ∷ []) ++ k.0) k.1 k.2; keeps = keeps_fewer (Before e.kind) Bound (λ kind less. inl less) k.1 k.3 }
 
-  breaks : (a : List Located) (l : Located) (e : ConfigFault) → ((last : Result Located ConfigFault) (rest : List Located) → file_at (at last (a ++ l ∷ rest) nothing) ≡ Err e) → StandsAt a l e → Clear l.at a → Breaks (words a ++ l.word ∷ []) e.kind
+  breaks : (a : List Located) (l : Located) (e : ConfigFault) → ((last : Result Located ConfigFault) (rest : List Located) → file_at (at last (a ++ l ∷ rest) nothing) ≡ Err e) → IsLocatedAt a l e → Clear l.at a → Breaks (words a ++ l.word ∷ []) e.kind
   breaks a l e fault stands clear = record { broken = none_keeps a l e fault; first = first_kept a l e fault stands clear }
 
-  -- a fault of shape, with which no file goes on, however loose
+  -- after `BadShape` at a token that is no name, no loose file continues
   none_loosely : (a : List Located) (l : Located) (e : ConfigFault) → ((last : Result Located ConfigFault) (rest : List Located) → file_at (at last (a ++ l ∷ rest) nothing) ≡ Err e) → e ≡ record { kind = BadShape; at = l.at } → IsNoName l.word → Fine (At l.at) a → CanBeginLoosely (words a ++ l.word ∷ []) → ⊥
   none_loosely a l e fault is no_name fine c =
       let all = fine_both (At l.at) a (l ∷ map (place_at (suc l.at)) c.more) fine (λ name same. absurd (subst IsNoName same no_name), placed_fine l.at c.more) in
       (subst (λ (f : ConfigFault). Unkept (At l.at) NoKind f.kind f.at) is (goes_on a l e fault (At l.at) NoKind (suc l.at) c.more c.sections c.file (sections_so NoKind (λ kind limit no. no) c.sections) all)).0 refl
 
-  -- with what a token spoils that is no name a file goes on loosely
+  -- after any other fault at a token that is no name, some loose file continues
   spoilt_so : (bad : ℕ) (a : List Located) (l : Located) (e : ConfigFault) → ((last : Result Located ConfigFault) (rest : List Located) → file_at (at last (a ++ l ∷ rest) nothing) ≡ Err e) → Lone bad NoKind (a ++ l ∷ []) → Stops bad NoKind e.kind e.at → (IsQuiet l.word → ⊥) → CanBeginLoosely (words a ++ l.word ∷ [])
   spoilt_so bad a l e fault lone stops loud = let k = stopped_kept bad NoKind a l e fault lone stops loud in record { more = k.0; sections = k.1; file = k.2 }
 
@@ -324,7 +323,7 @@ module _ (order : (sections : List Section) → (MaySections sections ↔ AreWit
     itself_spoils : (k : FaultKind) (offset : ℕ) → FaultsBy (record { kind = k; at = offset }) → Stops l.at NoKind k offset → (IsQuiet l.word → ⊥) → CanBeginLoosely (words a ++ l.word ∷ [])
     itself_spoils k offset fault stops loud = spoilt_so l.at a l (record { kind = k; at = offset }) fault (lone_last l.at NoKind a l (text_clear text a l begins)) stops loud
 
-    itself_told : (k : FaultKind) (offset : ℕ) → FaultsBy (record { kind = k; at = offset }) → offset ≡ l.at → CanBring k l.word → Spoils (words a ++ l.word ∷ []) k
+    itself_told : (k : FaultKind) (offset : ℕ) → FaultsBy (record { kind = k; at = offset }) → offset ≡ l.at → CanCause k l.word → Spoils (words a ++ l.word ∷ []) k
     itself_told BadShape offset fault e can = none_loosely a l (record { kind = BadShape; at = offset }) fault (ap (λ (n : ℕ). record { kind = BadShape; at = n }) e) no_name (text_fine text a l begins)
     itself_told Unsupported offset fault e can = itself_spoils Unsupported offset fault (e, λ no. no) (λ quiet. subst IsQuiet can quiet)
     itself_told NumberTooLarge offset fault e can = itself_spoils NumberTooLarge offset fault (e, λ no. no) (λ quiet. subst IsQuiet can.1 quiet)
@@ -342,7 +341,7 @@ module _ (order : (sections : List Section) → (MaySections sections ↔ AreWit
         let before : BeginsWith text (front ++ o ∷ []) = subst (λ (ts : List Located). BeginsWith text ts) parts (begins_front text a l begins) in
         spoilt_so o.at a l e fault (subst (λ (ts : List Located). Lone o.at NoKind ts) (sym whole) (lone_two o.at NoKind front o l quiet (text_clear text front o before))) stops loud
 
-    told : (e : ConfigFault) → FaultsBy e → StandsAt a l e → Spoils (words a ++ l.word ∷ []) e.kind
+    told : (e : ConfigFault) → FaultsBy e → IsLocatedAt a l e → Spoils (words a ++ l.word ∷ []) e.kind
     told e fault (Itself offset can) = itself_told e.kind e.at fault offset can
     told e fault (InList front o parts w v k) =
         subst (λ (f : ConfigFault). Spoils (words a ++ l.word ∷ []) f.kind) (sym k)
@@ -351,8 +350,8 @@ module _ (order : (sections : List Section) → (MaySections sections ↔ AreWit
         subst (λ (f : ConfigFault). Spoils (words a ++ l.word ∷ []) f.kind) (sym k)
         (empty_told e front o fault parts (subst (λ (u : Word). QuietBehind u (l ∷ [])) (sym w) (All-nil IsQuiet)) (subst (λ (f : ConfigFault). Stops o.at NoKind f.kind f.at) (sym k) (refl, λ no. no)) (λ quiet. subst IsQuiet v quiet))
 
-  -- with the token of the fault, words aren't in order
-  not_well : (a : List Located) (l : Located) (e : ConfigFault) → ((last : Result Located ConfigFault) (rest : List Located) → file_at (at last (a ++ l ∷ rest) nothing) ≡ Err e) → StandsAt a l e → Fine (At l.at) a → IsWell (words a ++ l.word ∷ []) → ⊥
+  -- with the token of the fault the prefix isn't valid
+  not_well : (a : List Located) (l : Located) (e : ConfigFault) → ((last : Result Located ConfigFault) (rest : List Located) → file_at (at last (a ++ l ∷ rest) nothing) ≡ Err e) → IsLocatedAt a l e → Fine (At l.at) a → IsWell (words a ++ l.word ∷ []) → ⊥
   not_well a l e fault stands fine w = elim (name_or_not l.word) [
     | inl is ↦
         let none = last_named IsNoName (words a) l.word w.named w.rest (λ no_name. subst IsNoName is.1 no_name) w.parts w.no_name in
@@ -411,13 +410,13 @@ module _ (order : (sections : List Section) → (MaySections sections ↔ AreWit
     fault_by e h (By a l b d whole goes stands wants) =
         let same : e ≡ d = same_err d e (file_at (at s.last s.tokens nothing)) (ap (λ (ts : List Located). file_at (at s.last ts nothing)) whole ∙ goes s.last b) h in
         let begins = begins_by s.last refl a l b whole in
-        Token a l short begins (well a (wants halt)) (not_well a l d goes stands (text_fine text a l begins)) (subst (λ (f : ConfigFault). Brings l.word (words a ++ l.word ∷ []) f.kind) (sym same) (brings_by l.word (words a ++ l.word ∷ []) d.kind (breaks a l d goes stands (text_clear text a l begins)) (λ no_name. told text a l begins no_name d goes stands))) (subst (λ (f : ConfigFault). StandsAt a l f) (sym same) stands)
+        Token a l short begins (well a (wants halt)) (not_well a l d goes stands (text_fine text a l begins)) (subst (λ (f : ConfigFault). Brings l.word (words a ++ l.word ∷ []) f.kind) (sym same) (brings_by l.word (words a ++ l.word ∷ []) d.kind (breaks a l d goes stands (text_clear text a l begins)) (λ no_name. told text a l begins no_name d goes stands))) (subst (λ (f : ConfigFault). IsLocatedAt a l f) (sym same) stands)
     fault_by e h (Unsettled more ends files) = wanting_fault e s.last refl h more ends
 
     pub file_fault : (e : ConfigFault) → file_at (at s.last s.tokens nothing) ≡ Err e → IsFaultOf text e
     file_fault e h = fault_by e h (judged_by s.tokens (no_end_by s.last refl) (sections_reader s.tokens nothing))
 
-    -- tokens that are read whole are in order, and a file that keeps the limits
+    -- tokens that are read to the end are a valid prefix, and a file that keeps the limits
     abbrev Whole : Type 0
     Whole = ((e : ConfigFault) → s.last ≡ Err e → ⊥) × IsWell (words s.tokens) × Done s.tokens
 
@@ -432,7 +431,7 @@ module _ (order : (sections : List Section) → (MaySections sections ↔ AreWit
     pub whole_read : (w : Written) → file_at (at s.last s.tokens nothing) ≡ Ok w → Whole
     whole_read w h = whole_by w h (judged_by s.tokens (no_end_by s.last refl) (sections_reader s.tokens nothing))
 
-    -- if none is listed, there is a fault
+    -- if no application is listed, there is a fault
     pub listed_read : (is : IsFileWithinLimits (words s.tokens)) → apps_in is.sections ≡ 0 → s.last ≡ Ok (end_of (length text)) → (w : Written) → file_at (at s.last s.tokens nothing) ≡ Ok w → ⊥
     listed_read is none last w h =
         let end = end_of (length text) in

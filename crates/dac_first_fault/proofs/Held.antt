@@ -1,5 +1,5 @@
--- A reader came to the end of the tokens, or a token spoilt them. Then words up to the last that isn't quiet begin a
--- thing that keeps the limits that are bound.
+-- If a reader reached the end of the tokens, or a token spoilt them, the words up to the last that isn't quiet begin an
+-- item that keeps the bound limits.
 use Rattle.std.proofs.Common.{◌≡◌, ℕ, zero, suc, ◌≤◌, Bool, true, false, cond, List, [], ◌∷◌, ◌++◌, map, Result, Ok, Err, refl, sym, ap, subst, ◌∙◌, append_assoc, append-nil, inl, inr}
 use Rattle.std.specs.Prelude.{◌⊎◌, All}
 use Rattle.std.proofs.lemmas.List.Elements.{All-nil, All-cons, All-append}
@@ -22,7 +22,7 @@ use Rattle.dac_first_fault.proofs.Begun.{halt, words_in, Begun, Via, by_pair}
 abbrev pub words : List Located → List Word
 words ts = map (λ t. t.word) ts
 
--- A word behind which words can't be wrong yet. Names, numbers, strings and closing brackets aren't.
+-- A quiet word, after which a prefix can't be wrong yet: an opening bracket, a comma or a full stop.
 abbrev pub IsQuiet : Word → Type 0
 IsQuiet (Punctuation OpenList) = Unit {0}
 IsQuiet (Punctuation OpenTuple) = Unit {0}
@@ -30,7 +30,7 @@ IsQuiet (Punctuation Comma) = Unit {0}
 IsQuiet (Punctuation FullStop) = Unit {0}
 IsQuiet _ = ⊥
 
--- these words up to the last that isn't quiet begin such a thing
+-- these words up to the last that isn't quiet begin an item of the kind `Is`
 pub record Kept {X : Type 0} (Is : List Word → X → Type 0) (ws : List Word) : Type 0 where
   pub named : List Word
   pub rest : List Word
@@ -41,15 +41,15 @@ pub record Kept {X : Type 0} (Is : List Word → X → Type 0) (ws : List Word) 
 abbrev pub Held : {X : Type 0} → (List Word → X → Type 0) → List Word → Type 0
 Held Is ws = All IsQuiet ws ⊎ Kept Is ws
 
--- words that begin a thing are kept whole
+-- words that begin an item are kept whole
 pub all_kept : {X : Type 0} (Is : List Word → X → Type 0) (ws : List Word) → Begun Is ws → Kept Is ws
 all_kept Is ws b = record { named = ws; rest = []; parts = sym (append-nil ws); quiet = All-nil IsQuiet; begun = b }
 
--- the limit of this fault isn't bound, nor is one that is looked at after it
+-- neither the limit of this fault nor one that counts after it is bound
 abbrev pub Frees : (FaultKind → Type 0) → FaultKind → Type 0
 Frees Bound kind = (other : FaultKind) → rank kind ≤ rank other → rank other ≤ 5 → Bound other → ⊥
 
--- The fault is the end of the tokens, or stands at the offset `bad`, and its limit or shape isn't bound.
+-- The fault is the end of the tokens, or at the offset `bad` with its limit or shape not bound.
 abbrev pub Stops : ℕ → (FaultKind → Type 0) → FaultKind → ℕ → Type 0
 Stops bad Bound TooLong offset = Unit {0}
 Stops bad Bound NameTooLong offset = (offset ≡ bad) × Frees Bound NameTooLong
@@ -63,7 +63,7 @@ Stops bad Bound NumberTooLarge offset = (offset ≡ bad) × (Bound NumberTooLarg
 Stops bad Bound Unsupported offset = (offset ≡ bad) × (Bound Unsupported → ⊥)
 Stops bad Bound _ offset = ⊥
 
--- a thing that may come, and what was seen behind it
+-- an allowed item, with the names seen after it
 abbrev pub Taken : {A : Type 0} → (List Word → A → Type 0) → (Seen → A → Type 0) → (Seen → A → Seen) → Seen → List Word → A × State → Type 0
 Taken Is May step seen own x = Is own x.0 × May seen x.0 × (x.1.seen ≡ step seen x.0)
 
@@ -75,15 +75,14 @@ abbrev pub but_one : List Located → List Located
 but_one [] = []
 but_one (t ∷ ts) = ts
 
--- what stands behind a word is quiet
+-- the words after a word are quiet
 abbrev pub QuietBehind : Word → List Located → Type 0
 QuietBehind (Punctuation OpenList) ts = All IsQuiet (words (but_one ts))
 QuietBehind (Punctuation OpenTuple) ts = All IsQuiet (words (but_one ts))
 QuietBehind _ ts = All IsQuiet (words ts)
 
 module _ (bad : ℕ) (Bound : FaultKind → Type 0) where
-  -- Only quiet words stand behind a token at the offset `bad`. If it is an opening bracket, another token is before
-  -- them.
+  -- Only quiet words follow a token at the offset `bad`; if it is an opening bracket, they follow one more token.
   abbrev pub Alone : Located → List Located → Type 0
   Alone t ts = t.at ≡ bad → QuietBehind t.word ts
 
@@ -91,14 +90,14 @@ module _ (bad : ℕ) (Bound : FaultKind → Type 0) where
   Lone [] = Unit {0}
   Lone (t ∷ ts) = Alone t ts × Lone ts
 
-  -- these tokens end, and so they are
+  -- these tokens end with the fault `halt`, and only quiet ones follow a bad one
   abbrev pub Over : List Located → Result Located ConfigFault → Type 0
   Over ts last = (last ≡ Err halt) × Lone ts
 
   abbrev pub IsOver : State → Type 0
   IsOver s = Over s.left.tokens s.left.last
 
-  -- this was read of these words
+  -- a result was read from these words
   pub record Had {X : Type 0} (via : Via X) (Is : List Word → X → Type 0) (ws : List Word) (x : X) : Type 0 where
     pub own : List Word
     pub whole : ws ≡ own ++ via.rest x
@@ -109,7 +108,7 @@ module _ (bad : ℕ) (Bound : FaultKind → Type 0) where
   Holds via Is ws (Ok x) = Had via Is ws x
   Holds via Is ws (Err e) = Stops bad Bound e.kind e.at → Held Is ws
 
-  -- what a token says, or what follows where it breaks a limit
+  -- the contents of a token, or the consequence if it breaks a limit
   abbrev pub Shows : {K : Type 0} → Type 0 → (K → Type 0) → Result K ConfigFault → Type 0
   Shows Q P (Ok k) = P k
   Shows Q P (Err e) = Stops bad Bound e.kind e.at → Q
@@ -126,15 +125,15 @@ module _ (bad : ℕ) (Bound : FaultKind → Type 0) where
   shows_to Q R P to (Ok k) is = is
   shows_to Q R P to (Err e) is = λ h. to (is h)
 
-  -- a name that broke a limit, and still says what it says
+  -- a name that broke a limit, with the contents it would have
   abbrev pub Unfit : (K : Type 0) → (Word → K → Type 0) → Located → Type 0
   Unfit K Says t = (name : List ℕ) × (t.word ≡ Name name) × (t.at ≡ bad) × ((k : K) × Says t.word k)
 
-  -- a token that stands last and begins a thing
+  -- the last token begins an item
   pub spoilt : {X : Type 0} (Is : List Word → X → Type 0) (t : Located) (ts : List Located) → All IsQuiet (words ts) → Begun Is (t.word ∷ []) → Held Is (t.word ∷ words ts)
   spoilt Is t ts quiet b = inr (record { named = t.word ∷ []; rest = words ts; parts = refl; quiet = quiet; begun = b })
 
-  -- such a name that stands last
+  -- a name that broke a limit, as the last token
   pub broken : {X : Type 0} (Is : List Word → X → Type 0) (t : Located) (ts : List Located) → Alone t ts → (name : List ℕ) → t.word ≡ Name name → t.at ≡ bad → Begun (λ vs x. Is (t.word ∷ vs) x) [] → Held Is (t.word ∷ words ts)
   broken Is t ts alone name is e b = spoilt Is t ts (subst (λ (w : Word). QuietBehind w ts) is (alone e)) (record { more = b.more; x = b.x; is = b.is })
 
@@ -153,7 +152,6 @@ module _ (bad : ℕ) (Bound : FaultKind → Type 0) where
       | inr q ↦ inr (kept_to ws q)
     ]
 
-  -- behind other words
   module _ {X : Type 0} (via : Via X) (Is : List Word → X → Type 0) (a : List Word) where
     kept_behind : (ws : List Word) → Kept (λ vs x. Is (a ++ vs) x) ws → Kept Is (a ++ ws)
     kept_behind ws k = record {
@@ -167,7 +165,7 @@ module _ (bad : ℕ) (Bound : FaultKind → Type 0) where
     read_behind : (ws : List Word) (x : X) → Had via (λ vs x. Is (a ++ vs) x) ws x → Had via Is (a ++ ws) x
     read_behind ws x k = record { own = a ++ k.own; whole = ap (λ (l : List Word). a ++ l) k.whole ∙ sym (append_assoc a k.own (via.rest x)); is = k.is; short = k.short }
 
-    -- words without a name
+    -- after words without a name
     pub behind_marks : All IsQuiet a → (ws : List Word) (r : Result X ConfigFault) → Holds via (λ vs x. Is (a ++ vs) x) ws r → Holds via Is (a ++ ws) r
     behind_marks none ws (Ok x) k = read_behind ws x k
     behind_marks none ws (Err e) k = λ h. elim (k h) [
@@ -175,7 +173,7 @@ module _ (bad : ℕ) (Bound : FaultKind → Type 0) where
       | inr q ↦ inr (kept_behind ws q)
     ]
 
-    -- words that begin a thing themselves
+    -- after words that begin an item themselves
     pub behind_names : Begun Is a → (ws : List Word) (r : Result X ConfigFault) → Holds via (λ vs x. Is (a ++ vs) x) ws r → Holds via Is (a ++ ws) r
     behind_names b ws (Ok x) k = read_behind ws x k
     behind_names b ws (Err e) k = λ h. elim (k h) [
@@ -186,7 +184,7 @@ module _ (bad : ℕ) (Bound : FaultKind → Type 0) where
   pub behind_mark : {X : Type 0} (via : Via X) (Is : List Word → X → Type 0) (x : Symbol) → IsQuiet (Punctuation x) → (ws : List Word) (r : Result X ConfigFault) → Holds via (λ vs y. Is (Punctuation x ∷ vs) y) ws r → Holds via Is (Punctuation x ∷ ws) r
   behind_mark via Is x quiet ws r k = behind_marks via Is (Punctuation x ∷ []) (All-cons IsQuiet (Punctuation x) [] quiet (All-nil IsQuiet)) ws r k
 
-  -- one reading, and another behind it
+  -- one reading, followed by another
   module _ {X Y : Type 0} (vx : Via X) (vy : Via Y) (IsX : List Word → X → Type 0) (Is : List Word → Y → Type 0) (next : X → Result Y ConfigFault) where
     module _ (ends : (own : List Word) (x : X) → IsX own x → Begun (λ vs y. Is (own ++ vs) y) []) where
       kept_then : (ws : List Word) → Kept IsX ws → Kept Is ws
@@ -221,7 +219,7 @@ module _ (bad : ℕ) (Bound : FaultKind → Type 0) where
     abbrev Next : State → Symbol → (State → Result Y ConfigFault) → Type 0
     Next s x next = (ts : List Located) (last : Result Located ConfigFault) → Over ts last → Holds vy (λ vs y. Is (Punctuation x ∷ vs) y) (words ts) (next (at last ts s.seen))
 
-    -- a symbol that is quiet, or that ends a thing
+    -- a symbol that is quiet, or that ends an item
     abbrev pub Goes : Symbol → Type 0
     Goes x = IsQuiet (Punctuation x) ⊎ Begun Is (Punctuation x ∷ [])
 
@@ -259,7 +257,7 @@ module _ (bad : ℕ) (Bound : FaultKind → Type 0) where
       (Inv : Seen → Type 0) (keep : (before : List A) (seen : Seen) (x : A) → Inv seen → May before seen x → Inv (step seen x))
       (reads : (before : List A) (t : Located) (s : State) → Alone t s.left.tokens → IsOver s → Inv s.seen → Holds by_pair (Taken Is (May before) step s.seen) (t.word ∷ words_in s) (read before t s)) where
     module _ (close : Symbol) where
-      -- behind these things, more of them that may come, and the closing symbol
+      -- after these items, more that are allowed, and the closing symbol
       abbrev pub IsHeldRun : List A → Seen → List Word → List A × State → Type 0
       IsHeldRun before seen own ys = (xs : List A) × (inner : List Word) × (own ≡ inner ++ Punctuation close ∷ []) × (ys.0 ≡ before ++ xs) × Parted Is inner xs × AllMay step May before seen xs × (ys.1.seen ≡ steps step seen xs)
 
@@ -296,7 +294,6 @@ module _ (bad : ℕ) (Bound : FaultKind → Type 0) where
           (list_held n (before ++ x.0 ∷ []) t (at last ts x.1.seen) alone e (subst Inv (sym k.2) (keep before s.seen x.0 inv k.1)))))
           (λ ts last e. record { own = []; whole = refl; is = close_one before s.seen own x k (at last ts x.1.seen) refl; short = e }))
 
-    -- a list in brackets
     abbrev pub IsHeldList : Seen → List Word → List A × State → Type 0
     IsHeldList seen own xs = IsListOf Is own xs.0 × AllMay step May [] seen xs.0 × (xs.1.seen ≡ steps step seen xs.0)
 

@@ -1,4 +1,4 @@
--- A whole file that keeps the limits that are bound, up to the last word that isn't quiet.
+-- A whole file that keeps the bound limits, up to the last word that isn't quiet.
 use Rattle.std.proofs.Common.{◌≡◌, ℕ, Bool, true, false, cond, eqb, List, [], ◌∷◌, ◌++◌, length, Result, Ok, Err, refl, sym, subst, append_assoc, inl, inr}
 use Rattle.std.specs.Prelude.{All}
 use Rattle.std.proofs.lemmas.List.Elements.{All-nil, All-cons}
@@ -20,11 +20,11 @@ use Rattle.dac_first_fault.proofs.Held.{words, IsQuiet, Kept, Stops, Lone, Holds
 use Rattle.dac_first_fault.proofs.HeldSections.{AreSections, sections_held}
 
 module _ (bad : ℕ) (Bound : FaultKind → Type 0) where
-  -- a file that keeps the limits that are bound
+  -- a file that keeps the bound limits
   abbrev pub KeptFile : List Word → List Section → Type 0
   KeptFile ws sections = IsLooseFile Bound ws sections × Keeps Bound sections
 
-  -- where reading stopped, these words are quiet
+  -- if reading stopped, these words are quiet
   abbrev Quiet : {X : Type 0} → List Word → Result X ConfigFault → Type 0
   Quiet ws (Ok x) = Unit {0}
   Quiet ws (Err e) = Stops bad Bound e.kind e.at → All IsQuiet ws
@@ -97,7 +97,7 @@ module _ (bad : ℕ) (Bound : FaultKind → Type 0) where
   unfolding file_at
   file_falls ts lone = list_falls (words ts) (list_of section_at (at (Err halt) ts nothing)) (sections_held bad Bound ts lone)
 
-  -- up to the last word that isn't quiet, a file that keeps them begins with the words of tokens whose reading stopped
+  -- if reading stopped, a file that keeps the bound limits begins with the words up to the last that isn't quiet
   pub file_kept : (ts : List Located) → Lone bad Bound ts → (e : ConfigFault) → Stops bad Bound e.kind e.at → file_at (at (Err halt) ts nothing) ≡ Err e → Kept KeptFile (words ts)
   file_kept ts lone e stops is = by (file_at (at (Err halt) ts nothing)) is (file_falls ts lone)
     where

@@ -1,4 +1,4 @@
--- Nodes, applications and permissions that keep the limits that are bound, up to the last word that isn't quiet.
+-- Nodes, applications and permissions that keep the bound limits, up to the last word that isn't quiet.
 use Rattle.std.proofs.Common.{◌≡◌, ℕ, ◌<◌, ◌≤◌, Bool, true, false, cond, not, ◌&&◌, ◌||◌, eqb, ltb, leb, List, [], ◌∷◌, ◌++◌, length, map, Result, Ok, Err, refl, sym, ap, subst, ◌∙◌, inl, inr, codes, arith}
 use Rattle.std.specs.Prelude.{All}
 use Rattle.std.specs.Str.{bytes_eq}
@@ -28,7 +28,7 @@ use Rattle.dac_first_fault.proofs.BegunReaders.{not_less, pair_is}
 use Rattle.dac_first_fault.proofs.Held.{words, IsQuiet, Held, Frees, Stops, QuietBehind, but_one, Alone, Over, IsOver, Holds, Shows, shows_then, shows_if, Unfit, spoilt, broken, held_if, held_to, held_then, held_look, behind_mark, behind_names, token_held, symbol_held, Taken, IsHeldRun, list_held, IsHeldClosed, closed_held, pair_held}
 
 module _ (bad : ℕ) (Bound : FaultKind → Type 0) where
-  -- what is made of what was read
+  -- a function applied to the item that was read
   pub made_held : {A B : Type 0} (P : List Word → A × State → Type 0) (Q : List Word → B × State → Type 0) (to : A → B) → ((own : List Word) (x : A) (u : State) → P own (x, u) → Q own (to x, u)) → (ws : List Word) (r : Result (A × State) ConfigFault) → Holds bad Bound by_pair P ws r
       → Holds bad Bound by_pair Q ws (r >>= λ x. Ok (to x.0, x.1))
   made_held P Q to so ws (Ok x) k = record { own = k.own; whole = k.whole; is = so k.own x.0 x.1 k.is; short = k.short }
@@ -37,7 +37,7 @@ module _ (bad : ℕ) (Bound : FaultKind → Type 0) where
     | inr q ↦ inr (record { named = q.named; rest = q.rest; parts = q.parts; quiet = q.quiet; begun = record { more = q.begun.more; x = (to q.begun.x.0, q.begun.x.1); is = so (q.named ++ q.begun.more) q.begun.x.0 q.begun.x.1 q.begun.is } })
   ]
 
-  -- ---- a node that may come at the start of any list
+  -- ---- a node that is allowed at the start of any list
 
   abbrev pub Good : Seen → Type 0
   Good seen = (name : List ℕ) × NodeKeeps Bound false (listing seen) name
@@ -121,7 +121,7 @@ module _ (bad : ℕ) (Bound : FaultKind → Type 0) where
   shortly_shows Q t long = shows_then bad Bound Q (IsName t.word) (IsShortly t.word) (atom_of t) (λ name. cond (ltb 255 (length name)) (fails NameTooLong t.at) (Ok name)) (atom_shows Q t)
       (λ name e. shows_if bad Bound Q (IsShortly t.word) (ltb 255 (length name)) (fails NameTooLong t.at) (Ok name) (λ is h. long name e h) (λ short. (e, ltb-false 255 (length name) short)))
 
-  -- a name of an application that may come behind these
+  -- an application's name that is allowed after these
   record IsFine (before : List App) (w : Word) (name : List ℕ) : Type 0 where
     pub is : w ≡ Name name
     pub short : Bound NameTooLong → length name ≤ 255
@@ -203,7 +203,7 @@ module _ (bad : ℕ) (Bound : FaultKind → Type 0) where
       (λ e. subst (λ (w : Word). Holds bad Bound by_pair (Item s.seen) (w ∷ words_in s) tuple) (sym (mark_is OpenTuple t.word e)) (behind_mark bad Bound by_pair (Item s.seen) OpenTuple tt (words_in s) tuple (tuple_held t s.seen s.left.tokens s.left.last (λ offset. subst (λ (w : Word). QuietBehind w s.left.tokens) (mark_is OpenTuple t.word e) (alone offset)) short)))
       (λ e. made_held (Taken IsNode (NodeKeeps Bound false) with_node s.seen) (Item s.seen) (λ name. name ∷ []) (λ own name u k. (inl (inl (name, k.0, refl)), (k.1, tt), k.2)) (t.word ∷ words_in s) (node_of false t s) (node_held false t s alone short))
 
-  -- the names of a node list begin anew
+  -- a node list begins with no names listed
   abbrev with_list : Seen → List (List (List ℕ)) → Seen
   with_list seen groups = with_groups (listing seen) groups
 
@@ -237,7 +237,7 @@ module _ (bad : ℕ) (Bound : FaultKind → Type 0) where
 
   -- ---- applications
 
-  -- the token behind a timeout is left
+  -- the token after a timeout remains
   abbrev by_first : Via (ℕ × Located × State)
   by_first = record { rest = λ x. x.1.word ∷ words_in x.2; state = λ x. at x.2.left.last (x.1 ∷ x.2.left.tokens) x.2.seen }
 
@@ -278,7 +278,7 @@ module _ (bad : ℕ) (Bound : FaultKind → Type 0) where
       may_app : (n : ℕ) (groups : List (List (List ℕ))) → MayList seen groups → AppKeeps Bound before seen (app_with n groups)
       may_app n groups may = record { short = fine.short; once = fine.once; few = fine.few; nodes = may }
 
-      -- its only node is one that may come at the start of any list
+      -- its only node is one that is allowed at the start of any list
       abbrev only : ℕ → App
       only n = app_with n ((good.0 ∷ []) ∷ [])
 
@@ -320,7 +320,6 @@ module _ (bad : ℕ) (Bound : FaultKind → Type 0) where
 
   -- ---- permissions
 
-  -- a name of a permission
   abbrev IsNamely : Word → List ℕ → Type 0
   IsNamely w name = (w ≡ Name name) × (Bound NameTooLong → length name ≤ 255)
 

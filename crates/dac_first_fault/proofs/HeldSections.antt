@@ -1,4 +1,4 @@
--- Parameters and sections that keep the limits that are bound, up to the last word that isn't quiet.
+-- Parameters and sections that keep the bound limits, up to the last word that isn't quiet.
 use Rattle.std.proofs.Common.{◌≡◌, ◌≢◌, ℕ, zero, suc, Bool, true, false, cond, List, [], ◌∷◌, ◌++◌, Option, Some, None, Result, Ok, Err, refl, sym, ap, subst, ◌∙◌, inr, codes, inl, ◌≤◌}
 use Rattle.std.specs.Str.{bytes_eq}
 use Rattle.dac_tokens.specs.declared.fault.ConfigFault.{ConfigFault}
@@ -28,9 +28,9 @@ use Rattle.dac_first_fault.proofs.Held.{words, Held, all_kept, Stops, QuietBehin
 use Rattle.dac_first_fault.proofs.HeldReaders.{made_held, Good, good_nothing, good_steps, good_nodes, good_app, atom_shows, ms_shows, node_held, Any, app_held, permission_held}
 
 module _ (bad : ℕ) (Bound : FaultKind → Type 0) where
-  -- ---- a term leaves what was seen, and tokens that are over
+  -- ---- a skipped term changes no names, and the remaining tokens satisfy `IsOver`
 
-  -- what was seen, and tokens left that are over
+  -- the names seen are unchanged, and the remaining tokens satisfy `IsOver`
   abbrev Steady : Seen → State → Type 0
   Steady seen s = (s.seen ≡ seen) × IsOver bad Bound s
 
@@ -103,7 +103,7 @@ module _ (bad : ℕ) (Bound : FaultKind → Type 0) where
       (λ f k. stays_then behind (λ u. u) s.seen (term_at (suc (room s)) f.0 f.1) (λ b. cond (is_symbol CloseTuple b.0.word) (Ok b.1) (fails BadShape b.0.at)) (term_stays s.seen (suc (room s)) f.0 f.1 k)
       (λ b k. stays_if (λ u. u) s.seen (is_symbol CloseTuple b.0.word) (Ok b.1) (fails BadShape b.0.at) k (no_stay (λ u. u) s.seen b.0.at)))
 
-  -- what is made of a term that was passed over
+  -- an item made after a term was skipped
   module _ {A : Type 0} (Is : List Word → A × State → Type 0) (seen : Seen) (y : A) (so : (vs : List Word) (u : State) → IsPassed vs → u.seen ≡ seen → Is vs (y, u)) where
     passed_made : (ws : List Word) (r : Result State ConfigFault) → Sees by_state (λ own u. IsPassed own) ws r → Stays (λ u. u) seen r → Holds bad Bound by_pair Is ws (r >>= λ b. Ok (y, b))
     passed_made ws (Ok u) k e = record { own = k.own; whole = k.whole; is = so k.own u k.is e.0; short = e.1 }
@@ -112,9 +112,9 @@ module _ (bad : ℕ) (Bound : FaultKind → Type 0) where
     passed_held : (ts : List Located) (last : Result Located ConfigFault) → Over bad Bound ts last → Holds bad Bound by_pair Is (words ts) (passed_at (at last ts seen) >>= λ b. Ok (y, b))
     passed_held ts last e = passed_made (words ts) (passed_at (at last ts seen)) (passed_sees (at last ts seen) e.0) (passed_stays (at last ts seen) e)
 
-  -- ---- what the names of parameters say
+  -- ---- names of parameters
 
-  -- what a parameter's name says of it behind these
+  -- the two cases of a parameter's name after these parameters
   abbrev IsNext : List Param → Option ParamName → Type 0
   IsNext before (Some known) = Bound BadShape → has_param known before ≡ false
   IsNext before None = Unit {0}
@@ -131,11 +131,10 @@ module _ (bad : ℕ) (Bound : FaultKind → Type 0) where
     unfolding param_name_of
     param_shows before t = shows_then bad Bound Q (λ name. t.word ≡ Name name) (Says before t.word) (atom_of t) (λ name. first_param before t.at (param_named name)) (atom_shows bad Bound Q t) (λ name e. first_shows before t.word t.at name e (param_named name) refl)
 
-  -- what is so where a second one of its kind is told apart
+  -- whether a second one of its kind is detected
   abbrev Once : Bool → Type 0
   Once twice = Bound BadShape → twice ≡ false
 
-  -- how long to wait
   module _ (Q : Type 0) (w : Word) (offset : ℕ) (spoils : (digits : List ℕ) → w ≡ Number false digits → 4294967296 ≤ value_from 0 digits → Stops bad Bound NumberTooLarge offset → Q) where
     wait_by : (v : Word) → w ≡ v → Shows bad Bound Q (λ wait. IsLooseWait Bound (v ∷ []) wait) (wait_of (record { word = v; at = offset }))
     unfolding wait_of
@@ -154,7 +153,7 @@ module _ (bad : ℕ) (Bound : FaultKind → Type 0) where
   once_as before name once b other e = let same : name ≡ other = cc in subst (λ (n : ParamName). has_param n before ≡ false) same (once b)
 
   module _ (before : List Param) (seen : Seen) (good : (Good bad Bound) seen) where
-    -- the value of the parameter of this name, which may come
+    -- the value of the parameter of this name, which is allowed
     abbrev IsValue : ParamName → List Word → Param → Seen → Type 0
     IsValue name own p after = IsLooseParam Bound (pair_of (spelled name) own) p × ParamKeeps Bound before seen p × (after ≡ with_param seen p)
 
@@ -188,7 +187,7 @@ module _ (bad : ℕ) (Bound : FaultKind → Type 0) where
         (record { more = []; x = (Timeout (Ms (value_from 0 digits)), at (Err halt) [] seen); is = ((t.word ∷ [], refl, (t.word, refl, inr (h.1, digits, is, refl, large))), record { once = once_as before named.Timeout once; value = tt }, refl) })) t.word refl)
         (λ wait is. record { own = t.word ∷ []; whole = refl; is = ((t.word ∷ [], refl, is), record { once = once_as before named.Timeout once; value = tt }, refl); short = e }))
 
-    -- a value of which nothing is listed
+    -- a value of which no token has been read
     abbrev Some_value : ParamName → Type 0
     Some_value name = Begun (λ own (x : Param × State). IsValue name own x.0 x.1.seen) []
 
@@ -307,7 +306,7 @@ module _ (bad : ℕ) (Bound : FaultKind → Type 0) where
   good_section before seen (Kernel params) good may = good_steps bad Bound with_param (ParamKeeps Bound) good_param [] seen params good may.params
   good_section before seen Section.Other good may = good
 
-  -- a list of sections that may come
+  -- a list of sections that are allowed
   abbrev pub AreSections : List Word → List Section × State → Type 0
   AreSections own xs = IsListOf (IsLooseSection Bound) own xs.0 × Keeps Bound xs.0 × (xs.1.seen ≡ steps with_section nothing xs.0)
 

@@ -1,4 +1,4 @@
--- Readers of lists.
+-- Readers of lists: their results depend only on the tokens that they take.
 use Rattle.std.proofs.Common.{◌≡◌, ℕ, zero, suc, ◌<◌, ◌≤◌, Bool, true, false, cond, List, [], ◌∷◌, ◌++◌, length, Result, Ok, Err, refl, sym, ap, subst, ◌∙◌, append_assoc, append-nil, length-append, arith}
 use Rattle.dac_tokens.specs.declared.fault.ConfigFault.{ConfigFault}
 use Rattle.dac_tokens.specs.declared.fault.FaultKind.TheVariants.{BadShape}
@@ -41,7 +41,7 @@ more_end : (close : Symbol) (t : Located) (seen : Seen) → t.word ≡ End → m
 unfolding more_at
 more_end close t seen w = rw w refl
 
--- room for so many tokens
+-- the bound n suffices for l tokens
 abbrev pub Fits : ℕ → ℕ → Type 0
 Fits n l = l ≤ n
 
@@ -83,7 +83,7 @@ module _ {A : Type 0} (read : List A → Located → State → Result (A × Stat
   fail_run before zero a l rest last seen e le is = absurd (omega (arith, length-append a (l ∷ rest)))
   fail_run before (suc n) a l rest last seen e le is = failing before n (at last (a ++ l ∷ rest) seen) e is
 
-  -- behind the first thing
+  -- after the first item
   module _ (before : List A) (us : List Located) (seen : Seen) (t : Takes Always Plain (λ _. one before) us seen) where
     goes_on : (n : ℕ) (last : Result Located ConfigFault) (c : Located) (rest : List Located) → run before (suc n) (at last (t.a ++ c ∷ rest) seen) ≡ behind n before (t.x, at last (c ∷ rest) t.after)
     goes_on n last c rest = stepped before n (at last (t.a ++ c ∷ rest) seen) ∙ ap (λ r. r >>= behind n before) (t.goes tt last (c ∷ rest) tt)
@@ -150,7 +150,7 @@ module _ {A : Type 0} (read : List A → Located → State → Result (A × Stat
     pub list_reader : (before : List A) (us : List Located) (seen : Seen) → Outcome Fits Plain (run before) us seen
     list_reader before us seen = up_to (length us) before us seen (omega arith)
 
--- ---- a list with all the room that there is, and a list in brackets
+-- ---- a list with the bound of the remaining tokens, and a list in brackets
 
 module _ {A : Type 0} (read : List A → Located → State → Result (A × State) ConfigFault) (close : Symbol) (reads : (before : List A) → IsReader (λ s. token s >>= λ q. read before q.0 q.1))
     (ends : (before : List A) (t : Located) (s : State) → t.word ≡ End → read before t s ≡ fails BadShape t.at) where
@@ -161,7 +161,7 @@ module _ {A : Type 0} (read : List A → Located → State → Result (A × Stat
   pub whole_end : (t : Located) (s : State) → t.word ≡ End → comma_list read close (room s) [] t s ≡ fails BadShape t.at
   whole_end t s w = list_end (length s.left.tokens) t s w
 
-  -- any reader that goes on as a list from the token t on
+  -- a reader that from the token t behaves as a list
   pub as_list : (f : Reader (List A)) (t : Located) (b : List Located) (seen other : Seen) → ((last : Result Located ConfigFault) (rest : List Located) → f (at last (t ∷ rest) seen) ≡ comma_list read close (room (at last rest other)) [] t (at last rest other)) → Wanting f [] seen → Gives f (t ∷ b) seen
   as_list f t b seen other same wants =
       alike Always Fits Plain (λ _. f) (run read close []) t b seen other (λ i last rest always. (suc (length rest), omega arith, same last rest)) wants (list_reader read close reads [] (t ∷ b) other)

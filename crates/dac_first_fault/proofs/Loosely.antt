@@ -1,4 +1,4 @@
--- What has the shape of a configuration has it loosely too.
+-- A shape of a configuration is also a loose shape.
 use Rattle.std.proofs.Common.{ℕ, List, [], ◌∷◌, inl, inr}
 use Rattle.dac_tokens.specs.declared.fault.FaultKind.{FaultKind}
 use Rattle.dac_tokens.specs.declared.fault.FaultKind.TheVariants.{Unsupported, EmptyList, EmptyTuple, NumberTooLarge}
@@ -55,7 +55,7 @@ module _ (Kept : FaultKind → Type 0) where
   pub file_loose : (ws : List Word) (sections : List Section) → IsFile ws sections → IsLooseFile Kept ws sections
   file_loose ws sections p = (p.0, p.1, list_to IsSection (IsLooseSection Kept) section_loose p.0 sections p.2)
 
--- and the other way, where all that may be let pass is kept
+-- a loose shape is a strict one if nothing is tolerated
 module _ (Kept : FaultKind → Type 0) (tuple : Kept EmptyTuple) (list : Kept EmptyList) (number : Kept NumberTooLarge) (file : Kept Unsupported) where
   item_strict : (ws : List Word) (group : List (List ℕ)) → IsLooseItem Kept ws group → IsItem ws group
   item_strict ws group p = elim p [

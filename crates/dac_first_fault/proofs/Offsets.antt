@@ -1,4 +1,4 @@
--- Where the names of a text stand, and where a fault that they don't bring.
+-- Offsets of names, and of faults that names don't cause.
 use Rattle.std.proofs.Common.{◌≡◌, ℕ, ◌+◌, ◌<◌, ◌≤◌, List, [], ◌∷◌, ◌++◌, length, refl, sym, ap, subst, ◌∙◌, append_assoc, length-append, arith, inl, inr, true, false}
 use Rattle.std.specs.Prelude.{◌⊎◌, All}
 use Rattle.std.specs.Char.{IsAsciiDigit, IsAsciiLowercase}
@@ -8,14 +8,13 @@ use Rattle.dac_tokens.specs.declared.fault.FaultKind.{FaultKind}
 use Rattle.dac_tokens.specs.declared.fault.FaultKind.TheVariants as kind
 use Rattle.dac_tokens.specs.declared.token.Symbol.TheVariants.{OpenList, CloseList, OpenTuple, CloseTuple, Comma, FullStop}
 use Rattle.dac_tokens.specs.Words.{Word, Punctuation, Name, Number, Text, End, Located}
-use Rattle.dac_tokens.specs.TokenGrammar.{AreTokensOf, AreSpelled, Spells, Begins, depth_behind}
+use Rattle.dac_tokens.specs.TokenGrammar.{AreTokensOf, AreSpelled, Spells, Begins, depth_after_word}
 use Rattle.dac_tokens.specs.TokenFaults.{StopAt}
-use Rattle.dac_first_fault.specs.FirstFault.{StandsAt, Itself, InList, InTuple, CanBring, IsNoName, BeginsWith, Only, Before, IsOfName, rank}
+use Rattle.dac_first_fault.specs.FirstFault.{IsLocatedAt, Itself, InList, InTuple, CanCause, IsNoName, BeginsWith, Only, Before, IsOfName, rank}
 use Rattle.dac_first_fault.proofs.Past.{Unkept, Fine}
 use Rattle.dac_first_fault.proofs.Held.{Frees, Stops}
 use Rattle.dac_first_fault.proofs.Spared.{Strict}
 
--- this offset alone
 abbrev pub At : ℕ → ℕ → Type 0
 At bad offset = offset ≡ bad
 
@@ -50,14 +49,14 @@ none_behind : (a b : List Word) → [] ≡ a ++ b → b ≡ []
 none_behind [] b e = sym e
 none_behind (v ∷ a) b e = absurd cc
 
--- behind words of which the last isn't so there is nothing of which all is so
+-- if the last word doesn't have the property, no suffix has it in all its words
 pub last_named : (P : Word → Type 0) (a : List Word) (w : Word) (named rest : List Word) → (P w → ⊥) → a ++ w ∷ [] ≡ named ++ rest → All P rest → rest ≡ []
 last_named P a w [] rest loud e all = absurd (loud (all_last P a w (subst (λ (l : List Word). All P l) (sym e) all)))
 last_named P [] w (v ∷ named) rest loud e all = none_behind named rest (cons_tail w v [] (named ++ rest) e)
 last_named P (u ∷ a) w (v ∷ named) rest loud e all = last_named P a w named rest loud (cons_tail u v (a ++ w ∷ []) (named ++ rest) e) all
 
--- a fault at a token that is no name is none of a name
-kind_not : (k : FaultKind) (w : Word) (bad offset : ℕ) → offset ≡ bad → CanBring k w → IsNoName w → Unkept (At bad) Strict k offset → ⊥
+-- a fault at a token that is no name is not the fault of a name
+kind_not : (k : FaultKind) (w : Word) (bad offset : ℕ) → offset ≡ bad → CanCause k w → IsNoName w → Unkept (At bad) Strict k offset → ⊥
 kind_not kind.BadShape w bad offset e can plain of = of.0 e
 kind_not kind.TwiceApp w bad offset e can plain of = absurd (subst IsNoName can.1 plain)
 kind_not kind.TwiceInList w bad offset e can plain of = absurd (subst IsNoName can.1 plain)
@@ -68,7 +67,7 @@ kind_not kind.Unsupported w bad offset e can plain of = of tt
 kind_not kind.NumberTooLarge w bad offset e can plain of = of tt
 kind_not _ w bad offset e can plain of = absurd can
 
-pub not_name : (a : List Located) (l : Located) (e : ConfigFault) → StandsAt a l e → IsNoName l.word → Unkept (At l.at) Strict e.kind e.at → ⊥
+pub not_name : (a : List Located) (l : Located) (e : ConfigFault) → IsLocatedAt a l e → IsNoName l.word → Unkept (At l.at) Strict e.kind e.at → ⊥
 not_name a l e (Itself offset can) plain of = kind_not e.kind l.word l.at e.at offset can plain of
 not_name a l e (InList front o is w v f) plain of = (subst (λ (f : ConfigFault). Unkept (At l.at) Strict f.kind f.at) f of) tt
 not_name a l e (InTuple front o is w v f) plain of = (subst (λ (f : ConfigFault). Unkept (At l.at) Strict f.kind f.at) f of) tt
@@ -89,7 +88,7 @@ not_kept _ offset of = absurd of
 
 -- ---- a limit that a name breaks
 
-can_name : (k : FaultKind) (w : Word) → CanBring k w → IsOfName k → (name : List ℕ) × (w ≡ Name name)
+can_name : (k : FaultKind) (w : Word) → CanCause k w → IsOfName k → (name : List ℕ) × (w ≡ Name name)
 can_name kind.NameTooLong w can of = (can.0, can.1)
 can_name kind.TwiceApp w can of = (can.0, can.1)
 can_name kind.TwiceInList w can of = (can.0, can.1)
@@ -97,13 +96,13 @@ can_name kind.TooManyApps w can of = (can.0, can.1)
 can_name kind.TooManyNodes w can of = (can.0, can.1)
 can_name _ w can of = absurd of
 
--- the name, at whose offset the fault is
-pub name_of_it : (a : List Located) (l : Located) (e : ConfigFault) → StandsAt a l e → IsOfName e.kind → ((name : List ℕ) × (l.word ≡ Name name)) × (e.at ≡ l.at)
+-- the name at whose offset the fault is
+pub name_of_it : (a : List Located) (l : Located) (e : ConfigFault) → IsLocatedAt a l e → IsOfName e.kind → ((name : List ℕ) × (l.word ≡ Name name)) × (e.at ≡ l.at)
 name_of_it a l e (Itself offset can) of = (can_name e.kind l.word can of, offset)
 name_of_it a l e (InList front o is w v f) of = absurd (subst (λ (f : ConfigFault). IsOfName f.kind) f of)
 name_of_it a l e (InTuple front o is w v f) of = absurd (subst (λ (f : ConfigFault). IsOfName f.kind) f of)
 
--- the limits that count before this one, and all that isn't of names
+-- the limits that count before this one, and all those that aren't of names
 abbrev pub Strictly : FaultKind → FaultKind → Type 0
 Strictly kind other = Before kind other ⊎ Strict other
 
@@ -128,7 +127,7 @@ stops_so kind.TooManyApps offset bad e of = (e, frees_so kind.TooManyApps)
 stops_so kind.TooManyNodes offset bad e of = (e, frees_so kind.TooManyNodes)
 stops_so _ offset bad e of = absurd of
 
--- ---- places
+-- ---- offsets of a text
 
 begins_some : (name : List ℕ) → Begins IsAsciiLowercase name → 0 < length name
 begins_some [] is = absurd is
@@ -140,7 +139,7 @@ name_some w name own rest is spelled = elim (subst (λ (w : Word). Spells w own 
   | inr quoted ↦ omega (arith, ap length quoted.0)
 ]
 
--- the names of a text stand before its end
+-- the names of a text precede its end
 pub spelled_fine : (bad offset : ℕ) (bytes : List ℕ) (ts : List Located) → AreSpelled offset bytes ts → offset + length bytes ≤ bad → Fine (At bad) ts
 spelled_fine bad offset bytes [] is le = tt
 spelled_fine bad offset bytes (t ∷ ts) is le =
@@ -153,7 +152,7 @@ digits_some : (digits : List ℕ) → Begins IsAsciiDigit digits → 0 < length 
 digits_some [] is = absurd is
 digits_some (b ∷ bytes) is = omega arith
 
--- a token has a byte at least
+-- a token has at least one byte
 own_some : (w : Word) (own rest : List ℕ) → Spells w own rest → 0 < length own
 own_some (Punctuation OpenList) own rest is = omega (arith, ap length is)
 own_some (Punctuation CloseList) own rest is = omega (arith, ap length is)
@@ -167,7 +166,7 @@ own_some (Number true digits) own rest is = omega (arith, ap length is.0.0)
 own_some Text own rest is = omega (arith, ap length is.parts)
 own_some End own rest is = absurd is
 
--- tokens one behind another
+-- consecutive tokens at increasing offsets
 abbrev Apart : ℕ → List Located → Type 0
 Apart offset [] = Unit {0}
 Apart offset (t ∷ ts) = (next : ℕ) × (offset ≤ t.at) × (t.at < next) × Apart next ts
@@ -178,13 +177,13 @@ apart_spelled offset bytes (t ∷ ts) is = (t.at + length is.0, omega (arith, is
 
 apart_stopped : (offset depth : ℕ) (bytes : List ℕ) (ts : List Located) (e : ConfigFault) → StopAt offset depth bytes ts e → Apart offset ts
 apart_stopped offset depth bytes [] e is = tt
-apart_stopped offset depth bytes (t ∷ ts) e is = (t.at + length is.0, omega (arith, is.2.offset), omega (arith, own_some t.word is.0 is.1 is.2.spelled), apart_stopped (t.at + length is.0) (depth_behind depth t.word) is.1 ts e is.4)
+apart_stopped offset depth bytes (t ∷ ts) e is = (t.at + length is.0, omega (arith, is.2.offset), omega (arith, own_some t.word is.0 is.1 is.2.spelled), apart_stopped (t.at + length is.0) (depth_after_word depth t.word) is.1 ts e is.4)
 
 apart_later : (offset : ℕ) (a : List Located) (l : Located) (b : List Located) → Apart offset (a ++ l ∷ b) → offset ≤ l.at
 apart_later offset [] l b is = is.1
 apart_later offset (t ∷ a) l b is = let later = apart_later is.0 a l b is.3 in omega (arith, later, is.1, is.2)
 
--- none of these stands at this offset
+-- none of these tokens is at this offset
 abbrev pub Clear : ℕ → List Located → Type 0
 Clear bad [] = Unit {0}
 Clear bad (t ∷ ts) = (t.at ≡ bad → ⊥) × Clear bad ts
@@ -193,7 +192,7 @@ apart_clear : (offset : ℕ) (a : List Located) (l : Located) (b : List Located)
 apart_clear offset [] l b is = tt
 apart_clear offset (t ∷ a) l b is = let later = apart_later is.0 a l b is.3 in (λ e. absurd (omega (arith, later, is.2, e)), apart_clear is.0 a l b is.3)
 
--- no token of a text before another stands at its offset
+-- no earlier token of a text has the same offset as a later one
 pub text_clear : (text : List ℕ) (a : List Located) (l : Located) → BeginsWith text (a ++ l ∷ []) → Clear l.at a
 text_clear text a l is = apart_clear 0 a l is.rest (subst (λ (ts : List Located). Apart 0 ts) (append_assoc a (l ∷ []) is.rest) (elim is.is [
   | inl tokens ↦ apart_spelled 0 text ((a ++ l ∷ []) ++ is.rest) tokens.spelled

@@ -1,4 +1,4 @@
--- Where the law admits a fault of a text, reading has it.
+-- If the law admits a fault of a text, reading has it.
 use Rattle.std.proofs.Common.{◌≡◌, ℕ, ◌≤◌, Bool, true, false, cond, ltb, List, length, Result, Ok, Err, refl, sym, ap, subst, arith}
 use Rattle.std.specs.Prelude.{◌↔◌, IfOk}
 use Rattle.std.proofs.lemmas.Bool.{ltb-false}
@@ -19,7 +19,7 @@ use Rattle.dac_first_fault.proofs.Alone.{Cause, TooFar, Brought, Final, Stopped,
 
 module _ (order : (sections : List Section) → (MaySections sections ↔ AreWithinLimits sections)) (nodes : (sections : List Section) → (steps with_section nothing sections).met ≡ nodes_in sections) (text : List ℕ) (s : Stream) (read : s ≡ tokens_of (length text) 0 text) (end : IfOk s.last (λ t. t ≡ end_of (length text)))
     (spelled : (ts : List Located) → (AreTokensOf text ts ↔ (s ≡ ended_by (length text) ts))) (stops : (ts : List Located) (e : ConfigFault) → (StopAt 0 0 text ts e ↔ (s ≡ stopped ts e))) where
-  -- no cause of a fault is in tokens that are read whole
+  -- tokens that are read to the end contain no cause of a fault
   no_cause : length text ≤ 65536 → (w : Written) → file_at (at s.last s.tokens nothing) ≡ Ok w → (e : ConfigFault) → Cause text s spelled stops e → ⊥
   no_cause short w h e (TooFar far is) = absurd (omega (arith, far, short))
   no_cause short w h e (Brought le b) = not_final text s spelled stops e b (whole_read order nodes text s end spelled stops short w h).1

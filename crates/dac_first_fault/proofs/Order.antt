@@ -1,4 +1,4 @@
--- Words that are in order are so up to each of them.
+-- A valid prefix is valid up to each of its words.
 use Rattle.std.proofs.Common.{◌≡◌, List, [], ◌∷◌, ◌++◌, refl, sym, ap, subst, ◌∙◌, append_assoc, append-nil, inl, inr}
 use Rattle.std.specs.Prelude.{◌⊎◌, All}
 use Rattle.std.proofs.lemmas.List.Elements.{All-nil, All-cons, All-head, All-tail}
@@ -22,7 +22,7 @@ all_front (w ∷ a) b all = All-cons IsNoName w a (All-head IsNoName w (a ++ b) 
 cons_same : (v w : Word) (a b : List Word) → v ∷ a ≡ w ∷ b → (v ≡ w) × (a ≡ b)
 cons_same v w a b e = (cc, cc)
 
--- of two ways to part words, the first part of one begins that of the other
+-- of two ways to split words, the first part of one begins that of the other
 abbrev Parting : List Word → List Word → List Word → List Word → Type 0
 Parting a b n r = ((d : List Word) × (n ≡ a ++ d)) ⊎ ((d : List Word) × (a ≡ n ++ d) × (r ≡ d ++ b))
 

@@ -1,4 +1,4 @@
--- What a reader makes of tokens depends on those that it takes, and a fault is brought by the last of them.
+-- A reader's result depends only on the tokens that it takes, and the last of them causes its fault.
 use Rattle.std.proofs.Common.{◌≡◌, ℕ, ◌<◌, List, [], ◌∷◌, ◌++◌, length, Result, Ok, Err, sym, ap, subst, ◌∙◌, append_assoc, length-append, arith}
 use Rattle.dac_tokens.specs.declared.fault.ConfigFault.{ConfigFault}
 use Rattle.dac_tokens.specs.declared.fault.FaultKind.TheVariants.{BadShape}
@@ -7,18 +7,18 @@ use Rattle.dac_tokens.specs.Words.{End, Located}
 use Rattle.dac_shapes.specs.Limits.{Seen}
 use Rattle.dac_shapes.specs.Shape.{State, fails}
 use Rattle.dac_shapes.specs.laws.AgainLists.{at}
-use Rattle.dac_first_fault.specs.FirstFault.{StandsAt, Itself, InList, InTuple}
+use Rattle.dac_first_fault.specs.FirstFault.{IsLocatedAt, Itself, InList, InTuple}
 
--- A reader may have room for so many tokens only: of i, Room says for how many. What it makes of the end of a text,
--- where it wants more, is AtEnd.
+-- A reader can have a bound on the number of tokens: `Room i n` holds if the bound of i suffices for n. `AtEnd` is the
+-- result at the end of a text if it needs more.
 module _ {I A : Type 0} (Room : I → ℕ → Type 0) (AtEnd : Located → Result (A × State) ConfigFault → Type 0) (read : I → State → Result (A × State) ConfigFault) (us : List Located) (seen : Seen) where
-  -- it wants more than these tokens: a fault behind them is its fault
+  -- it needs more than these tokens, so a fault after them is its fault
   pub record Wants : Type 0 where
     pub more : (i : I) (p : ConfigFault) → Room i (length us) → read i (at (Err p) us seen) ≡ Err p
     pub end : (i : I) (t : Located) → t.word ≡ End → Room i (length us) → AtEnd t (read i (at (Ok t) us seen))
 
 module _ {I A : Type 0} (Room : I → ℕ → Type 0) (AtEnd : Located → Result (A × State) ConfigFault → Type 0) (read : I → State → Result (A × State) ConfigFault) (us : List Located) (seen : Seen) where
-  -- it reads this of the first tokens, whatever stands behind them
+  -- it reads this item from the first tokens, whatever follows them
   pub record Takes : Type 0 where
     pub a : List Located
     pub b : List Located
@@ -28,7 +28,7 @@ module _ {I A : Type 0} (Room : I → ℕ → Type 0) (AtEnd : Located → Resul
     pub some : 0 < length a
     pub goes : (i : I) (last : Result Located ConfigFault) (rest : List Located) → Room i (length (a ++ rest)) → read i (at last (a ++ rest) seen) ≡ Ok (x, at last rest after)
 
-  -- it has this fault by the token l, whatever stands behind it, and wants more before it
+  -- the token l causes this fault, whatever follows it, and the reader needs more than the tokens before it
   pub record Fails : Type 0 where
     pub a : List Located
     pub l : Located
@@ -36,7 +36,7 @@ module _ {I A : Type 0} (Room : I → ℕ → Type 0) (AtEnd : Located → Resul
     pub e : ConfigFault
     pub whole : us ≡ a ++ l ∷ b
     pub goes : (i : I) (last : Result Located ConfigFault) (rest : List Located) → Room i (length (a ++ l ∷ rest)) → read i (at last (a ++ l ∷ rest) seen) ≡ Err e
-    pub stands : StandsAt a l e
+    pub stands : IsLocatedAt a l e
     pub wants : Wants Room AtEnd read a seen
 
   pub data Outcome : Type 0 where
@@ -44,12 +44,12 @@ module _ {I A : Type 0} (Room : I → ℕ → Type 0) (AtEnd : Located → Resul
     Failed : Fails → Outcome
     Asked : Wants Room AtEnd read us seen → Outcome
 
-stands_behind : (a before : List Located) (t : Located) (e : ConfigFault) → StandsAt before t e → StandsAt (a ++ before) t e
+stands_behind : (a before : List Located) (t : Located) (e : ConfigFault) → IsLocatedAt before t e → IsLocatedAt (a ++ before) t e
 stands_behind a before t e (Itself offset kind) = Itself offset kind
 stands_behind a before t e (InList front o is w v k) = InList (a ++ front) o (ap (λ (l : List Located). a ++ l) is ∙ sym (append_assoc a front (o ∷ []))) w v k
 stands_behind a before t e (InTuple front o is w v k) = InTuple (a ++ front) o (ap (λ (l : List Located). a ++ l) is ∙ sym (append_assoc a front (o ∷ []))) w v k
 
--- a reader that, behind the tokens a, goes on as another
+-- a reader that, after the tokens a, behaves as another one
 module _ {I J A : Type 0} (Room : I → ℕ → Type 0) (More : J → ℕ → Type 0) (AtEnd : Located → Result (A × State) ConfigFault → Type 0) (f : I → State → Result (A × State) ConfigFault) (g : J → State → Result (A × State) ConfigFault) (a : List Located) (seen after : Seen)
     (leads : (i : I) (last : Result Located ConfigFault) (rest : List Located) → Room i (length (a ++ rest)) → (j : J) × More j (length rest) × (f i (at last (a ++ rest) seen) ≡ g j (at last rest after))) where
   pub wants_further : (b : List Located) → Wants More AtEnd g b after → Wants Room AtEnd f (a ++ b) seen
@@ -88,7 +88,7 @@ module _ {I J A : Type 0} (Room : I → ℕ → Type 0) (More : J → ℕ → Ty
   further b (Failed t) = Failed (fails_further b t)
   further b (Asked w) = Asked (wants_further b w)
 
--- ---- readers that have room for any tokens
+-- ---- readers with a bound for any number of tokens
 
 abbrev pub Always : Unit {0} → ℕ → Type 0
 Always i n = Unit {0}
@@ -109,7 +109,7 @@ IsReader read = (us : List Located) (seen : Seen) → Gives read us seen
 abbrev pub Wanting : {A : Type 0} → Reader A → List Located → Seen → Type 0
 Wanting read us seen = Wants Always Plain (λ _. read) us seen
 
--- where a first part went wrong, or wants more, so does what follows it
+-- if a first part fails or needs more, so does the sequence
 module _ {A B : Type 0} (f : Reader A) (next : A × State → Result (B × State) ConfigFault) where
   wanting_then : (us : List Located) (seen : Seen) → Wanting f us seen → Wanting (λ s. f s >>= next) us seen
   wanting_then us seen w = record { more = λ i p room. ap (λ r. r >>= next) (w.more i p room); end = λ i t is room. ap (λ r. r >>= next) (w.end i t is room) }

@@ -1,4 +1,4 @@
--- A loose thing of the grammar is read, or its fault is of a limit or shape that isn't kept: tokens, lists and pairs.
+-- A loose item of the grammar is read, or its fault is of a limit or shape outside `Kept`: tokens, lists and pairs.
 use Rattle.std.proofs.Common.{◌≡◌, ℕ, zero, suc, ◌<◌, Bool, true, false, cond, List, [], ◌∷◌, ◌++◌, length, Result, Ok, Err, refl, sym, ap, subst, ◌∙◌, append_assoc, length-append, arith}
 use Rattle.dac_tokens.specs.declared.fault.ConfigFault.{ConfigFault}
 use Rattle.dac_tokens.specs.declared.fault.FaultKind.{FaultKind}
@@ -12,7 +12,7 @@ use Rattle.dac_shapes.specs.Shape.{State, is_symbol, token, symbol_at, more_at, 
 use Rattle.dac_shapes.specs.Grammar.{Parted, IsListOf, IsPair}
 use Rattle.dac_shapes.specs.laws.AgainLists.{words_of, cons_is, split, cut, none, ended, inside, Begins, at, symbol_again}
 
--- a fault of a limit or shape that isn't kept, and if it is BadShape, not at such an offset
+-- a fault of a limit or shape that isn't kept, and for BadShape not at a bad offset
 abbrev pub Unkept : (ℕ → Type 0) → (FaultKind → Type 0) → FaultKind → ℕ → Type 0
 Unkept Bad Kept BadShape offset = (Bad offset → ⊥) × (Kept BadShape → ⊥)
 Unkept Bad Kept TwiceApp offset = Kept TwiceApp → ⊥
@@ -26,7 +26,7 @@ Unkept Bad Kept NumberTooLarge offset = Kept NumberTooLarge → ⊥
 Unkept Bad Kept Unsupported offset = Kept Unsupported → ⊥
 Unkept Bad Kept _ offset = ⊥
 
--- no name stands at such an offset
+-- no name is at a bad offset
 abbrev pub Fine : (ℕ → Type 0) → List Located → Type 0
 Fine Bad [] = Unit {0}
 Fine Bad (t ∷ ts) = ((name : List ℕ) → t.word ≡ Name name → Bad t.at → ⊥) × Fine Bad ts
@@ -39,12 +39,12 @@ pub fine_rest : (Bad : ℕ → Type 0) (a b : List Located) → Fine Bad (a ++ b
 fine_rest Bad [] b f = f
 fine_rest Bad (t ∷ a) b f = fine_rest Bad a b f.1
 
--- this is read, these tokens are left and this was seen, or the fault is one that isn't kept
+-- the item is read, with these tokens left and these names seen, or the fault isn't kept
 abbrev pub Met : {A : Type 0} → Result Located ConfigFault → (ℕ → Type 0) → (FaultKind → Type 0) → A → List Located → Seen → Result (A × State) ConfigFault → Type 0
 Met last Bad Kept x us after (Ok y) = y ≡ (x, at last us after)
 Met last Bad Kept x us after (Err e) = Unkept Bad Kept e.kind e.at
 
--- a token says this, or the fault is one that isn't kept
+-- a token has these contents, or the fault isn't kept
 abbrev pub Said : {K : Type 0} → (ℕ → Type 0) → (FaultKind → Type 0) → K → Result K ConfigFault → Type 0
 Said Bad Kept k (Ok j) = j ≡ k
 Said Bad Kept k (Err e) = Unkept Bad Kept e.kind e.at
@@ -81,7 +81,7 @@ module _ (last : Result Located ConfigFault) (Bad : ℕ → Type 0) (Kept : Faul
         let f = begins p.0 x p.3 in
         record { head = f.head; tail = f.tail ++ Punctuation Comma ∷ p.1; whole = p.2 ∙ ap (λ (l : List Word). l ++ Punctuation Comma ∷ p.1) f.whole; no_list = f.no_list; no_tuple = f.no_tuple }
 
-    -- what stands behind the first thing: a comma, a token and more
+    -- the tokens after the first item: a comma, a token and more
     record Behind (ts : List Located) (t : Located) (x : A) (y : A) (ys : List A) : Type 0 where
       pub front : List Located
       pub comma : Located
@@ -158,7 +158,7 @@ module _ (last : Result Located ConfigFault) (Bad : ℕ → Type 0) (Kept : Faul
             (subst (λ (l : List A). Met last Bad Kept l us after (comma_list read close n (before ++ x ∷ []) b.next (at last vs mid))) (append_assoc before (x ∷ []) (y ∷ ys))
             (list_met n (before ++ x ∷ []) b.next b.rest c us mid (y ∷ ys) shorter b.others (fine_rest Bad (t ∷ b.front) (b.comma ∷ b.next ∷ b.rest) parts).1 keep.1 e))))
 
-        -- with all the room that there is
+        -- a list, within the bound of the remaining tokens
         pub whole_met : (t : Located) (ts : List Located) (c : Located) (us : List Located) (seen : Seen) (xs : List A) → Parted Is (words_of (t ∷ ts)) xs → Fine Bad (t ∷ ts) → AllMay step Keep [] seen xs → c.word ≡ Punctuation close
             → Met last Bad Kept xs us (steps step seen xs) (comma_list read close (room (at last (ts ++ c ∷ us) seen)) [] t (at last (ts ++ c ∷ us) seen))
         whole_met t ts c us seen xs p fine keep e = list_met (room (at last (ts ++ c ∷ us) seen)) [] t ts c us seen xs (omega (arith, length-append ts (c ∷ us))) p fine keep e
@@ -206,7 +206,7 @@ module _ (last : Result Located ConfigFault) (Bad : ℕ → Type 0) (Kept : Faul
     unfolding pair_at
     pair_step t n c us e = rw e refl
 
-    -- a name, and what stands behind its comma
+    -- a name, and the rest after its comma
     pub rest_met : (words : List Word) (t : Located) (ts us : List Located) → words_of (t ∷ ts) ≡ Punctuation OpenTuple ∷ Name name ∷ Punctuation Comma ∷ words → Fine Bad (t ∷ ts) → ((vs : List Located) → words_of vs ≡ words → Fine Bad vs → Met last Bad Kept x us after (rest k (at last (vs ++ us) seen)))
         → Met last Bad Kept x us after (pair_at name_of rest t (at last (ts ++ us) seen))
     rest_met words t ts us e fine rested =
@@ -220,7 +220,6 @@ module _ (last : Result Located ConfigFault) (Bad : ℕ → Type 0) (Kept : Faul
         (said_then k x us after (name_of n.head) next (named n.head n.is (parts.0 name n.is))
         (met_is x us after (next k) (rest k (at last (c.tail ++ us) seen)) (ap (λ (r : Result State ConfigFault). r >>= rest k) (symbol_again last Comma c.head (c.tail ++ us) seen refl c.is)) (rested c.tail c.rest parts.1.1)))
 
-    -- a name and a value
     pub pair_met : (value : State → Result (A × State) ConfigFault) (IsValue : List Word → Type 0) → ((s : State) → rest k s ≡ closed value s) → ((vs us : List Located) → IsValue (words_of vs) → Fine Bad vs → Met last Bad Kept x us after (value (at last (vs ++ us) seen)))
         → (t : Located) (ts us : List Located) → IsPair name IsValue (words_of (t ∷ ts)) → Fine Bad (t ∷ ts) → Met last Bad Kept x us after (pair_at name_of rest t (at last (ts ++ us) seen))
     pair_met value IsValue closes valued t ts us is fine =

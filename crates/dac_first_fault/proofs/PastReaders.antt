@@ -1,4 +1,4 @@
--- Nodes, node lists, applications and permissions are read, or their fault is of a limit or shape that isn't kept.
+-- Nodes, node lists, applications and permissions are read, or their fault is of a limit or shape outside `Kept`.
 use Rattle.std.proofs.Common.{◌≡◌, ℕ, ◌<◌, ◌≤◌, Bool, true, false, not, ◌&&◌, cond, eqb, ltb, leb, List, [], ◌∷◌, ◌++◌, length, map, Result, Ok, refl, sym, ap, subst, ◌∙◌, append_assoc, arith, codes, inl, inr}
 use Rattle.std.proofs.lemmas.Bool.{lt-ltb, le-ltb, eq-eqb, ltb-true, leb-true}
 use Rattle.dac_base.specs.declared.limits.TheConstants.{MAX_NODES}
@@ -43,7 +43,7 @@ flag_word : (ws : List Word) (b : Bool) → IsFlag ws b → (w : Word) × (ws �
 flag_word ws true is = (Name (codes "true"), is)
 flag_word ws false is = (Name (codes "false"), is)
 
--- a test whose first part is false and whose second is true
+-- a test whose first part is false and whose second part is true
 both : (a b : Bool) → (not a && b) ≡ true → (a ≡ false) × (b ≡ true)
 both true b e = absurd cc
 both false b e = (refl, e)
@@ -99,7 +99,7 @@ module _ (last : Result Located ConfigFault) (Bad : ℕ → Type 0) (Kept : Faul
   unfolding item_at
   tuple_is t f ts seen w e = rw (w, e) refl
 
-  -- tokens from a symbol on, up to the symbol that closes it: things parted by commas are between
+  -- tokens from a symbol to the one that closes it, with items separated by commas between them
   record Within (ts : List Located) (inner : List Word) (right : Word) : Type 0 where
     pub first : Located
     pub mid : List Located
@@ -207,7 +207,7 @@ module _ (last : Result Located ConfigFault) (Bad : ℕ → Type 0) (Kept : Faul
   unfolding app_value_at
   app_value_is name n first f ts vs seen e = rw e refl
 
-  -- a node list behind a timeout
+  -- a node list after a timeout
   listed_met : (app : App) (f : Located) (ts us : List Located) (seen : Seen) → IsLooseNodeList Kept (words_of (f ∷ ts)) app.groups → Fine Bad (f ∷ ts) → GroupsKeep Kept (listing seen) app.groups → Met last Bad Kept app us (with_app seen app) (groups_at f (at last (ts ++ us) seen) >>= app_with app.name app.timeout)
   listed_met app f ts us seen list fine keep = met_then last Bad Kept app.groups us (with_app seen app) app us (with_app seen app) (groups_at f (at last (ts ++ us) seen)) (app_with app.name app.timeout) (groups_met f ts us seen app.groups list fine keep) refl
 

@@ -1,4 +1,4 @@
--- Parameters and sections are read, or their fault is of a limit or shape that isn't kept.
+-- Parameters and sections are read, or their fault is of a limit or shape outside `Kept`.
 use Rattle.std.proofs.Common.{◌≡◌, ℕ, Bool, true, false, cond, List, [], ◌∷◌, ◌++◌, Option, None, Some, ◌≢◌, Result, Ok, refl, sym, ap, subst, ◌∙◌, codes, arith, inl, inr}
 use Rattle.std.specs.Str.{bytes_eq}
 use Rattle.dac_tokens.specs.declared.fault.ConfigFault.{ConfigFault}
@@ -49,7 +49,7 @@ spelled_so named.Mandatory = refl
 spelled_so named.Optional = refl
 spelled_so named.Timeout = refl
 
--- a name that no parameter that is read has
+-- a name that differs from those of all parameters that are read
 unknown_so : (name : List ℕ) → ((known : ParamName) → name ≢ spelled known) → param_named name ≡ None
 unknown_so name other = by (param_named name) refl
   where
@@ -76,7 +76,7 @@ wait_is w offset (Ms n) is =
     rw (number, ms_is offset ms.0 (value_from 0 ms.1) n ms.3 ms.4 ms.5) refl
 
 module _ (last : Result Located ConfigFault) (Bad : ℕ → Type 0) (Kept : FaultKind → Type 0) where
-  -- a second one brings a fault, at its name
+  -- a repeated parameter or section causes a fault at its name
   once_said : {K : Type 0} (k : K) (offset : ℕ) → (Bad offset → ⊥) → (c : Bool) → (Kept BadShape → c ≡ false) → Said Bad Kept k (cond c (fails BadShape offset) (Ok k))
   once_said k offset ok true once = (ok, λ kept. let wrong : true ≡ false = once kept in absurd cc)
   once_said k offset ok false once = refl

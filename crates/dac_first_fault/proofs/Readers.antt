@@ -1,4 +1,4 @@
--- The readers of names, nodes, applications and permissions.
+-- Readers of names, nodes, applications and permissions: their results depend only on the tokens that they take.
 use Rattle.std.proofs.Common.{◌≡◌, ℕ, Bool, true, false, not, ◌&&◌, ◌≤◌, cond, eqb, ltb, leb, List, [], ◌∷◌, length, map, Result, Ok, Err, refl, sym, ap, ◌∙◌, arith, codes}
 use Rattle.std.specs.Str.{bytes_eq}
 use Rattle.std.proofs.lemmas.Bool.{ltb-true, ltb-false, ne_eqb}
@@ -20,7 +20,7 @@ use Rattle.dac_first_fault.proofs.Alike.{same_reader, alike}
 use Rattle.dac_first_fault.proofs.Steps.{first_goes, first_taken, first_fails, wants_token, Here, here_ok, here_fails, here_if, here_then, IsLook, look_only, symbol_then, closed_reader, pair_reader, pair_end, mark_is}
 use Rattle.dac_first_fault.proofs.Lists.{regroup, as_list, whole_end}
 
--- ---- what a token is
+-- ---- one token's contents
 
 abbrev of : Word → ℕ → Located
 of w offset = record { word = w; at = offset }
@@ -266,7 +266,7 @@ module _ (name : List ℕ) where
   abbrev app_with : ℕ → List (List (List ℕ)) × State → Result (App × State) ConfigFault
   app_with n groups = Ok (record { name = name; timeout = n; groups = groups.0 }, groups.1)
 
-  -- the node list behind a timeout
+  -- the node list after a timeout
   abbrev listed : ℕ → Reader App
   listed n s = token s >>= λ q. groups_at q.0 q.1 >>= app_with n
 

@@ -1,4 +1,4 @@
--- The readers of parameters and sections.
+-- Readers of parameters and sections: their results depend only on the tokens that they take.
 use Rattle.std.proofs.Common.{◌≡◌, Bool, true, false, List, [], ◌∷◌, Option, Some, None, Result, Ok, refl, ap, ◌∙◌, cond, codes}
 use Rattle.std.specs.Str.{bytes_eq}
 use Rattle.dac_tokens.specs.declared.fault.ConfigFault.{ConfigFault}

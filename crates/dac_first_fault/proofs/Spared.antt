@@ -1,4 +1,4 @@
--- Any sections keep limits of which there are none.
+-- Any sections keep limits that are none of those of `Keeps`.
 use Rattle.std.proofs.Common.{ℕ, Bool, true, false, List, [], ◌∷◌, ◌++◌}
 use Rattle.dac_tokens.specs.declared.fault.FaultKind.{FaultKind}
 use Rattle.dac_tokens.specs.declared.fault.FaultKind.TheVariants.{BadShape, TwiceApp, TwiceInList, TooManyNodes, TooManyApps, NameTooLong, EmptyList, EmptyTuple, NumberTooLarge, Unsupported}
@@ -6,7 +6,7 @@ use Rattle.dac_shapes.specs.Written.{App, Param, Distributed, Permissions, Manda
 use Rattle.dac_shapes.specs.Limits.{Seen, nothing, AllMay, with_node, with_nodes, listing, with_app, with_permission, with_param, with_section}
 use Rattle.dac_first_fault.specs.Keeps.{NodeKeeps, NodesKeep, GroupsKeep, AppKeeps, PermissionKeeps, ValueKeeps, ParamKeeps, SectionKeeps, Keeps}
 
--- a limit that Keeps speaks of
+-- a limit that `Keeps` depends on
 abbrev pub IsLimit : FaultKind → Type 0
 IsLimit BadShape = Unit {0}
 IsLimit NameTooLong = Unit {0}
@@ -16,7 +16,7 @@ IsLimit TooManyApps = Unit {0}
 IsLimit TooManyNodes = Unit {0}
 IsLimit _ = ⊥
 
--- no limit, but all that a token spoils which is no name
+-- no limit, but every shape that a token that is no name can spoil
 abbrev pub Strict : FaultKind → Type 0
 Strict EmptyList = Unit {0}
 Strict EmptyTuple = Unit {0}
@@ -59,7 +59,6 @@ module _ (Kept : FaultKind → Type 0) (free : (kind : FaultKind) → IsLimit ki
   pub sections_so : (sections : List Section) → Keeps Kept sections
   sections_so sections = all_so with_section (SectionKeeps Kept) section_so [] nothing sections
 
--- that, of any sections
 pub strictly_so : (sections : List Section) → Keeps Strict sections
 strictly_so sections = sections_so Strict no_limit sections
   where

@@ -1,4 +1,4 @@
--- Readers of single tokens, and what follows them.
+-- Readers of single tokens, and the readings after them.
 use Rattle.std.proofs.Common.{◌≡◌, Bool, true, false, cond, eqb, List, [], ◌∷◌, Result, Ok, Err, refl, sym, ap, subst, ◌∙◌, arith}
 use Rattle.dac_tokens.specs.declared.fault.ConfigFault.{ConfigFault}
 use Rattle.dac_tokens.specs.declared.fault.FaultKind.{FaultKind}
@@ -10,7 +10,7 @@ use Rattle.dac_tokens.specs.Words.{Word, Punctuation, Name, Number, Text, End, L
 use Rattle.dac_shapes.specs.Limits.{Seen}
 use Rattle.dac_shapes.specs.Shape.{State, fails, byte_of, is_symbol, token, symbol_at, pair_at, closed}
 use Rattle.dac_shapes.specs.laws.AgainLists.{at}
-use Rattle.dac_first_fault.specs.FirstFault.{StandsAt, Itself, CanBring}
+use Rattle.dac_first_fault.specs.FirstFault.{IsLocatedAt, Itself, CanCause}
 use Rattle.dac_first_fault.proofs.Outcomes.{Took, Failed, Asked, further, Always, Plain, Reader, Gives, IsReader, Wanting, then}
 
 -- ---- a reader that begins with one token
@@ -22,24 +22,24 @@ module _ {A : Type 0} (f : Reader A) (t : Located) (b : List Located) (seen : Se
   pub first_taken : (x : A) (after : Seen) → ((last : Result Located ConfigFault) (rest : List Located) → f (at last (t ∷ rest) seen) ≡ Ok (x, at last rest after)) → Gives f (t ∷ b) seen
   first_taken x after same = Took (record { a = t ∷ []; b = b; x = x; after = after; whole = refl; some = omega arith; goes = λ i last rest room. same last rest })
 
-  pub first_fails : (e : ConfigFault) → ((last : Result Located ConfigFault) (rest : List Located) → f (at last (t ∷ rest) seen) ≡ Err e) → StandsAt [] t e → Wanting f [] seen → Gives f (t ∷ b) seen
+  pub first_fails : (e : ConfigFault) → ((last : Result Located ConfigFault) (rest : List Located) → f (at last (t ∷ rest) seen) ≡ Err e) → IsLocatedAt [] t e → Wanting f [] seen → Gives f (t ∷ b) seen
   first_fails e same stands wants = Failed (record { a = []; l = t; b = b; e = e; whole = refl; goes = λ i last rest room. same last rest; stands = stands; wants = wants })
 
 pub wants_token : {A : Type 0} (next : Located × State → Result (A × State) ConfigFault) → ((t : Located) (s : State) → t.word ≡ End → next (t, s) ≡ fails BadShape t.at) → (seen : Seen) → Wanting (λ s. token s >>= next) [] seen
 wants_token next ends seen = record { more = λ i p room. refl; end = λ i t is room. ends t (at (Ok t) [] seen) is }
 
--- ---- a fault of a token stands at it
+-- ---- a token's fault is at its offset
 
 abbrev pub Here : {K : Type 0} → Located → Result K ConfigFault → Type 0
-Here t r = (e : ConfigFault) → r ≡ Err e → StandsAt [] t e
+Here t r = (e : ConfigFault) → r ≡ Err e → IsLocatedAt [] t e
 
 pub here_ok : {K : Type 0} (t : Located) (x : K) → Here t (Ok x)
 here_ok t x e q = absurd cc
 
-pub here_fails : {K : Type 0} (t : Located) (kind : FaultKind) → CanBring kind t.word → Here {K = K} t (fails kind t.at)
+pub here_fails : {K : Type 0} (t : Located) (kind : FaultKind) → CanCause kind t.word → Here {K = K} t (fails kind t.at)
 here_fails t kind can e q =
     let d : record { kind = kind; at = t.at } ≡ e = cc in
-    Itself (sym (ap (λ (f : ConfigFault). f.at) d)) (subst (λ (f : ConfigFault). CanBring f.kind t.word) d can)
+    Itself (sym (ap (λ (f : ConfigFault). f.at) d)) (subst (λ (f : ConfigFault). CanCause f.kind t.word) d can)
 
 pub here_if : {K : Type 0} (t : Located) (c : Bool) (r q : Result K ConfigFault) → (c ≡ true → Here t r) → (c ≡ false → Here t q) → Here t (cond c r q)
 here_if t true r q a b = a refl
@@ -49,7 +49,7 @@ pub here_then : {K L : Type 0} (t : Located) (r : Result K ConfigFault) (f : K �
 here_then t (Ok k) f a b = b k refl
 here_then t (Err d) f a b = λ e q. a e (let same : d ≡ e = cc in ap (λ (x : ConfigFault). Err x) same)
 
--- what a token is, read without what stands behind it
+-- the contents of a token, which don't depend on the tokens after it
 pub record IsLook {K : Type 0} (g : Located → Result K ConfigFault) : Type 0 where
   pub offset : (t : Located) → Here t (g t)
   pub end : (t : Located) → t.word ≡ End → g t ≡ fails BadShape t.at
@@ -67,7 +67,7 @@ module _ {K A : Type 0} (g : Located → Result K ConfigFault) (is : IsLook g) (
   look_then reads (t ∷ b) seen = look_at t b seen (g t) refl (λ k e.
       first_goes (λ s. token s >>= λ q. g q.0 >>= λ k. next k q.1) t b seen (next k) seen (λ last rest. ap (λ r. r >>= λ k. next k (at last rest seen)) e) (reads k b seen))
 
-  -- a token that is all
+  -- a reader of one token only
   pub look_only : (x : K → A) → ((k : K) (s : State) → next k s ≡ Ok (x k, s)) → IsReader (λ s. token s >>= λ q. g q.0 >>= λ k. next k q.1)
   look_only x is [] seen = Asked (look_wants seen)
   look_only x is (t ∷ b) seen = look_at t b seen (g t) refl (λ k e.
@@ -119,7 +119,7 @@ module _ {A : Type 0} (x : Symbol) (next : Reader A) where
   symbol_then reads [] seen = Asked (symbol_wants seen)
   symbol_then reads (t ∷ b) seen = symbol_by t b seen (is_symbol x t.word) refl (λ e. first_goes (λ s. symbol_at x s >>= next) t b seen next seen (λ last rest. ap (λ r. r >>= next) (symbol_yes x t last rest seen e)) (reads b seen))
 
-  -- a symbol that is all
+  -- a reader of one symbol only
   pub symbol_only : (y : A) → ((s : State) → next s ≡ Ok (y, s)) → IsReader (λ s. symbol_at x s >>= next)
   symbol_only y is [] seen = Asked (symbol_wants seen)
   symbol_only y is (t ∷ b) seen = symbol_by t b seen (is_symbol x t.word) refl (λ e. first_taken (λ s. symbol_at x s >>= next) t b seen y seen (λ last rest. ap (λ r. r >>= next) (symbol_yes x t last rest seen e) ∙ is (at last rest seen)))

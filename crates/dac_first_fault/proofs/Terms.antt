@@ -1,4 +1,4 @@
--- Terms, which are passed over: the token behind one says that it is at its end.
+-- Terms, which are skipped: the token after a term shows that it has ended.
 use Rattle.std.proofs.Common.{◌≡◌, ℕ, zero, suc, ◌+◌, ◌<◌, ◌≤◌, Bool, true, false, cond, List, [], ◌∷◌, ◌++◌, length, Option, Some, None, Result, Ok, Err, refl, sym, ap, subst, ◌∙◌, append_assoc, length-append, arith, inl, inr}
 use Rattle.std.specs.Prelude.{◌⊎◌}
 use Rattle.dac_tokens.specs.declared.fault.ConfigFault.{ConfigFault}
@@ -16,12 +16,12 @@ use Rattle.dac_first_fault.proofs.Outcomes.{Wants, Fails, Took, Failed, Asked, f
 use Rattle.dac_first_fault.proofs.Alike.{goes_alike, wants_before, wants_all, fails_alike}
 use Rattle.dac_first_fault.proofs.Lists.{regroup, Fits}
 
--- where the end comes it is out of place, or is handed on as the token behind
+-- at the end of the text: a fault there, or the end as the token after the term
 abbrev Late : Located → Result (Located × State) ConfigFault → Type 0
 Late t r = (r ≡ fails BadShape t.at) ⊎ ((u : State) × (r ≡ Ok (t, u)))
 
 module _ {I : Type 0} (Room : I → ℕ → Type 0) (read : I → State → Result (Located × State) ConfigFault) (us : List Located) (seen : Seen) where
-  -- it is passed over up to the token f, which is answered
+  -- the term is skipped up to the token f, which is returned
   record Passes : Type 0 where
     pub front : List Located
     pub f : Located
@@ -94,7 +94,7 @@ texts_late : (us : List Located) (seen : Seen) → Passing Fits texts_at us seen
 texts_late [] seen = Open (texts_want seen)
 texts_late (t ∷ us) seen = texts_by t us seen (is_text t.word) refl (texts_late us seen)
 
--- ---- terms, parted by commas
+-- ---- terms, separated by commas
 
 term_is : (n : ℕ) (t : Located) (s : State) → term_at (suc n) t s ≡ term_by (term_at n) n t s
 unfolding term_at
@@ -155,7 +155,7 @@ module _ (close : Symbol) where
   fails_terms n zero a l rest last seen e le is = absurd (omega (arith, length-append a (l ∷ rest)))
   fails_terms n (suc m) a l rest last seen e le is = stepped n m (at last (a ++ l ∷ rest) seen) ∙ ap (λ r. r >>= choose close n m) is
 
-  -- behind the first term
+  -- after the first term
   module _ (us : List Located) (seen : Seen) (t : Passes Fits term us seen) where
     goes_on : (n m : ℕ) (last : Result Located ConfigFault) (rest : List Located) → length (t.front ++ t.f ∷ rest) ≤ n → terms close (n, suc m) (at last (t.front ++ t.f ∷ rest) seen) ≡ choose close n m (t.f, at last rest seen)
     goes_on n m last rest le = stepped n m (at last (t.front ++ t.f ∷ rest) seen) ∙ ap (λ r. r >>= choose close n m) (t.goes n last rest le)
@@ -214,7 +214,6 @@ module _ (close : Symbol) where
   terms_up k one zero jk us seen le = terms_step us seen (one us seen (omega arith)) (λ rest less. absurd (omega arith))
   terms_up k one (suc j) jk us seen le = terms_step us seen (one us seen (omega arith)) (λ rest less. terms_up k one j (omega arith) rest seen (omega arith))
 
-  -- what stands between brackets
   abbrev within : ℕ → State → Result (Located × State) ConfigFault
   within n s = terms_in (term_at n) close n s
 
@@ -268,7 +267,7 @@ module _ (close : Symbol) where
 term_wants : (seen : Seen) → Wants Fits Late term [] seen
 term_wants seen = record { more = λ n p le. refl; end = λ n t w le. inl (term_end n t (at (Ok t) [] seen) w) }
 
--- a term of which the first token is t, and what it goes on as
+-- a term whose first token is t, and the reader that continues it
 module _ (t : Located) (b : List Located) (seen : Seen) where
   term_goes : {J : Type 0} (More : J → ℕ → Type 0) (g : J → State → Result (Located × State) ConfigFault) (j : ℕ → J) → ((n l : ℕ) → l ≤ n → More (j n) l) → ((n : ℕ) (s : State) → term_by (term_at n) n t s ≡ g (j n) s) → Passing More g b seen → Passing Fits term (t ∷ b) seen
   term_goes {J} More g j fits same gives = late_further Fits More term g (t ∷ []) seen leads b gives
@@ -349,7 +348,7 @@ module _ {A : Type 0} (y : A) where
     end = λ i t is room. passing_is u (Ok t) us seen ∙ fin_end t (term (suc (suc (length (u ∷ us)))) (at (Ok t) (u ∷ us) seen)) is (w.end (suc (suc (length (u ∷ us)))) t is (omega arith));
   }
 
-  -- whatever a term is read as with room enough
+  -- a term has the same result within any bound that suffices
   passing_goes : (a : List Located) (l : Located) (rest : List Located) (last : Result Located ConfigFault) (seen : Seen) (r : Result (Located × State) ConfigFault) → ((n : ℕ) → length (a ++ l ∷ rest) ≤ n → term n (at last (a ++ l ∷ rest) seen) ≡ r) → passing (at last (a ++ l ∷ rest) seen) ≡ (r >>= fin)
   passing_goes [] l rest last seen r goes = passing_is l last rest seen ∙ ap (λ r. r >>= fin) (goes (suc (suc (length (l ∷ rest)))) (omega arith))
   passing_goes (u ∷ a) l rest last seen r goes = passing_is u last (a ++ l ∷ rest) seen ∙ ap (λ r. r >>= fin) (goes (suc (suc (length (u ∷ a ++ l ∷ rest)))) (omega arith))

@@ -1,4 +1,4 @@
--- The first fault of a text, said without a reader.
+-- The first fault of a text, as a law that mentions no reader.
 use Rattle.std.specs.Prelude.{◌≡◌, ◌⊎◌, false, ℕ, ◌<◌, ◌≤◌, List, [], ◌∷◌, ◌++◌, length, map, All}
 use Rattle.dac_tokens.specs.declared.fault.FaultKind.{FaultKind}
 use Rattle.dac_tokens.specs.declared.fault.FaultKind.TheVariants.{TooLong, Unsupported, BadShape, NoDistributed, TwiceApp, TwiceInList, EmptyList, EmptyTuple, TooManyNodes, TooManyApps, NumberTooLarge, NameTooLong}
@@ -19,26 +19,26 @@ use Rattle.dac_first_fault.specs.Keeps.{Keeps}
 abbrev pub IsShortName : Word → Type 0
 IsShortName word = (name : List ℕ) × (word ≡ Name name) × (length name ≤ MAX_NAME)
 
--- Which faults a token can bring at its own offset. The fault of brackets with nothing between them is none of these.
-abbrev pub CanBring : FaultKind → Word → Type 0
-CanBring BadShape word = Unit {0}
-CanBring Unsupported word = word ≡ Text
-CanBring NumberTooLarge word = (digits : List ℕ) × (word ≡ Number false digits) × (ms_bound ≤ value_from 0 digits)
-CanBring NameTooLong word = (name : List ℕ) × (word ≡ Name name) × (MAX_NAME < length name)
-CanBring TwiceApp word = IsShortName word
-CanBring TwiceInList word = IsShortName word
-CanBring TooManyApps word = IsShortName word
-CanBring TooManyNodes word = IsShortName word
-CanBring _ word = ⊥
+-- The faults that a token can cause at its own offset, which excludes those of empty brackets.
+abbrev pub CanCause : FaultKind → Word → Type 0
+CanCause BadShape word = Unit {0}
+CanCause Unsupported word = word ≡ Text
+CanCause NumberTooLarge word = (digits : List ℕ) × (word ≡ Number false digits) × (ms_bound ≤ value_from 0 digits)
+CanCause NameTooLong word = (name : List ℕ) × (word ≡ Name name) × (MAX_NAME < length name)
+CanCause TwiceApp word = IsShortName word
+CanCause TwiceInList word = IsShortName word
+CanCause TooManyApps word = IsShortName word
+CanCause TooManyNodes word = IsShortName word
+CanCause _ word = ⊥
 
--- A fault that the token t brings, behind these. It stands at t, or for empty brackets at the one before it, which t
--- closes.
-pub data StandsAt (before : List Located) (t : Located) (e : ConfigFault) : Type 0 where
-  Itself : e.at ≡ t.at → CanBring e.kind t.word → StandsAt before t e
+-- A fault caused by the token t, after the tokens `before`. Its offset is that of t, or, for empty brackets, that of
+-- the bracket before t, which t closes.
+pub data IsLocatedAt (before : List Located) (t : Located) (e : ConfigFault) : Type 0 where
+  Itself : e.at ≡ t.at → CanCause e.kind t.word → IsLocatedAt before t e
   InList : (front : List Located) (o : Located) → before ≡ front ++ o ∷ [] → o.word ≡ Punctuation OpenList
-      → t.word ≡ Punctuation CloseList → e ≡ record { kind = EmptyList; at = o.at } → StandsAt before t e
+      → t.word ≡ Punctuation CloseList → e ≡ record { kind = EmptyList; at = o.at } → IsLocatedAt before t e
   InTuple : (front : List Located) (o : Located) → before ≡ front ++ o ∷ [] → o.word ≡ Punctuation OpenTuple
-      → t.word ≡ Punctuation CloseTuple → e ≡ record { kind = EmptyTuple; at = o.at } → StandsAt before t e
+      → t.word ≡ Punctuation CloseTuple → e ≡ record { kind = EmptyTuple; at = o.at } → IsLocatedAt before t e
 
 abbrev pub words : List Located → List Word
 words ts = map (λ t. t.word) ts
@@ -49,7 +49,7 @@ pub record IsFileWithinLimits (ws : List Word) : Type 0 where
   pub file : IsFile ws sections
   pub within : AreWithinLimits sections
 
--- a file that keeps this begins with these words
+-- some file with the property Keeps begins with these words
 pub record CanBegin (Keeps : List Section → Type 0) (ws : List Word) : Type 0 where
   pub more : List Word
   pub sections : List Section
@@ -59,14 +59,15 @@ pub record CanBegin (Keeps : List Section → Type 0) (ws : List Word) : Type 0 
 abbrev pub Anything : List Section → Type 0
 Anything sections = Unit {0}
 
--- a word that names nothing
+-- a word that is no name
 abbrev pub IsNoName : Word → Type 0
 IsNoName (Name name) = ⊥
 IsNoName _ = Unit {0}
 
--- These words are in order so far: a file begins with them, and up to the last name one that keeps the limits. With
--- what stands behind that name none need go on: so it is with MAX_APPS applications and a comma. A name that is the
--- first to break a limit, or a token with which no file goes on, is in no such words.
+-- These words are a valid prefix: some file begins with them, and some file that keeps the limits begins with those up
+-- to the last name. No file that keeps the limits need continue with the words after that name, for example with a
+-- comma after MAX_APPS applications. A valid prefix contains no name that is the first to break a limit, and no token
+-- with which no file continues.
 pub record IsWell (ws : List Word) : Type 0 where
   pub goes_on : CanBegin Anything ws
   pub named : List Word
@@ -75,9 +76,9 @@ pub record IsWell (ws : List Word) : Type 0 where
   pub no_name : All IsNoName rest
   pub keeps : CanBegin AreWithinLimits named
 
--- ---- which fault a token brings
+-- ---- the fault that a token causes
 
--- the order in which limits count, where a name breaks several
+-- the order in which limits count if a name breaks several
 abbrev pub rank : FaultKind → ℕ
 rank BadShape = 0
 rank NameTooLong = 1
@@ -87,15 +88,15 @@ rank TooManyApps = 4
 rank TooManyNodes = 5
 rank _ = 6
 
--- the limit alone that brings this fault
+-- only the limit of this fault
 abbrev pub Only : FaultKind → FaultKind → Type 0
 Only kind other = other ≡ kind
 
--- the limits that count before it
+-- the limits that count before this one
 abbrev pub Before : FaultKind → FaultKind → Type 0
 Before kind other = rank other < rank kind
 
--- only a name brings a fault of this kind
+-- only a name causes a fault of this kind
 abbrev pub IsOfName : FaultKind → Type 0
 IsOfName NameTooLong = Unit {0}
 IsOfName TwiceApp = Unit {0}
@@ -104,9 +105,8 @@ IsOfName TooManyApps = Unit {0}
 IsOfName TooManyNodes = Unit {0}
 IsOfName _ = ⊥
 
--- A name at the end of these words breaks the limit of this fault first. No file that keeps the limit begins
--- with them, whatever others it breaks. A file that keeps those that count before it does; where the fault
--- is BadShape, maybe none.
+-- A name at the end of these words first breaks the limit of this fault. No file that keeps the limit begins with them,
+-- whatever others it breaks. Some file that keeps the limits before it does; this isn't required for BadShape.
 pub record Breaks (ws : List Word) (kind : FaultKind) : Type 0 where
   pub broken : ¬ CanBegin (Keeps (Only kind)) ws
   pub first : IsOfName kind → CanBegin (Keeps (Before kind)) ws
@@ -114,19 +114,19 @@ pub record Breaks (ws : List Word) (kind : FaultKind) : Type 0 where
 abbrev pub NoKind : FaultKind → Type 0
 NoKind kind = ⊥
 
--- A file begins with these words where three things are let pass. They are empty lists and tuples of nodes, numbers
--- that are too large and strings in place of a section
+-- A file begins with these words if three shapes are tolerated: empty lists and tuples of nodes, numbers that are too
+-- large, and strings in place of a section
 pub record CanBeginLoosely (ws : List Word) : Type 0 where
   pub more : List Word
   pub sections : List Section
   pub file : IsLooseFile NoKind (ws ++ more) sections
 
--- Another token at the end of these words spoils a shape: nothing goes on with it, or only what is let pass.
+-- A token that is no name spoils a shape at the end of these words: no file continues with it, or only a loose one.
 abbrev pub Spoils : List Word → FaultKind → Type 0
 Spoils ws BadShape = ¬ CanBeginLoosely ws
 Spoils ws _ = CanBeginLoosely ws
 
--- the word at the end of these words brings a fault of this kind
+-- the last of these words causes a fault of this kind
 abbrev pub Brings : Word → List Word → FaultKind → Type 0
 Brings (Name name) ws kind = Breaks ws kind
 Brings _ ws kind = Spoils ws kind
@@ -136,28 +136,28 @@ Brings _ ws kind = Spoils ws kind
 abbrev pub apps_in : List Section → ℕ
 apps_in sections = length (written sections (nodes_in sections)).apps
 
--- a text begins with these tokens, and ends behind more of them, or stops where no token begins
+-- a text begins with these tokens, and continues with any number of tokens up to its end or to a token fault
 pub record BeginsWith (text : List ℕ) (ts : List Located) : Type 0 where
   pub rest : List Located
   pub is : AreTokensOf text (ts ++ rest) ⊎ ((e : ConfigFault) × StopAt 0 0 text (ts ++ rest) e)
 
--- What brings the fault of a text.
+-- The cause of a text's fault.
 pub data IsFaultOf (text : List ℕ) (e : ConfigFault) : Type 0 where
   -- the text is too long
   Long : MAX_TEXT < length text → e ≡ record { kind = TooLong; at = MAX_TEXT } → IsFaultOf text e
-  -- these tokens are in order, and behind them no token begins
+  -- these tokens are a valid prefix, and no token begins after them
   NoToken : (before : List Located) → length text ≤ MAX_TEXT → IsWell (words before) → StopAt 0 0 text before e
       → IsFaultOf text e
-  -- What is before the token t is in order, and with t it isn't. If t is a name, no file that keeps the limits goes on
-  -- with it, and if not, no file at all.
+  -- The tokens before t are a valid prefix, and with t they aren't. If t is a name, no file that keeps the limits
+  -- begins with them; otherwise no file does.
   Token : (before : List Located) (t : Located) → length text ≤ MAX_TEXT → BeginsWith text (before ++ t ∷ [])
       → IsWell (words before) → ¬ IsWell (words before ++ t.word ∷ [])
-      → Brings t.word (words before ++ t.word ∷ []) e.kind → StandsAt before t e → IsFaultOf text e
-  -- all is in order, and the end came where no file is at its end
+      → Brings t.word (words before ++ t.word ∷ []) e.kind → IsLocatedAt before t e → IsFaultOf text e
+  -- the text ends with a valid prefix that isn't a file
   Ends : (ts : List Located) → length text ≤ MAX_TEXT → AreTokensOf text ts → IsWell (words ts)
       → ((sections : List Section) → ¬ IsFile (words ts) sections) → e ≡ record { kind = BadShape; at = length text }
       → IsFaultOf text e
-  -- all is a file that keeps the limits, and no application is listed
+  -- the text is a file that keeps the limits but lists no application
   Nobody : (ts : List Located) → length text ≤ MAX_TEXT → AreTokensOf text ts → IsFileWithinLimits (words ts)
       → ((is : IsFileWithinLimits (words ts)) → apps_in is.sections ≡ 0) → e ≡ record { kind = NoDistributed; at = length text }
       → IsFaultOf text e

@@ -1,4 +1,4 @@
--- Which limits a file keeps, whatever others it breaks. A limit is named by the fault that it brings.
+-- Files that keep some of the limits, whatever others they break. A limit is identified by the fault that it causes.
 use Rattle.std.specs.Prelude.{◌≡◌, ℕ, ◌<◌, ◌≤◌, Bool, true, false, List, [], length, map, Some}
 use Rattle.dac_base.specs.declared.limits.TheConstants.{MAX_APPS, MAX_NODES}
 use Rattle.dac_tokens.specs.declared.fault.FaultKind.{FaultKind}
@@ -9,8 +9,8 @@ use Rattle.dac_shapes.specs.Written.{App, Permission, Param, Distributed, Permis
 use Rattle.dac_shapes.specs.Limits.{Seen, nothing, AllMay, is_among, has_param, has_kernel, with_node, with_nodes, listing, with_app, with_permission, with_param, with_section}
 
 module _ (Kept : FaultKind → Type 0) where
-  -- A node's name has at most MAX_NAME bytes. It stands in its list once unless repeats are taken there. It is known
-  -- or fewer than MAX_NODES are.
+  -- A node's name has at most MAX_NAME bytes, is new in its list unless repeats are allowed there, and was met before
+  -- or fewer than MAX_NODES were.
   pub record NodeKeeps (repeats : Bool) (seen : Seen) (name : List ℕ) : Type 0 where
     pub short : Kept NameTooLong → length name ≤ MAX_NAME
     pub once : Kept TwiceInList → repeats ≡ false → is_among name seen.listed ≡ false
@@ -22,7 +22,7 @@ module _ (Kept : FaultKind → Type 0) where
   abbrev pub GroupsKeep : Seen → List (List (List ℕ)) → Type 0
   GroupsKeep seen groups = AllMay with_nodes (λ _. NodesKeep false) [] seen groups
 
-  -- An application's name has at most MAX_NAME bytes, and is new; if it is new, fewer than MAX_APPS came before it.
+  -- An application's name has at most MAX_NAME bytes and is new; if it is new, fewer than MAX_APPS precede it.
   pub record AppKeeps (before : List App) (seen : Seen) (app : App) : Type 0 where
     pub short : Kept NameTooLong → length app.name ≤ MAX_NAME
     pub once : Kept TwiceApp → is_among app.name (map (λ a. a.name) before) ≡ false
@@ -40,12 +40,12 @@ module _ (Kept : FaultKind → Type 0) where
   ValueKeeps seen (Timeout wait) = Unit {0}
   ValueKeeps seen Param.Other = Unit {0}
 
-  -- a parameter that is read stands once
+  -- a parameter that is read occurs once
   pub record ParamKeeps (before : List Param) (seen : Seen) (param : Param) : Type 0 where
     pub once : Kept BadShape → (name : ParamName) → name_of param ≡ Some name → has_param name before ≡ false
     pub value : ValueKeeps seen param
 
-  -- the section `kernel` stands once
+  -- the section `kernel` occurs once
   pub record KernelKeeps (before : List Section) (seen : Seen) (kernel : List Param) : Type 0 where
     pub once : Kept BadShape → has_kernel before ≡ false
     pub params : AllMay with_param ParamKeeps [] seen kernel

@@ -1,5 +1,5 @@
--- Looser shapes of a configuration. Let pass are an empty list or tuple of nodes, a number that is too large, and a
--- string in place of a section. Each passes where the kind of its fault isn't kept.
+-- Loose shapes of a configuration, which tolerate an empty list or tuple of nodes, a number that is too large, and a
+-- string in place of a section, each unless the kind of its fault is kept.
 use Rattle.std.specs.Prelude.{◌≡◌, ◌≢◌, ◌⊎◌, ℕ, ◌≤◌, false, List, [], ◌∷◌, ◌++◌, codes}
 use Rattle.dac_tokens.specs.declared.fault.FaultKind.{FaultKind}
 use Rattle.dac_tokens.specs.declared.fault.FaultKind.TheVariants.{Unsupported, EmptyList, EmptyTuple, NumberTooLarge}
@@ -14,22 +14,22 @@ use Rattle.dac_shapes.specs.Written.{App, Param, Distributed, Permissions, Manda
 use Rattle.dac_shapes.specs.Grammar.{Parted, between, IsListOf, IsPair, IsTerm, IsNode, IsItem, IsMs, IsPermission}
 
 module _ (Kept : FaultKind → Type 0) where
-  -- this shape is let pass
+  -- this shape is tolerated
   abbrev pub Passes : FaultKind → Type 0
   Passes kind = Kept kind → ⊥
 
-  -- a tuple of nodes may be empty
+  -- a tuple of nodes can be empty
   abbrev pub IsLooseItem : List Word → List (List ℕ) → Type 0
   IsLooseItem words group =
       IsItem words group ⊎ (Passes EmptyTuple × (words ≡ Punctuation OpenTuple ∷ Punctuation CloseTuple ∷ []) × (group ≡ []))
 
-  -- so may a node list
+  -- a node list can be empty
   abbrev pub IsLooseNodeList : List Word → List (List (List ℕ)) → Type 0
   IsLooseNodeList words groups =
       ((inner : List Word) × (words ≡ between OpenList inner CloseList) × Parted IsLooseItem inner groups)
       ⊎ (Passes EmptyList × (words ≡ Punctuation OpenList ∷ Punctuation CloseList ∷ []) × (groups ≡ []))
 
-  -- a number may be too large
+  -- a number can be too large
   abbrev pub IsLooseMs : Word → ℕ → Type 0
   IsLooseMs word n =
       IsMs word n
@@ -63,7 +63,7 @@ module _ (Kept : FaultKind → Type 0) where
   IsLooseParam words Param.Other =
       (name : List ℕ) × ((known : ParamName) → name ≢ spelled known) × IsPair name IsTerm words
 
-  -- in place of a section a string may stand
+  -- a string can replace a section
   abbrev pub IsLooseSection : List Word → Section → Type 0
   IsLooseSection words (Kernel params) = IsPair (codes "kernel") (λ value. IsListOf IsLooseParam value params) words
   IsLooseSection words Section.Other =

@@ -1,4 +1,4 @@
-//! The law of the first fault, as the contract of a function that only looks at a text.
+//! The law of the first fault, as the contract of a function without effect.
 
 ghost use Rattle.std.specs.Prelude.{◌≡◌, ◌↔◌, List, ◌++◌, Err};
 ghost use Rattle.dac_tokens.specs.declared.fault.ConfigFault.{ConfigFault};
@@ -9,9 +9,9 @@ ghost use Rattle.dac_first_fault.specs.FirstFault.{IsWell, IsFaultOf};
 use dac_shapes::laws::limits_in_text_order;
 use dac_tokens::Tokens;
 
-/// Reading this text has a fault if and only if the law admits it. The law says what brings it and of which kind it
-/// is. The law admits one fault alone. Mostly one token brings it: what stands before that is in order, and with it
-/// no longer, whatever stands behind it. Words that are in order are so up to each of them.
+/// Reading a text has a fault exactly if the law admits it, and the law admits only one. Mostly its cause is one token:
+/// the tokens before it are a valid prefix, and with it they aren't, whatever follows. Each prefix of a valid prefix is
+/// valid.
 pub fn first_fault(text: &[u8])
     ensures first { (e : ConfigFault) → ((draft_at text.now ≡ Err e) ↔ IsFaultOf text.now e) }
     ensures alone { (e f : ConfigFault) → IsFaultOf text.now e → IsFaultOf text.now f → e ≡ f }

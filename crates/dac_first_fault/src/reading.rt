@@ -1,4 +1,4 @@
-//! The reader of drafts, with the law of its faults.
+//! The reader of drafts, whose contract contains the law of faults.
 
 ghost use Rattle.std.specs.Prelude.{◌≡◌, ◌≢◌, IfErr, IfOk, MatchResult};
 ghost use Rattle.dac_tokens.specs.declared.fault.FaultKind.TheVariants.{NoMemory};
@@ -15,21 +15,23 @@ use dac_shapes::{Draft, parse_draft};
 use dac_tokens::ConfigFault;
 use std::alloc::Global;
 
-/// What a configuration text says, by names and numbers as they are written, or its first fault.
+/// Reads a configuration text. Returns its contents, with names and numbers as they are written.
 ///
-/// The parser of `dac_shapes` reads the text, and its documents say which fault stands where. A fault that is answered
-/// is the one that the law of [`first_fault`] admits of the text. `NoMemory` is no fault of a text, and stands at 0.
+/// # Errors
+///
+/// The first fault, at the offset that [`parse_draft`] documents: it is the one that the law of [`first_fault`] admits
+/// of the text. `NoMemory` is no fault of a text, and has offset 0.
 pub fn read_draft(alloc: Global, text: &[u8]) -> Result<Draft<'_>, ConfigFault>
-    // What is read is in the grammar.
+    // The grammar assigns the returned draft to the text.
     ensures found { IfOk result (λ draft. IsTextOf text.now (draft_of draft)) }
-    // What is in the grammar is read.
+    // A text in the grammar is read, unless memory runs out.
     ensures only { (draft : Written) → IsTextOf text.now draft
         → MatchResult result (λ d. draft_of d ≡ draft) (λ e. e.kind ≡ NoMemory) }
-    // What is read keeps the limits.
+    // The returned draft keeps the limits.
     ensures limits { IfOk result (λ draft. IsWithinLimits (draft_of draft)) }
-    // Which fault it is, unless memory ran out.
+    // The definition determines the fault, unless memory runs out.
     ensures exact { Gives draft_of result (draft_at text.now) }
-    // The law admits it, and no other fault of this text.
+    // The law admits this fault, and no other of this text.
     ensures first { IfErr result (λ e. e.kind ≢ NoMemory → IsFaultOf text.now e) }
     ensures memory { IfErr result (λ e. e.kind ≡ NoMemory → e.at ≡ 0) }
 {

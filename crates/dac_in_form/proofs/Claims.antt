@@ -1,4 +1,5 @@
--- What a tick claims is in form. A candidate is in the application's list, and what is taken was held by a node.
+-- The claims of a tick are in form, because a candidate is in the application's list, and a former holder is in the
+-- configuration.
 use Rattle.std.proofs.Common.{◌≡◌, ℕ, ◌<◌, true, false, nat_eq, List, [], ◌∷◌, Option, Some, refl, sym, ap, subst, ◌∙◌, inl, inr, true≢false, eq-eqb}
 use Rattle.std.specs.FinMap as map
 use Rattle.std.proofs.lemmas.Map.Views.{exact_unsigned_eq}
@@ -18,27 +19,27 @@ use Rattle.dac_placement.specs.declared.verdicts.Verdict.TheVariants.{Start, Fai
 use Rattle.dac_placement.specs.Placement.{IsFirst, IsVerdict, candidate_of}
 use Rattle.dac_decide.specs.FailoverWait.{Note, IsHeldAt}
 use Rattle.dac_bytes.specs.declared.version.Version.TheVariants.{Two}
-use Rattle.dac_part_bytes.specs.ChainForm.{IsFromFor}
+use Rattle.dac_part_bytes.specs.ChainForm.{IsConsistentOrigin}
 use Rattle.dac_wire.specs.Form.{IsOperation}
 use Rattle.dac_commands.specs.Commands.{claim_act, next_operation}
 use Rattle.dac_commands.specs.laws.Counters.{next-is}
 use Rattle.dac_commands.specs.laws.Terms.{next_term_only}
-use Rattle.dac_ticks.specs.InWords.{IsMine, IsClaimOf, ComesBy, IsTurn}
+use Rattle.dac_ticks.specs.InWords.{IsMine, IsClaimOf, ComesBy, IsSweep}
 use Rattle.dac_ticks.specs.laws.Claimed.{own_claim, other_claim}
 use Rattle.dac_ticks.specs.laws.Counters.{knows_after}
-use Rattle.dac_ticks.specs.laws.Turning.{AreBelow}
+use Rattle.dac_ticks.specs.laws.Sweeping.{AreBelow}
 use Rattle.dac_model_node.specs.laws.Options.{some_same}
 use Rattle.dac_model_world.specs.laws.Carried.{none_some}
 use Rattle.dac_in_form.specs.InForm.{AreInForm}
 use Rattle.dac_in_form.proofs.MayIssue.{MayClaim, claim_is}
 
--- one operation in form, and more
+-- an operation in form, and others in form
 pub one_more : (t : Table) (o : Operation) (os : List Operation) → IsOperation Two t o → AreInForm t os → AreInForm t (o ∷ os)
 one_more t o os first rest x (inl e) = subst (IsOperation Two t) (sym e) first
 one_more t o os first rest x (inr i) = rest x i
 
 module _ (t : Table) (s : StateValue) (app : AppId) where
-  -- whoever is a candidate is the first choice
+  -- a candidate is the first choice
   first_of : (verdict : Verdict) (n : NodeId) → IsVerdict t s app verdict → candidate_of verdict ≡ Some n → IsFirst t s app n
   first_of (Start m) n is e = subst (IsFirst t s app) (some_same m n e) is.1
   first_of (Failover m) n is e = subst (IsFirst t s app) (some_same m n e) is.1
@@ -52,13 +53,13 @@ module _ (t : Table) (own : Origin) (s : StateValue) (may : MayClaim t own s) (a
   holder_there : (holder : NodeId) → IsHeldAt s app holder → holder.0 < node_count t
   holder_there holder held = subst (λ (n : NodeId). n.0 < node_count t) held.2 (may.claimers app held.0 held.1)
 
-  -- where a claim comes from fits how it comes
-  from_is : (verdict : Verdict) (how : How) (from : Option NodeId) → ComesBy s app verdict how from → IsFromFor (node_count t) how from
-  from_is (Start n) how from by = subst (λ h. IsFromFor (node_count t) h from) (sym by.0) by.1
-  from_is (Failover n) how from by = subst (λ h. IsFromFor (node_count t) h from) (sym by.0) (by.1, by.2.1, holder_there by.1 by.2.0)
+  -- the former holder fits the kind of claim
+  from_is : (verdict : Verdict) (how : How) (from : Option NodeId) → ComesBy s app verdict how from → IsConsistentOrigin (node_count t) how from
+  from_is (Start n) how from by = subst (λ h. IsConsistentOrigin (node_count t) h from) (sym by.0) by.1
+  from_is (Failover n) how from by = subst (λ h. IsConsistentOrigin (node_count t) h from) (sym by.0) (by.1, by.2.1, holder_there by.1 by.2.0)
   from_is (Halted n) how from by = absurd by
-  from_is (Move n) how from by = subst (λ h. IsFromFor (node_count t) h from) (sym by.0) by.1
-  from_is (Takeover n) how from by = subst (λ h. IsFromFor (node_count t) h from) (sym by.0) (by.1, by.2.1, holder_there by.1 by.2.0)
+  from_is (Move n) how from by = subst (λ h. IsConsistentOrigin (node_count t) h from) (sym by.0) by.1
+  from_is (Takeover n) how from by = subst (λ h. IsConsistentOrigin (node_count t) h from) (sym by.0) (by.1, by.2.1, holder_there by.1 by.2.0)
   from_is (Kept n) how from by = absurd by
   from_is Nobody how from by = absurd by
 
@@ -66,7 +67,7 @@ module _ (t : Table) (own : Origin) (s : StateValue) (may : MayClaim t own s) (a
     abbrev after : StateValue
     after = join s (meaning_of (next_operation s own (claim_act s app how from) ∷ []))
 
-    -- who made the claims that stand after a claim by the incarnation
+    -- the claimers after a claim by the incarnation
     claimers_after : (b : AppId) (c : ClaimValue) → map.get after.claims b ≡ Some c → c.origin.node.0 < node_count t
     claimers_after b c e = elim (nat_eq b.0 app.0) as (λ same. nat_eq b.0 app.0 ≡ same → c.origin.node.0 < node_count t) [
       | true ↦ λ same.
@@ -90,15 +91,15 @@ module _ (t : Table) (own : Origin) (s : StateValue) (may : MayClaim t own s) (a
     may_go_on : MayClaim t own (join s (meaning_of (o ∷ [])))
     may_go_on = subst (λ (x : Operation). MayClaim t own (join s (meaning_of (x ∷ [])))) same_claim (may_after claim.how claim.from)
 
--- each claim of a turn is in form
-pub turn_is : (t : Table) (own : Origin) (notes : List Note) (now : ℕ) (apps : List AppId) → AreBelow (app_count t) apps → (s : StateValue) → MayClaim t own s → (ops : List Operation) (passed : List AppId) → IsTurn t own notes now s apps ops passed → AreInForm t ops
-turn_is t own notes now [] below s may ops passed turn = λ o i. absurd (subst (IsOperationOf o) turn.0 i)
-turn_is t own notes now (app ∷ apps) below s may ops passed (inl left) = turn_is t own notes now apps below.1 s may ops passed left.1
-turn_is t own notes now (app ∷ apps) below s may ops passed (inr (inl claimed)) =
+-- each claim of a sweep is in form
+pub sweep_is : (t : Table) (own : Origin) (notes : List Note) (now : ℕ) (apps : List AppId) → AreBelow (app_count t) apps → (s : StateValue) → MayClaim t own s → (ops : List Operation) (passed : List AppId) → IsSweep t own notes now s apps ops passed → AreInForm t ops
+sweep_is t own notes now [] below s may ops passed sweep = λ o i. absurd (subst (IsOperationOf o) sweep.0 i)
+sweep_is t own notes now (app ∷ apps) below s may ops passed (inl left) = sweep_is t own notes now apps below.1 s may ops passed left.1
+sweep_is t own notes now (app ∷ apps) below s may ops passed (inr (inl claimed)) =
     let o = claimed.1 in
     let mine = claimed.3.1.0 in
     let claim = claimed.3.1.1.0 in
     subst (AreInForm t) (sym claimed.3.0)
     (one_more t o claimed.2 (claimed_is t own s may app below.0 notes now claimed.0 o mine claim)
-    (turn_is t own notes now apps below.1 (join s (meaning_of (o ∷ []))) (may_go_on t own s may app below.0 notes now claimed.0 o mine claim) claimed.2 passed claimed.3.1.1.1))
-turn_is t own notes now (app ∷ apps) below s may ops passed (inr (inr gone)) = turn_is t own notes now apps below.1 s may ops gone.1 gone.2.1.1.1
+    (sweep_is t own notes now apps below.1 (join s (meaning_of (o ∷ []))) (may_go_on t own s may app below.0 notes now claimed.0 o mine claim) claimed.2 passed claimed.3.1.1.1))
+sweep_is t own notes now (app ∷ apps) below s may ops passed (inr (inr gone)) = sweep_is t own notes now apps below.1 s may ops gone.1 gone.2.1.1.1

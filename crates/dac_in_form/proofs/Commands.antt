@@ -1,4 +1,4 @@
--- What a command issues is in form: whatever bytes can't say of it is refused.
+-- The operation of a command is in form, because a command whose operation bytes can't encode is refused.
 use Rattle.std.proofs.Common.{◌≡◌, ℕ, ◌+◌, ◌<◌, ◌≤◌, ◌^◌, true, false, not, ◌||◌, List, [], ◌∷◌, length, Option, None, Some, is_some, is_eq, refl, sym, ap, subst, ◌∙◌, arith, leb-true, leb-false, ltb-true, ltb-false, true≢false}
 use Rattle.std.specs.List.{AllByRecursion}
 use Rattle.std.specs.Option.{option_map}
@@ -32,7 +32,7 @@ use Rattle.dac_placement.specs.Placement.{RunsAt, runner_of}
 use Rattle.dac_placement.specs.laws.Tests.{runner_is}
 use Rattle.dac_bytes.specs.Ranges.{IsIncarnation, IsOrigin, IsDot}
 use Rattle.dac_bytes.specs.declared.version.Version.TheVariants.{Two}
-use Rattle.dac_part_bytes.specs.ChainForm.{IsFromFor}
+use Rattle.dac_part_bytes.specs.ChainForm.{IsConsistentOrigin}
 use Rattle.dac_part_bytes.specs.KeyedForm.{IsKey}
 use Rattle.dac_part_bytes.specs.Reading.{is_listed}
 use Rattle.dac_wire.specs.Codes.{IsKindIn, kind_of_act}
@@ -50,7 +50,7 @@ use Rattle.dac_in_form.proofs.MayIssue.{MayIssue, sound_by, not_first, next_is_d
 
 -- ---- replaced dots
 
--- what is so of each dot that is found is so of each
+-- a property of each dot that is found in the list holds of each of its dots
 each_found : (P : Dot → Type 0) (over : List Dot) → ((d : Dot) → has_key dot_cmp over d ≡ true → P d) → AllByRecursion P over
 each_found P [] found = tt
 each_found P (x ∷ over) found = (
@@ -58,14 +58,14 @@ each_found P (x ∷ over) found = (
   each_found P over (λ d h. found d (or_right (eq_by_cmp dot_cmp d x) (has_key dot_cmp over d) h)),
 )
 
--- the number of those that may be replaced fits its field
+-- the number of dots that an operation can replace fits its field
 few_fit : (n : ℕ) → too_many n ≡ false → n < 2 ^ 16
 few_fit n h = below n MAX_REPLACED (2 ^ 16) (ltb-false MAX_REPLACED n h) (ltb-true MAX_REPLACED (2 ^ 16) refl)
   where
     below : (a b c : ℕ) → a ≤ b → b < c → a < c
     below a b c h k = omega arith
 
--- known dots that rise and aren't too many
+-- known dots in rising order, and not too many
 record Replaceable (s : StateValue) (over : List Dot) : Type 0 where
   among : (d : Dot) → has_key dot_cmp over d ≡ true → set.contains s.known d ≡ true
   rising : IsRising dot_cmp over
@@ -91,7 +91,7 @@ module _ (t : Table) (own : Origin) (s : StateValue) (may : MayIssue t own s) wh
   drains_are : (at : Origin) → too_many (length (standing_drains s at)) ≡ false → Replaceable s (standing_drains s at)
   drains_are at few = record { among = λ d h. may.state.drains (keyed_write at d) (sym (drains_at-has at s.drains d) ∙ h); rising = drains_at-rising at s.drains; few = few }
 
-  -- ---- what is named
+  -- ---- names
 
   live_inc : (node : NodeId) → not_live s node ≡ false → IsIncarnation Two (live_or_none s node)
   live_inc node live = may.lives node (record { inc = live_or_none s node; flag = IsUp }) (live_there t own s node live)
@@ -102,7 +102,7 @@ module _ (t : Table) (own : Origin) (s : StateValue) (may : MayIssue t own s) wh
   key_is : (app : AppId) (node : NodeId) → no_app t app ≡ false → no_node t node ≡ false → unlisted t app node ≡ false → not_live s node ≡ false → IsKey Two t (live_key s app node)
   key_is app node named there listed live = record { app = leb-false (app_count t) app.0 named; origin = live_origin_is node there live; listed = not-false (is_listed t app node) listed }
 
-  -- the node at which an application runs is one of the configuration
+  -- the node at which an application runs is in the configuration
   runner_there : (app : AppId) (n : NodeId) → RunsAt t s app n → n.0 < node_count t
   runner_there app n runs = by_claim (map.get s.claims app) refl runs.holder
     where
@@ -110,7 +110,7 @@ module _ (t : Table) (own : Origin) (s : StateValue) (may : MayIssue t own s) wh
       by_claim None is e = none_some e
       by_claim (Some c) is e = subst (λ (q : Origin). q.node.0 < node_count t) (some_same c.origin (record { node = n; inc = runs.inc }) e) (may.claim.claimers app c is)
 
-  taken_from : (app : AppId) (o : Option NodeId) → runner_of t s app ≡ o → not (is_some o) ≡ false → IsFromFor (node_count t) TakenOver o
+  taken_from : (app : AppId) (o : Option NodeId) → runner_of t s app ≡ o → not (is_some o) ≡ false → IsConsistentOrigin (node_count t) TakenOver o
   taken_from app None is e = absurd (true≢false e)
   taken_from app (Some n) is e = (n, refl, runner_there app n ((runner_is t s app n).0 is))
 

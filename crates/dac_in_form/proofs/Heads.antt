@@ -1,4 +1,4 @@
--- Whom a message names and which numbers it tells are in form, and so is what nodes keep of what they got.
+-- The names and numbers of a message are in form, and so are the positions that nodes record.
 use Rattle.std.proofs.Common.{◌≡◌, ℕ, ◌<◌, ◌≤◌, true, false, cond, max, nat_eq, List, [], ◌∷◌, ◌++◌, length, Option, None, Some, zero, suc, refl, sym, subst, ◌∙◌, arith}
 use Rattle.std.specs.Prelude.{nat_lt}
 use Rattle.std.specs.List.{AllByRecursion, slice_get}
@@ -28,7 +28,7 @@ use Rattle.dac_model_node.specs.laws.Shipping.{message_is}
 use Rattle.dac_model_world.specs.laws.Carried.{none_some}
 use Rattle.dac_in_form.proofs.MayIssue.{MayIssue}
 
--- a message in form but for what it brings
+-- a message in form, except for its content
 pub record IsHead (t : Table) (m : Message) : Type 0 where
   pub from : IsOrigin Two (node_count t) m.from
   pub to : m.to.0 < node_count t
@@ -47,9 +47,9 @@ head_at t [] k m all e = none_some e
 head_at t (l ∷ ms) zero m all e = subst (IsHead t) (some_same l m e) all.0
 head_at t (l ∷ ms) (suc k) m all e = head_at t ms k m all.1 e
 
--- ---- what was got
+-- ---- positions got
 
--- the position up to which something was got from a node
+-- the position got from a node
 pub record IsGot (t : Table) (node : NodeId) (p : Position) : Type 0 where
   pub there : node.0 < node_count t
   pub inc : IsIncarnation Two p.inc
@@ -85,13 +85,13 @@ module _ (t : Table) (p : PeersValue) (got : AreGot t p) where
     got_more = put_is from.node (got_after (map.get p.got from.node) (record { inc = from.inc; number = up_to }))
         (later_is t from.node (map.get p.got from.node) (record { inc = from.inc; number = up_to }) (got from.node) (record { there = is.node; inc = is.inc; number = most }))
 
-    -- what is got by a message's body
+    -- the positions got after a message's body
     pub got_by_is : (body : Body) → AreGot t (got_by p from up_to body)
     got_by_is (Whole s) = got_more
     got_by_is (Interval s) = got_more
     got_by_is Nothing = got
 
--- ---- what is shipped
+-- ---- shipped messages
 
 module _ (t : Table) (r : ModelRunning) (may : MayIssue t r.origin (joined r.log)) (count : length r.log ≤ MAX_COUNTER) (got : AreGot t r.peers) (to : NodeId) where
   position_inc : (p : Position) → IsPosition (running_shown t r) to p → IsIncarnation Two p.inc

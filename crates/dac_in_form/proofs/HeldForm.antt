@@ -1,4 +1,4 @@
--- What runs hold and ship is what issued operations mean.
+-- Whatever runs hold and ship is the meaning of issued operations.
 use Rattle.std.specs.Prelude.{◌≡◌, Bool, true, false, cond, List, [], ◌∷◌, filter}
 use Rattle.std.proofs.Common.{sym, subst, inl, inr}
 use Rattle.std.specs.FinSet as set
@@ -19,7 +19,7 @@ use Rattle.dac_model_world.specs.laws.Operations.{Agree-within, DistinctDots-agr
 use Rattle.dac_in_form.specs.InForm.{StateFits, IsSmall, AreInForm, MeaningsAreInForm}
 use Rattle.dac_in_form.specs.HeldForm.{BodyFits, HeldAreInForm}
 
--- what passes a test is among the operations
+-- operations that pass a test are among the operations
 passed_is : (b : Bool) (o x : Operation) (os ps : List Operation) → (IsOperationOf o ps → IsOperationOf o os) → IsOperationOf o (cond b (x ∷ ps) ps) → IsOperationOf o (x ∷ os)
 passed_is true o x os ps rest (inl e) = inl e
 passed_is true o x os ps rest (inr h) = inr (rest h)

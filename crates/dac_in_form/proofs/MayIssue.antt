@@ -1,4 +1,4 @@
--- What a node has that issues operations in form, and the next operation of its incarnation.
+-- The premises under which a node issues operations in form, and its incarnation's next operation.
 use Rattle.std.proofs.Common.{◌≡◌, ℕ, ◌+◌, ◌<◌, ◌≤◌, true, false, ◌==◌, if◌then◌else◌, List, Option, None, Some, refl, sym, subst, arith, lt_irrefl, leb-true}
 use Rattle.std.specs.FinSet as set
 use Rattle.std.specs.FinMap as map
@@ -24,33 +24,33 @@ use Rattle.dac_meaning.specs.Meaning.{IsOperationOf, DotsDetermine, meaning_of}
 use Rattle.dac_config.specs.Table.{Table, node_count, app_count}
 use Rattle.dac_bytes.specs.Ranges.{IsIncarnation, IsOrigin, IsDot, InRange}
 use Rattle.dac_bytes.specs.declared.version.Version.TheVariants.{Two}
-use Rattle.dac_part_bytes.specs.ChainForm.{IsFromFor}
+use Rattle.dac_part_bytes.specs.ChainForm.{IsConsistentOrigin}
 use Rattle.dac_part_bytes.specs.Reading.{is_listed}
 use Rattle.dac_wire.specs.Form.{IsOperation}
-use Rattle.dac_commands.specs.Commands.{KnowsItself}
+use Rattle.dac_commands.specs.Commands.{KnowsOwnBoot}
 use Rattle.dac_commands.specs.Written.{IsNextTerm}
 use Rattle.dac_commands.specs.laws.Terms.{next_term_only}
 use Rattle.dac_model_node.specs.Step.{up}
 use Rattle.dac_in_form.specs.InForm.{AreInForm}
 
--- An incarnation in form that knows its own boot, and claims that nodes of the configuration made.
+-- The incarnation is in form and knows its own boot, and nodes of the configuration made all claims.
 pub record MayClaim (t : Table) (own : Origin) (s : StateValue) : Type 0 where
   pub origin : IsOrigin Two (node_count t) own
-  pub knows : KnowsItself own s
+  pub knows : KnowsOwnBoot own s
   pub claimers : (app : AppId) (c : ClaimValue) → map.get s.claims app ≡ Some c → c.origin.node.0 < node_count t
 
--- Beside it, dots and lives that there can be.
+-- The incarnation can claim, and the dots and lives of the state are in form.
 pub record MayIssue (t : Table) (own : Origin) (s : StateValue) : Type 0 where
   pub claim : MayClaim t own s
   pub state : IsState s
   pub known : InRange Two (node_count t) s.known
   pub lives : (node : NodeId) (l : Life) → map.get s.lives node ≡ Some l → IsIncarnation Two l.inc
 
--- what operations in form mean is so, at an incarnation whose boot is one of them
+-- the meaning of operations in form satisfies this, at an incarnation whose boot is one of them
 abbrev pub MeaningsMayIssue : Type 0
 MeaningsMayIssue = (t : Table) (os : List Operation) → DotsDetermine os → AreInForm t os → (own : Origin) → IsOrigin Two (node_count t) own → IsOperationOf (up own) os → MayIssue t own (meaning_of os)
 
--- ---- what is no fault
+-- ---- operations without a fault
 
 pub sound_by : (d : Dot) (a : Act) → replaces_itself d a ≡ false → has_bad_over (over_list a) ≡ false → has_bad_counter d a ≡ false → is_on_self d a ≡ false → fault_of d a ≡ None
 sound_by d a p q r s = λ i. if p i then Some OwnDot else if q i then Some BadOver else if r i then Some BadCounter else if s i then Some OnSelf else None
@@ -66,14 +66,14 @@ module _ (t : Table) (own : Origin) (s : StateValue) (may : MayClaim t own s) (d
       past : (n : ℕ) → 1 < n → n ≡ 1 → ⊥
       past n h e = omega arith
 
-  -- the next dot is one that there can be
+  -- the next dot is in form
   pub next_is_dot : IsDot Two (node_count t) d
   next_is_dot = record { origin = subst (IsOrigin Two (node_count t)) (sym next.same_origin) may.origin; first = from_one d.n second; last = next.at_most }
     where
       from_one : (n : ℕ) → 1 < n → 1 ≤ n
       from_one n h = omega arith
 
-  -- it isn't among dots that are known
+  -- the next dot isn't among known dots
   pub apart : (over : List Dot) → ((e : Dot) → has_key dot_cmp over e ≡ true → set.contains s.known e ≡ true) → has_key dot_cmp over d ≡ false
   apart over among = false_from_ne_true (has_key dot_cmp over d) (λ h. lt_irrefl d.n (next.above d.n (subst (λ (e : Dot). set.contains s.known e ≡ true) same (among d h))))
     where
@@ -89,7 +89,7 @@ module _ (t : Table) (own : Origin) (s : StateValue) (may : MayClaim t own s) (d
       after g n e = omega arith
 
   -- a claim under the next term by a node of the application's list
-  pub claim_is : (app : AppId) (term : ℕ) (how : How) (from : Option NodeId) → IsNextTerm s app term → term ≤ MAX_COUNTER → app.0 < app_count t → is_listed t app own.node ≡ true → IsFromFor (node_count t) how from
+  pub claim_is : (app : AppId) (term : ℕ) (how : How) (from : Option NodeId) → IsNextTerm s app term → term ≤ MAX_COUNTER → app.0 < app_count t → is_listed t app own.node ≡ true → IsConsistentOrigin (node_count t) how from
       → IsOperation Two t (operation d (Claim app term how from))
   claim_is app term how from is most there listed came = record {
     dot = next_is_dot;

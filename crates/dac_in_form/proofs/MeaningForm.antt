@@ -1,4 +1,4 @@
--- What operations in form mean, part by part.
+-- The meaning of operations in form, part by part.
 use Rattle.std.specs.Prelude.{◌≡◌, ℕ, ◌+◌, ◌<◌, ◌≤◌, ◌^◌, length, true, false, cond, T, List, [], ◌∷◌, Option, None, Some, is_some, unwrap_or, refl}
 use Rattle.std.proofs.Common.{sym, ap, subst, ◌∙◌, inl, inr, arith, true≢false}
 use Rattle.std.specs.declared.cmp.Ordering.{Ordering}
@@ -33,7 +33,7 @@ use Rattle.dac_chains.specs.Lives.{life_cmp}
 use Rattle.dac_chains.specs.Claims.{claim_cmp}
 use Rattle.dac_wishes.specs.laws.KeyedWrites.{tied_is}
 use Rattle.dac_wishes.specs.Writes.{Write}
-use Rattle.dac_wishes.specs.PermissionsValue.{says_true}
+use Rattle.dac_wishes.specs.PermissionsValue.{is_permitting}
 use Rattle.dac_wishes.specs.DrainsValue.{DrainWrite, says_drained}
 use Rattle.dac_operations.specs.declared.act.Act.{Act}
 use Rattle.dac_operations.specs.declared.act.Act.TheVariants.{Up, Down, Permit, Start, Stop, Drain, Claim}
@@ -57,7 +57,7 @@ none_some e = cc
 
 -- ---- lists
 
--- a dot of a list is one that there can be, if each is
+-- a dot of a list is in form, if each is
 named_dot : (t : Table) (over : List Dot) (d : Dot) → AllByRecursion (IsDot Two (node_count t)) over → has_key dot_cmp over d ≡ true → IsDot Two (node_count t) d
 named_dot t [] d all h = absurd (true≢false (sym h))
 named_dot t (x ∷ over) d all h = elim (or_cases (eq_by_cmp dot_cmp d x) (has_key dot_cmp over d) h) [
@@ -65,7 +65,7 @@ named_dot t (x ∷ over) d all h = elim (or_cases (eq_by_cmp dot_cmp d x) (has_k
   | inr r ↦ named_dot t over d all.1 r
 ]
 
--- the dots that an act in form replaces are ones that there can be
+-- the dots that an act in form replaces are in form
 over_in_form : (t : Table) (n : NodeId) (a : Act) → IsAct Two t n a → AllByRecursion (IsDot Two (node_count t)) (over_list a)
 over_in_form t n Up is = tt
 over_in_form t n (Down node inc) is = tt
@@ -75,7 +75,7 @@ over_in_form t n (Stop key over) is = is.1.each
 over_in_form t n (Drain node inc value over) is = is.1.each
 over_in_form t n (Claim app term how from) is = tt
 
--- what is so of each that is found is so of each entry
+-- a property of each value that is found holds of each entry
 module _ {K X : Type 0} {R : K → K → Ordering} (total : IsTotalOrder R) (exact : CmpEqualImpliesEq R) where
   find_first : (e : K × X) (es : List (K × X)) → find R e.0 (e ∷ es) ≡ Some e.1
   find_first e es = ap (λ r. cond (is_eq r) (Some e.1) (find R e.0 es)) (tied_itself total e.0)
@@ -104,7 +104,7 @@ is_less Less p = refl
 is_less Equal p = absurd p
 is_less Greater p = absurd p
 
--- no more entries than numbers below this one, where each key has its own
+-- there are at most as many entries as numbers below this one, if each key has its own number
 module _ {K X : Type 0} {R : K → K → Ordering} (number : K → ℕ) (less : (a b : K) → R a b ≡ Less → number a < number b) where
   later : (k : K) (es : List (K × X)) → T (below_all R k es) → AllByRecursion (λ (e : K × X). number k + 1 ≤ number e.0) es
   later k [] h = tt
@@ -148,7 +148,7 @@ stands : (o : Option Flag) → is_some o ≡ true → (f : Flag) × (o ≡ Some 
 stands None h = absurd (true≢false (sym h))
 stands (Some f) h = (f, refl)
 
--- the greatest value is one of those
+-- a property of each value holds of the greatest
 greatest_is : {X : Type 0} (cmp : X → X → Ordering) (P : X → Type 0) (o : Option X) (x : X) → IsGreatest cmp P o → o ≡ Some x → P x
 greatest_is cmp P None x g e = none_some e
 greatest_is cmp P (Some v) x g e = subst P (ap (λ o. unwrap_or o v) e) g.0
@@ -162,7 +162,7 @@ module _ (t : Table) (os : List Operation) (agree : DotsDetermine os) (form : Ar
     abbrev nodes : ℕ
     nodes = node_count t
 
-    -- a dot of one of the operations, or that one of them replaces
+    -- a dot of one of the operations, or one that it replaces
     heard_dots : InRange Two nodes s.heard
     heard_dots d h = let f = (heard os d).0 h in subst (IsDot Two nodes) f.1.1 (form f.0 f.1.0).dot
 
@@ -185,7 +185,7 @@ module _ (t : Table) (os : List Operation) (agree : DotsDetermine os) (form : Ar
     permit_in_form w h =
         let f = stands (map.get s.permits w) h in
         let p = ((permits os agree w f.0).0 f.1).0 in
-        record { key = (act_in_form p.0 (Permit w.key (says_true f.0) p.1.1.1.0) p.1.0 p.1.1.1.1).0; dot = known_dot p.0 w.dot p.1.0 p.1.1.0 ((states os).permits w h) }
+        record { key = (act_in_form p.0 (Permit w.key (is_permitting f.0) p.1.1.1.0) p.1.0 p.1.1.1.1).0; dot = known_dot p.0 w.dot p.1.0 p.1.1.0 ((states os).permits w h) }
 
     start_in_form : (w : Write) → set.contains s.starts w ≡ true → IsKnownWrite (IsKey Two t) Two t s.known w
     start_in_form w h =
@@ -231,7 +231,7 @@ module _ (t : Table) (os : List Operation) (agree : DotsDetermine os) (form : Ar
       drains = record { each = drain_in_form; keys = fits.drains.keys; dots = fits.drains.dots };
     }
 
-    -- so an incarnation that knows these operations issues operations in form
+    -- an incarnation that knows these operations issues operations in form
     pub may_issue : (own : Origin) → IsOrigin Two nodes own → IsOperationOf (boot_of own) os → MayIssue t own s
     may_issue own is booted = record {
       claim = record { origin = is; knows = (known os (dot own 1)).1 (boot_of own, (booted, inl refl)); claimers = λ app c e. (claim_in_form app c e).origin.node };

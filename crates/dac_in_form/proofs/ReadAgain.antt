@@ -1,4 +1,4 @@
--- What is in form is read from its bytes.
+-- Values in form are read from their bytes.
 use Rattle.std.proofs.Common.{◌≡◌, ℕ, ◌==◌, cond, List, [], ◌++◌, length, Ok, refl, sym, ap, ◌∙◌, append_assoc, append-nil}
 use Rattle.dac_config.specs.Table.{Table}
 use Rattle.dac_bytes.specs.Numbers.{u8_bytes}

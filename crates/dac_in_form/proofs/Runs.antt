@@ -1,4 +1,4 @@
--- In each run, what is issued and shipped is in form: one event after another.
+-- Issued operations and shipped messages of each run are in form: a loop over events.
 use Rattle.std.proofs.Common.{◌≡◌, ℕ, ◌<◌, ◌≤◌, ◌+◌, ◌-◌, Bool, true, false, cond, nat_eq, List, [], ◌∷◌, ◌++◌, length, Option, Some, None, Ok, Err, refl, sym, ap, subst, ◌∙◌, inl, inr, arith, leb-false, leb-true, ltb-true}
 use Rattle.std.specs.Prelude.{nat_le, nat_lt}
 use Rattle.std.specs.List.{AllByRecursion, slice_get}
@@ -51,7 +51,7 @@ use Rattle.dac_in_form.proofs.Transitions.{none_issued, transition_is}
 
 -- ---- the invariant
 
--- a node that runs: its incarnation is in form, its boot was issued, and its numbers are in range
+-- the running node's incarnation is in form, its boot was issued, and its numbers are in range
 record IsRunning (t : Table) (ops : List Operation) (n : NodeId) (last : ℕ) (r : ModelRunning) : Type 0 where
   origin : IsOrigin Two (node_count t) (own_origin n last)
   booted : IsOperationOf (up (own_origin n last)) ops
@@ -67,7 +67,7 @@ record IsWorld (t : Table) (w : ModelWorld) : Type 0 where
   operations : AreInForm t w.operations
   messages : AllByRecursion (IsHead t) w.messages
 
--- ---- what stays
+-- ---- unchanged parts
 
 node_more : (t : Table) (ops more : List Operation) (n : NodeId) (d : ModelNode) → IsNode t ops n d → IsNode t (ops ++ more) n d
 node_more t ops more n d is r on =
@@ -80,11 +80,11 @@ operations_more t ops more old new o i = elim (In-append_cases o ops more i) [ i
 same_node : (m n : NodeId) → nat_eq m.0 n.0 ≡ true → m ≡ n
 same_node m n e = ap (λ k. record { 0 = k }) (exact_unsigned_eq m.0 n.0 e)
 
--- a number after one that isn't the last
+-- the number after one that isn't the last
 next_at_most : (m n : ℕ) → n < m → n + 1 ≤ m
 next_at_most m n h = omega arith
 
--- a boot that isn't refused is of an incarnation that there can be
+-- the incarnation of an accepted boot is in form
 boot_at_most : (last : ℕ) (e : Event) → refusal_off last e ≡ None → last + 1 ≤ MAX_INCARNATION
 boot_at_most last (Boot now) none = next_at_most MAX_INCARNATION last (leb-false MAX_INCARNATION last (none_is ((nat_le MAX_INCARNATION last, IncarnationsUsedUp) ∷ []) none).0)
 boot_at_most last Crash none = no_off none
@@ -94,7 +94,7 @@ boot_at_most last (Ship to) none = no_off none
 boot_at_most last (Hear m) none = no_off none
 boot_at_most last (HearOp o) none = no_off none
 
--- what a transition leaves of a log and of peers
+-- the log and the peer table after a transition
 goes_as : (r : ModelRunning) (note : Note) (transition : Transition) (q : ModelRunning) → goes_on r note transition ≡ Some q → (q.log ≡ r.log ++ transition.adds) × (q.peers ≡ transition.peers)
 goes_as r note transition q e = by_off transition.goes_off _ refl refl e
   where
@@ -104,7 +104,7 @@ goes_as r note transition q e = by_off transition.goes_off _ refl refl e
         let same = sym (some_same after q p) in
         (ap (λ (x : ModelRunning). x.log) same ∙ log, ap (λ (x : ModelRunning). x.peers) same ∙ peers)
 
--- a message of a number is in form but for what it brings
+-- the message of a number is in form, except for its content
 counted_head : (t : Table) (ms : List Message) (k : ℕ) (m : Message) → AllByRecursion (IsHead t) ms → counted ms k ≡ Some m → IsHead t m
 counted_head t ms k m all e =
     elim (nat_eq k 0) as (λ b. cond b None (slice_get ms (k - 1)) ≡ Some m → IsHead t m) [
@@ -115,7 +115,7 @@ counted_head t ms k m all e =
 -- ---- one event
 
 module _ (means : MeaningsMayIssue) (t : Table) (w : ModelWorld) (s : SetWorld) (h : Sound w s) (f : IsWorld t w) (n : NodeId) where
-  -- node n goes on to d; it issues qs and ships ms
+  -- node n becomes d, issues qs and ships ms
   world_next : (d : ModelNode) (qs : List Operation) (ms : List Message) → IsNode t (w.operations ++ qs) n d → AreInForm t qs → AllByRecursion (IsHead t) ms
       → IsWorld t (record { count = w.count; node = with_node w.node n d; operations = w.operations ++ qs; messages = w.messages ++ ms })
   world_next d qs ms here issued shipped = record {
@@ -155,7 +155,7 @@ module _ (means : MeaningsMayIssue) (t : Table) (w : ModelWorld) (s : SetWorld) 
     abbrev was : IsRunning t w.operations n (w.node n).last r
     was = f.nodes n r on
 
-    -- the state of a running node is what issued operations mean, one of which is its boot
+    -- the state of a running node is the meaning of issued operations, one of which is its boot
     may_issue : MayIssue t r.origin (joined r.log)
     may_issue =
         let held = held_at w s n r h on in
@@ -165,7 +165,7 @@ module _ (means : MeaningsMayIssue) (t : Table) (w : ModelWorld) (s : SetWorld) 
         subst (λ (p : Origin × StateValue). MayIssue t p.0 p.1) (λ i. (sym held.mine i, sym held.state i))
         (means t os agree (λ o i. f.operations o (held.ok.within o i)) own was.origin (held.ok.own (up own) was.booted refl))
 
-    -- the node does a transition
+    -- the node makes a transition
     transition_next : (e : Event) → refusal_on t (running_shown t r) e ≡ None → ((m : Message) → e ≡ Hear m → IsHead t m) →
         let transition = transition_on t r e in
         let d : ModelNode = record { last = (w.node n).last; running = goes_on r (note_of (joined r.log) e) transition } in
@@ -190,7 +190,7 @@ module _ (means : MeaningsMayIssue) (t : Table) (w : ModelWorld) (s : SetWorld) 
         few : (a b c m : ℕ) → a ≡ b + c → b + c ≤ m → a ≤ m
         few a b c m e k = omega arith
 
-  -- an event that isn't refused
+  -- an accepted event
   world_ok : (what : What) (e : Event) (running : Option ModelRunning) → n.0 < node_count t → event_of w.operations w.messages what ≡ Ok e → refusal_of t (shown t (w.node n)) e ≡ None → (w.node n).running ≡ running →
       let step = accepted t n (w.node n).last running e in
       IsWorld t (answered_by w n step.node step.answer).world
@@ -231,7 +231,7 @@ world_run means t w s (e ∷ es) (a ∷ answers) final h f run =
     let first = run_first t w e es a answers final run in
     world_run means t first.0 (set_step s e.node e.what a) es answers final (sound_step t w s e a first.0 h first.1.0) (world_step means t w s e a first.0 h f first.1.0) first.1.1
 
--- nothing has happened yet
+-- the initial world
 world_start : (t : Table) → IsWorld t (start t)
 world_start t = record { count = refl; nodes = λ n r e. none_some e; operations = none_issued t; messages = tt }
 

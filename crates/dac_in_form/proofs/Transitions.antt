@@ -1,4 +1,4 @@
--- What an accepted event does at a running node in form: what it issues, ships and keeps of peers is in form.
+-- The transition of an accepted event: its operations, its message and its peer table are in form.
 use Rattle.std.proofs.Common.{◌≡◌, ℕ, ◌<◌, ◌≤◌, nat_eq, List, [], ◌∷◌, length, None, refl, arith, leb-false}
 use Rattle.std.specs.List.{AllByRecursion}
 use Rattle.dac_base.specs.declared.limits.TheConstants.{MAX_COUNTER}
@@ -14,9 +14,9 @@ use Rattle.dac_messages.specs.declared.event.Event.{Event}
 use Rattle.dac_messages.specs.declared.event.Event.TheVariants.{Boot, Crash, Command as Commanded, Tick, Ship, Hear, HearOp}
 use Rattle.dac_commands.specs.Causes.{no_node}
 use Rattle.dac_commands.specs.laws.Written.{none_is}
-use Rattle.dac_ticks.specs.Ticks.{turn_of}
-use Rattle.dac_ticks.specs.laws.Turning.{apps_below}
-use Rattle.dac_ticks.specs.laws.Words.{turn_in_words}
+use Rattle.dac_ticks.specs.Ticks.{sweep_of}
+use Rattle.dac_ticks.specs.laws.Sweeping.{apps_below}
+use Rattle.dac_ticks.specs.laws.Words.{sweep_in_words}
 use Rattle.dac_peers.specs.Peers.{is_up_to_date}
 use Rattle.dac_model_node.specs.Effect.{issued_by}
 use Rattle.dac_model_node.specs.ModelNode.{ModelRunning, joined, running_shown}
@@ -30,10 +30,10 @@ use Rattle.dac_model_world.specs.ModelWorld.{shipped_by}
 use Rattle.dac_in_form.specs.InForm.{AreInForm}
 use Rattle.dac_in_form.proofs.MayIssue.{MayIssue}
 use Rattle.dac_in_form.proofs.Commands.{command_is}
-use Rattle.dac_in_form.proofs.Claims.{one_more, turn_is}
+use Rattle.dac_in_form.proofs.Claims.{one_more, sweep_is}
 use Rattle.dac_in_form.proofs.Heads.{IsHead, AreGot, got_by_is, head_is}
 
--- what a transition issues, ships and keeps of peers
+-- the operations, message and peer table of a transition are in form
 pub record IsTransitionInForm (t : Table) (transition : Transition) : Type 0 where
   pub issued : AreInForm t (issued_by transition.reply)
   pub shipped : AllByRecursion (IsHead t) (shipped_by transition.reply)
@@ -47,19 +47,19 @@ module _ (t : Table) (r : ModelRunning) (may : MayIssue t r.origin (joined r.log
   tick_is now notes none Shut = record { issued = none_issued t; shipped = tt; got = got }
   tick_is now notes none GiveUp = record { issued = none_issued t; shipped = tt; got = got }
   tick_is now notes none Opened =
-      let turn = turn_of t r.origin (waits_of t notes) now (joined r.log) in
+      let sweep = sweep_of t r.origin (waits_of t notes) now (joined r.log) in
       let below = apps_below 0 (app_count t) (app_count t) (omega arith) in
       record {
-        issued = turn_is t r.origin notes now (apps_of t) below (joined r.log) may.claim turn.ops turn.passed (turn_in_words t r.origin notes now (joined r.log) (leaves_room t (running_shown t r) now none));
+        issued = sweep_is t r.origin notes now (apps_of t) below (joined r.log) may.claim sweep.ops sweep.passed (sweep_in_words t r.origin notes now (joined r.log) (leaves_room t (running_shown t r) now none));
         shipped = tt;
         got = got;
       }
 
-  -- a ship that isn't refused is to a node of the configuration
+  -- an accepted ship is to a node of the configuration
   ship_there : (to : NodeId) → refusal_on t (running_shown t r) (Ship to) ≡ None → to.0 < node_count t
   ship_there to none = leb-false (node_count t) to.0 (none_is ((no_node t to, UnknownNode) ∷ (nat_eq to.0 r.origin.node.0, OnSelf) ∷ (is_up_to_date r.peers (joined r.log) r.base (length r.log) to, UpToDate) ∷ []) none).0
 
-  -- What comes by a message is in form but for what it brings.
+  -- The transition is in form, if an incoming message is, except for its content.
   pub transition_is : (e : Event) → refusal_on t (running_shown t r) e ≡ None → ((m : Message) → e ≡ Hear m → IsHead t m) → IsTransitionInForm t (transition_on t r e)
   transition_is (Boot now) none comes = no_on none
   transition_is Crash none comes = record { issued = none_issued t; shipped = tt; got = got }

@@ -1,4 +1,4 @@
--- What controllers hold and ship in a run is in form, where what was issued is.
+-- States that controllers hold and messages that they ship in a run are in form, if the issued operations are.
 use Rattle.std.specs.Prelude.{◌≡◌, ℕ, List, Some, Result}
 use Rattle.std.specs.List.{slice_get}
 use Rattle.dac_meaning.specs.StateValue.{StateValue}
@@ -16,14 +16,14 @@ use Rattle.dac_model_world.specs.WorldValue.{WorldValue}
 use Rattle.dac_model_world.specs.Convergence.{RunsWith}
 use Rattle.dac_in_form.specs.InForm.{StateFits, IsSmall, AreInForm}
 
--- the counts of the state that it brings, if any, fit their fields
+-- the counts of the state that the body carries, if any, fit their fields
 abbrev pub BodyFits : Body → Type 0
 BodyFits (Whole s) = StateFits s
 BodyFits (Interval s) = StateFits s
 BodyFits Nothing = Unit {0}
 
--- Where the configuration keeps its limits and the operations that were issued are in form, so is what is made of them. It is each running controller's state,
--- and the state that each shipped message brings, whose counts fit their fields.
+-- If the configuration keeps its limits and the issued operations are in form, so is each running controller's state,
+-- and the state that each shipped message carries, if its counts fit their fields.
 pub record HeldAreInForm (t : Table) (events : List WorldEvent) (answers : List (Result Reply WorldFault))
     (v : WorldValue) : Type 0 where
   pub states : IsSmall t → AreInForm t v.operations → (n : ℕ) (s : StateValue) → RunsWith v n s → StateFits s

@@ -1,4 +1,4 @@
--- What is in form of what runs hold. Operations in form mean a state in form, where the counts fit their fields.
+-- Values of runs in form. The meaning of operations in form is in form, if its counts fit their fields.
 use Rattle.std.specs.Prelude.{◌<◌, ◌≤◌, ◌^◌, List, length}
 use Rattle.std.specs.declared.cmp.Ordering.{Ordering}
 use Rattle.std.specs.List.{AllByRecursion}
@@ -20,23 +20,23 @@ use Rattle.dac_bytes.specs.declared.version.Version.TheVariants.{Two}
 use Rattle.dac_state.specs.StateForm.{IsInForm}
 use Rattle.dac_wire.specs.Form.{IsOperation}
 
--- how many origins have dots, and how many further counters each has, fits its field: two bytes and four
+-- the number of origins that have dots fits a field of two bytes, and each one's number of further counters one of four
 pub record ContextFits (dots : Dots) : Type 0 where
   pub origins : length (rows_of dots) < 2 ^ 16
   pub further : AllByRecursion (λ (row : Row). length row.further < 2 ^ 32) (rows_of dots)
 
--- how many keys have votes, and how many votes each key has, fits its field
+-- the number of keys that have votes, and of each key's votes, fits its field
 pub record VotesFit {K : Type 0} (R : K → K → Ordering) (votes : Votes R) : Type 0 where
   pub keys : length (votes_by_key R votes) < 2 ^ 32
   pub dots : (key : K) → length (votes_at R key votes) < 2 ^ 32
 
--- the same of start wishes
+-- the number of keys that have start wishes, and of each key's wishes, fits its field
 pub record StartsFit (starts : Writes) : Type 0 where
   pub keys : length (starts_by_key starts) < 2 ^ 32
   pub dots : (key : Key) → length (in_order (dots_at key starts)) < 2 ^ 32
 
--- The counts of a state fit the fields that they are written in, of two bytes and of four. This says nothing of any name or
--- number, and nothing of lives and claims: there are no more of them than nodes and applications.
+-- The counts of a state fit their fields, of two bytes or four. Names and numbers don't matter here, and neither do
+-- lives and claims, because there are at most as many of them as nodes and applications.
 pub record StateFits (s : StateValue) : Type 0 where
   pub heard : ContextFits s.heard
   pub known : ContextFits s.known
@@ -44,7 +44,7 @@ pub record StateFits (s : StateValue) : Type 0 where
   pub starts : StartsFit s.starts
   pub drains : VotesFit origin_cmp s.drains
 
--- there are no more nodes and applications than a configuration may have
+-- the configuration keeps its limits for nodes and applications
 pub record IsSmall (t : Table) : Type 0 where
   pub nodes : node_count t ≤ MAX_NODES
   pub apps : app_count t ≤ MAX_APPS
@@ -53,8 +53,8 @@ pub record IsSmall (t : Table) : Type 0 where
 abbrev pub AreInForm : Table → List Operation → Type 0
 AreInForm t os = (o : Operation) → IsOperationOf o os → IsOperation Two t o
 
--- What they mean has such bytes too, where the counts fit their fields. This asks that no two different operations have
--- one dot.
+-- The meaning of operations in form is in form, if its counts fit their fields. This requires that no two different
+-- operations have one dot.
 abbrev pub MeaningsAreInForm : Type 0
 MeaningsAreInForm = (t : Table) (os : List Operation) → IsSmall t → DotsDetermine os → AreInForm t os
     → StateFits (meaning_of os) → IsInForm Two t (meaning_of os)

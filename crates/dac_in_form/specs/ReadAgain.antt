@@ -1,4 +1,4 @@
--- So the bytes of what a run issued, holds and shipped are read as what it is.
+-- The bytes of whatever a run issued, holds and shipped are read as that value.
 use Rattle.std.specs.Prelude.{◌≡◌, ◌≤◌, ℕ, List, length, Some, Ok, Result}
 use Rattle.std.specs.List.{slice_get}
 use Rattle.dac_operations.specs.Operations.{Operation}
@@ -31,16 +31,16 @@ StateIsRead t s = state_at Two t (state_spelling_of s) ≡ Ok s
 abbrev pub PacketIsRead : Table → Packet → Type 0
 PacketIsRead t p = length (spelling_of t p) ≤ MAX_MESSAGE → packet_at t (spelling_of t p) ≡ Ok p
 
--- After a run the bytes of all this are read as what it is.
+-- After a run, the bytes of each of these are read as the value.
 pub record RunIsRead (t : Table) (v : WorldValue) : Type 0 where
-  -- each operation that was issued
+  -- each issued operation
   pub issued : (o : Operation) → IsOperationOf o v.operations → PacketIsRead t (Single o)
-  -- each running controller's state, where its counts fit their fields
+  -- each running controller's state, if its counts fit their fields
   pub states : (n : ℕ) (s : StateValue) → RunsWith v n s → StateFits s → StateIsRead t s
-  -- each message that was shipped, where the counts of what it brings fit their fields
+  -- each shipped message, if the counts of its state fit their fields
   pub shipped : (k : ℕ) (m : Message) → slice_get v.messages k ≡ Some m → BodyFits m.body → PacketIsRead t (Msg m)
 
--- so it is after each run under the configuration
+-- each run under the configuration is read again
 abbrev pub EachRunIsRead : Table → Type 0
 EachRunIsRead t = (events : List WorldEvent) (answers : List (Result Reply WorldFault)) (v : WorldValue)
     → RanAs t events answers v → RunIsRead t v

@@ -9,7 +9,7 @@ use dac_config::Config;
 use dac_part_bytes::laws::parts_have_one_spelling;
 use dac_state::laws::states_have_one_spelling;
 
-/// What operations in form mean is in form, where the counts fit their fields. So a peer reads the bytes of each
+/// The meaning of operations in form is in form, if its counts fit their fields, so that a peer reads the bytes of each
 /// controller's state as that state.
 pub fn meanings_are_in_form()
     ensures { MeaningsAreInForm }
@@ -17,8 +17,8 @@ pub fn meanings_are_in_form()
     dac_meaning::laws::parts_of_meaning();
 }
 
-/// What runs hold and ship is in form, where the operations that were issued are, and where the counts fit their fields.
-/// It is so of each run of the model world: of each controller's state, and of what each message carries.
+/// In each run of the model world, each controller's state and the state of each shipped message are in form, if the
+/// issued operations are and the counts fit their fields.
 pub fn held_are_in_form()
     ensures { InEachRun HeldAreInForm }
 {
@@ -26,9 +26,9 @@ pub fn held_are_in_form()
     dac_model_world::laws::runs_converge();
 }
 
-/// What runs issue, hold and ship is in form. It is so of each run of the model world: of each operation that was issued,
-/// and, where the counts fit their fields, of each controller's state and of each message that was shipped. Nothing
-/// else is asked but the limits of a configuration, because what bytes can't say is refused.
+/// In each run of the model world, each issued operation is in form, and so are each controller's state and each
+/// shipped message, if their counts fit their fields. The configuration's limits are the only other premise, because
+/// events that bytes can't encode are refused.
 pub fn runs_are_in_form()
     ensures { InEachRun RunIsInForm }
 {
@@ -36,9 +36,9 @@ pub fn runs_are_in_form()
     dac_meaning::laws::parts_of_meaning();
 }
 
-/// What runs issue, hold and ship is read again under their configuration. The bytes of each operation that was issued are
-/// read as that operation. Those of each controller's state and of each message that was shipped are read as what they
-/// are, where the counts fit their fields. Packets with too many bytes are left out.
+/// After each run under their configuration, the bytes of each issued operation are read as that operation. Those of
+/// each controller's state and each shipped message are read as the value, if its counts fit their fields. Packets with
+/// too many bytes are left out.
 pub fn runs_are_read(config: &Config)
     ensures { EachRunIsRead config.now }
 {

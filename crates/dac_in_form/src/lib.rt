@@ -1,9 +1,9 @@
-//! What runs issue, hold and ship has bytes that are read again.
+//! Whatever a run issues, holds and ships has bytes that are read again.
 //!
-//! A peer reads exactly what is in form: names, list places, numbers, orders and counts that bytes can say. Here is
-//! said that each operation of each run is in form, because what bytes can't say is refused. What operations in form mean
-//! is in form too, where the counts fit their fields. It ties the form of bytes to what controllers keep, so no form is
-//! too strict for them.
+//! A value is *in form* if bytes can encode it, by its names, places in lists, numbers, orders and counts; a peer
+//! accepts exactly the values in form. Each operation of each run is in form, because events that would issue any other
+//! are refused. The meaning of operations in form is also in form, if its counts fit their fields. So the form of bytes
+//! isn't too strict for the states and messages of controllers.
 #![tactic(auto)]
 
 pub mod laws;

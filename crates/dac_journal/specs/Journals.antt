@@ -1,4 +1,4 @@
--- The journal of a site: what happened at its node, one record after another; and what of it is a seat's.
+-- The journal of a site: each event of its node with its result; and each seat's calls in it.
 use Rattle.std.specs.Prelude.{◌≡◌, ◌≢◌, ◌⊎◌, ℕ, suc, ◌==◌, min, List, [], ◌∷◌, map, if◌then◌else◌, Result, refl}
 use Rattle.std.specs.Coded.{Coded, code_by, coded×, coded_ℕ, coded_list}
 use Rattle.dac_base.specs.declared.NodeId.{NodeId}
@@ -14,7 +14,7 @@ use Rattle.dac_model_world.specs.Histories.{Entry, IsHistory, off_after}
 use Rattle.dac_journal.specs.declared.record.Record.{Record}
 use Rattle.dac_journal.specs.declared.record.Call.{Call}
 
--- where a journal begins: the configuration, the node, and how many incarnations it had
+-- the beginning of a journal: the configuration, the node, and the number of its last incarnation
 pub record Beginning : Type 0 where
   pub table : Table
   pub node : NodeId
@@ -23,11 +23,11 @@ pub record Beginning : Type 0 where
 abbrev pub beginning_of : Table → NodeId → ℕ → Beginning
 beginning_of table node last = record { table = table; node = node; last = last }
 
--- of no site
+-- the beginning of no journal
 abbrev pub nowhere : Beginning
 nowhere = beginning_of (record { nodes = []; apps = []; sync_wait = NoSync }) (record { 0 = 0 }) 0
 
--- where it begins, and its records, the oldest first
+-- the beginning, and the records, oldest first
 pub record JournalValue : Type 0 where
   pub beginning : Beginning
   pub records : List Record
@@ -49,8 +49,7 @@ call_of place event answer = record { place = place; event = event; answer = ans
 abbrev pub entry_of : Record → Entry
 entry_of r = record { event = r.event; answer = r.answer }
 
--- each answer is that of the model's step, one after another from where the journal begins, and its node comes to
--- final
+-- each result is that of the model's step, record after record, from the beginning to the model node `final`
 abbrev pub IsHistoryFrom : Beginning → List Record → ModelNode → Type 0
 IsHistoryFrom o rs final = IsHistory o.table o.node (off_after o.last) (map entry_of rs) final
 
@@ -59,23 +58,23 @@ pub record AreHistory (o : Beginning) (rs : List Record) : Type 0 where
   pub final : ModelNode
   pub history : IsHistoryFrom o rs final
 
--- they are one, and the model node where it ends shows as the program's node
+-- the records are a history, and the model node that ends it shows as the program's node
 pub record EndsAt (o : Beginning) (rs : List Record) (v : NodeValue) : Type 0 where
   pub final : ModelNode
   pub history : IsHistoryFrom o rs final
   pub shows : shown o.table final ≡ v
 
 -- ---- the records of a seat
--- with their places, where the first record is at the given one
+-- the calls of a seat, with their places; the first record has the given place
 abbrev pub calls_from : ℕ → ℕ → List Record → List Call
 calls_from seat place [] = []
 calls_from seat place (r ∷ rs) = if r.seat == seat then call_of place r.event r.answer ∷ calls_from seat (suc place) rs else calls_from seat (suc place) rs
 
--- with their places, counted from 1
+-- the calls of a seat, with their places from 1
 abbrev pub calls_of : ℕ → List Record → List Call
 calls_of seat rs = calls_from seat 1 rs
 
--- two lists of calls first differ at this place: the lesser of the two there, or the one where the other list has ended
+-- the place at which two lists of calls first differ: the lesser of the two there, or the only one if a list has ended
 abbrev pub DifferAt : ℕ → List Call → List Call → Type 0
 DifferAt p [] [] = ⊥
 DifferAt p (x ∷ xs) [] = p ≡ x.place

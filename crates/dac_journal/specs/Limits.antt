@@ -1,4 +1,4 @@
--- What the limit is, so that it can't change unseen.
+-- The value of the limit, so that it can't change unnoticed.
 use Rattle.std.specs.Prelude.{◌≡◌, refl}
 use Rattle.dac_journal.specs.declared.limits.TheConstants.{MAX_RECORDS}
 

@@ -1,4 +1,4 @@
-//! What nodes answered, compared.
+//! Compares the results that nodes return for events.
 
 ghost use Rattle.std.specs.Prelude.{◌≡◌, ◌≢◌, ◌↔◌, true, false, Err, IfErr, IsTrue, OnErr, OnOk};
 
@@ -6,7 +6,7 @@ use crate::record::Answer;
 use dac_base::NoMemory;
 use dac_events::Refusal;
 
-/// Whether the two are one answer.
+/// Returns whether two results are equal.
 pub fn same_answer(answer: &Answer, other: &Answer) -> bool
     ensures { IsTrue result ↔ (answer.now ≡ other.now) }
 {
@@ -17,7 +17,7 @@ pub fn same_answer(answer: &Answer, other: &Answer) -> bool
     }
 }
 
-/// Whether a refusal is that of memory, so that nothing was answered.
+/// Returns whether a refusal stands for a failed allocation.
 pub fn is_no_memory(why: Refusal) -> bool
     ensures yes { result ≡ true → why ≡ Refusal.NoMemory }
     ensures no { result ≡ false → why ≢ Refusal.NoMemory }
@@ -25,7 +25,7 @@ pub fn is_no_memory(why: Refusal) -> bool
     why == Refusal::NoMemory
 }
 
-/// Fails with [`NoMemory`] if memory was refused, so that nothing was answered.
+/// Fails with [`NoMemory`] if the result stands for a failed allocation.
 pub fn is_answered(answer: &Answer) -> Result<(), NoMemory>
     ensures ok { OnOk result (IfErr answer.now (λ why. why ≢ Refusal.NoMemory)) }
     ensures err { OnErr result (answer.now ≡ Err Refusal.NoMemory) }

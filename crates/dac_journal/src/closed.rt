@@ -1,4 +1,4 @@
-//! A journal that is closed.
+//! A closed journal.
 
 ghost use Rattle.std.specs.Prelude.{◌≡◌};
 
@@ -7,7 +7,7 @@ use dac_base::NodeId;
 use dac_config::Config;
 use std::marker::Model;
 
-/// The journal of a site that was closed: a history of its node.
+/// The journal of a closed site: a history of its node.
 pub struct Closed {
     pub(crate) config: Config,
     pub(crate) node: NodeId,
@@ -15,7 +15,6 @@ pub struct Closed {
     pub(crate) records: Vec<Record>,
 }
 
-/// Written out: a drop is one call for a proof, wherever it stands.
 impl Drop for Closed {
     fn drop(self) {
         let Closed {
@@ -47,24 +46,24 @@ impl Model for Closed {
 impl Closed {
     ghost use Rattle.dac_journal.specs.Journals.{AreHistory};
 
-    /// The node.
+    /// The node whose history this is.
     pub fn node(&self) -> NodeId
         ensures { result ≡ self.now.beginning.node }
     {
         self.node
     }
 
-    /// The number of its last incarnation before the site was opened.
+    /// The incarnation number of the node before its site was opened; 0 if it never booted.
     pub fn last(&self) -> u64
         ensures { result ≡ self.now.beginning.last }
     {
         self.last
     }
 
-    /// The records, the oldest first: a history of the node.
+    /// The records, oldest first: a history of the node.
     pub fn records(&self) -> &[Record]
         ensures value { result.now ≡ self.now.records }
-        // Each answer is that of the model's step, one after another from a node that is off.
+        // Each result is that of the model's step, record after record, from a node that is off.
         ensures history { AreHistory self.now.beginning self.now.records }
     {
         self.records.as_slice()

@@ -1,4 +1,4 @@
-//! The journal of a node, with the node.
+//! A node with its journal.
 
 ghost use Rattle.std.specs.Prelude.{◌≡◌, ◌≢◌, ◌≤◌, ◌<◌, ◌++◌, ◌∷◌, [], length, true, false, IfOk, IfErr, OnOk, OnErr};
 ghost use Rattle.dac_model_world.specs.Step.{Steps};
@@ -19,8 +19,9 @@ use dac_node::{Change, Node};
 use std::alloc::Global;
 use std::marker::Model;
 
-/// A node and all that happened at it. The records are a history of the node, and it stands for where that ends. The node is asked
-/// by [`Journal::prepare`], and the record of it is added by [`Journal::commit`].
+/// A node with the log of its events and results. The records are a history of the node, which is in the state that
+/// ends it. [`Journal::prepare`] computes the effect of an event, and [`Journal::commit`] applies it and appends its
+/// record.
 pub struct Journal {
     config: Config,
     me: NodeId,
@@ -29,7 +30,6 @@ pub struct Journal {
     node: Node,
 }
 
-/// Written out: a drop is one call for a proof, wherever it stands.
 impl Drop for Journal {
     fn drop(self) {
         let Journal {
@@ -65,7 +65,7 @@ impl Model for Journal {
 impl Journal {
     ghost use Rattle.dac_journal.specs.Journals.{AreHistory};
 
-    /// A journal with no records, of a node that is off.
+    /// An empty journal of a node that is off. `last` is the number of the node's last incarnation.
     pub fn new(alloc: Global, config: Config, me: NodeId, last: u64) -> Self
         ensures beginning { result.beginning ≡ beginning_of config me last }
         ensures records { result.records ≡ [] }
@@ -79,7 +79,7 @@ impl Journal {
         }
     }
 
-    /// Whether no record more fits.
+    /// Returns whether the journal has [`MAX_RECORDS`] records.
     pub fn is_full(&self) -> bool
         ensures full { result ≡ true → length self.now.records ≡ MOST }
         ensures room { result ≡ false → length self.now.records < MOST }
@@ -88,17 +88,17 @@ impl Journal {
         self.records.len() >= MAX_RECORDS
     }
 
-    /// The records, the oldest first: a history of the node, of at most [`MAX_RECORDS`] records.
+    /// The records, oldest first: a history of the node, with at most [`MAX_RECORDS`] records.
     pub fn records(&self) -> &[Record]
         ensures value { result.now ≡ self.now.records }
-        // Each answer is that of the model's step, one after another from a node that is off.
+        // Each result is that of the model's step, record after record, from a node that is off.
         ensures history { AreHistory self.now.beginning self.now.records }
         ensures few { length self.now.records ≤ MOST }
     {
         self.records.as_slice()
     }
 
-    /// The journal, when nothing more is asked.
+    /// Drops the node and keeps the journal.
     pub fn close(self) -> Closed
         ensures { result ≡ self }
     {
@@ -117,22 +117,22 @@ impl Journal {
         }
     }
 
-    /// The configuration.
+    /// The configuration by which the node decides.
     pub fn config(&self) -> &Config
         ensures { result.now ≡ self.now.beginning.table }
     {
         &self.config
     }
 
-    /// The node, which stands for where the history ends.
+    /// The node, in the state that ends the history.
     pub fn node(&self) -> &Node
         ensures { EndsAt self.now.beginning self.now.records result.now }
     {
         &self.node
     }
 
-    /// What asking the node for this seat would do. Contracts see no change: what the event takes is made ready, and nothing
-    /// happens yet. [`NoMemory`] is the only error.
+    /// Computes the effect of a call of this seat. Contracts see no change: it only calls [`Node::warm`] first, whose
+    /// failed allocations are no error.
     pub fn prepare(&mut self, seat: u16, event: Event) -> Result<Next, NoMemory>
         requires { length self.old.records < MOST }
         ensures goes { IfOk result (GoesTo self.old seat event) }
@@ -144,14 +144,13 @@ impl Journal {
         self.prepare_next(seat, event)
     }
 
-    /// Makes ready what an event takes at the node.
     fn warm(&mut self, event: &Event)
         ensures { self.new ≡ self.old }
     {
         self.node.warm(event);
     }
 
-    /// What asking the node for this seat would do. [`NoMemory`] is the only error.
+    /// Computes the effect of a call of this seat.
     fn prepare_next(&self, seat: u16, event: Event) -> Result<Next, NoMemory>
         requires { length self.now.records < MOST }
         ensures goes { IfOk result (GoesTo self.now seat event) }
@@ -182,8 +181,8 @@ impl Journal {
         })
     }
 
-    /// Goes on to what was prepared of this journal, which has been as it is since then. It gives what the seat keeps, and
-    /// the answer. [`NoMemory`] is the only error, and leaves all as it was.
+    /// Applies a prepared event, appends its record, and returns the seat's copy of the call with the result. The
+    /// journal must be as it was when [`Journal::prepare`] made `next`.
     pub fn commit(&mut self, next: Next) -> Result<(Call, Answer), NoMemory>
         requires room { length self.old.records < MOST }
         requires follows { GoesOnBy self.old.beginning self.old.records next.entry next.change }
@@ -208,7 +207,7 @@ impl Journal {
     }
 }
 
-/// What an event does to a node, if it isn't refused, and the answer, three times.
+/// The effect of an event on a node, unless it is refused, with three copies of its result.
 fn prepare_node(
     config: &Config,
     me: NodeId,
@@ -235,7 +234,6 @@ fn prepare_node(
     }
 }
 
-/// Does what was prepared of a node, if anything was. At `Err` the node is as before.
 fn apply_change(node: &mut Node, change: Option<Change>) -> Result<(), NoMemory>
     requires { FitsBy change node.old }
     ensures ok { OnOk result (node.new ≡ node_by change node.old) }
@@ -247,7 +245,6 @@ fn apply_change(node: &mut Node, change: Option<Change>) -> Result<(), NoMemory>
     Ok(())
 }
 
-/// Three copies of the reply of a change.
 fn three_copies(change: &Change) -> Result<(Reply, Reply, Reply), NoMemory>
     ensures { IfOk result (λ r. (r.0 ≡ change.now.reply) × (r.1 ≡ change.now.reply)
         × (r.2 ≡ change.now.reply)) }

@@ -1,6 +1,11 @@
-//! Journals: a node with all that it was asked and answered.
+//! Journals: a node with the log of its events and results.
 //!
-//! A [`Journal`] has the node itself, so each of its records is a step of that node. It ends as a [`Closed`] one.
+//! A [`Journal`] contains the node itself, so each of its records is a step of that node. Closing it returns a
+//! [`Closed`] one.
+//!
+//! Functions that don't return `Result<_, NoMemory>` allocate nothing. Those that do have no other error, and if they
+//! fail everything borrowed is unchanged, as far as contracts see. Each `Drop` is written by hand, so that a proof sees
+//! it as one call.
 #![tactic(auto)]
 
 pub use answers::{is_answered, is_no_memory, same_answer};

@@ -1,4 +1,4 @@
-//! The limit of a journal, named once.
+//! The size limit of a journal.
 
-/// How many records a journal holds at most.
+/// The maximum number of records of a journal.
 pub const MAX_RECORDS: usize = 65_536;

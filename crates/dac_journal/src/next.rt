@@ -1,4 +1,4 @@
-//! What a journal goes on to.
+//! The prepared next record of a journal.
 
 ghost use Rattle.std.specs.Prelude.{◌≡◌};
 ghost use Rattle.std.specs.Option.{option_copied};
@@ -7,9 +7,9 @@ use crate::record::{Answer, Call, Record};
 use dac_node::Change;
 use std::marker::Model;
 
-/// What a journal goes on to when its node is asked: the record, what the seat keeps, the answer, and what happens to the node.
+/// The next record of a journal, the seat's copy of the call, its result, and the change of the node.
 ///
-/// [`Journal::prepare`](crate::Journal::prepare) makes it, and [`Journal::commit`](crate::Journal::commit) goes on to it.
+/// [`Journal::prepare`](crate::Journal::prepare) makes it, and [`Journal::commit`](crate::Journal::commit) applies it.
 pub struct Next {
     pub(crate) entry: Record,
     pub(crate) call: Call,
@@ -17,7 +17,6 @@ pub struct Next {
     pub(crate) change: Option<Change>,
 }
 
-/// Written out: a drop is one call for a proof, wherever it stands.
 impl Drop for Next {
     fn drop(self) {
         let Next {
@@ -47,21 +46,20 @@ impl Model for Next {
 }
 
 impl Next {
-    /// What the node answers.
+    /// The result of the event: the node's reply or refusal.
     pub fn answer(&self) -> &Answer
         ensures { result.now ≡ self.now.entry.answer }
     {
         &self.entry.answer
     }
 
-    /// What happens to the node. Nothing does if it refuses the event.
+    /// The change of the node, or `None` if the node refuses the event.
     pub fn change(&self) -> Option<&Change>
         ensures { option_copied result ≡ self.now.change }
     {
         self.change.as_ref()
     }
 
-    /// Its parts: the record, what the seat keeps, the answer, and what happens to the node.
     pub(crate) fn into_parts(self) -> (Record, Call, Answer, Option<Change>)
         ensures { result ≡ (self.entry, self.call, self.entry.answer, self.change) }
     {

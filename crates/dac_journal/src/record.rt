@@ -1,29 +1,29 @@
-//! What a journal and a seat keep of a call.
+//! The records of a call in a journal and at a seat.
 
 use dac_events::Refusal;
 use dac_messages::{Event, Reply};
 
-/// What a node answers to an event.
+/// The result of an event: the node's reply or refusal.
 pub type Answer = Result<Reply, Refusal>;
 
-/// A record of a journal: whose call it was, and what was asked and answered.
+/// A record of a journal.
 #[derive(Drop)]
 pub struct Record {
-    /// The number of the seat, from 1.
+    /// The seat that called, by its number from 1.
     pub seat: u16,
-    /// What happened at the node.
+    /// The event of the call.
     pub event: Event,
-    /// What it answered.
+    /// The node's reply or refusal.
     pub answer: Result<Reply, Refusal>,
 }
 
-/// What a seat keeps of a call of its own.
+/// A seat's copy of one of its own calls.
 #[derive(Drop)]
 pub struct Call {
-    /// The place of its record in the journal, from 1.
+    /// The place of the call's record in the journal, from 1.
     pub place: u64,
-    /// What happened at the node.
+    /// The event of the call.
     pub event: Event,
-    /// What it answered.
+    /// The node's reply or refusal.
     pub answer: Result<Reply, Refusal>,
 }

@@ -1,4 +1,4 @@
--- The join of two maps of which the first has no entries.
+-- The join of two maps if the first is empty.
 use Rattle.std.proofs.Common.{◌≡◌, nat_eq, true, List, [], ◌∷◌, length, refl, arith}
 use Rattle.std.proofs.lemmas.Bool.{eqb-true}
 use Rattle.std.specs.declared.cmp.Ordering.{Ordering}

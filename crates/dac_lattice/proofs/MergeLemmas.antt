@@ -1,4 +1,4 @@
--- One step of the merge of two maps: what it takes of each, what it keeps, and what is left to be merged.
+-- One step of the merge of two maps: the entries taken, their combination, and the remaining entries.
 use Rattle.std.proofs.Common.{◌≡◌, ℕ, ◌+◌, ◌-◌, ◌<◌, ◌≤◌, ◌⊎◌, inl, inr, List, [], ◌∷◌, ◌++◌, length, drop, Option, None, Some, Result, Ok, Err, OnOk, IsOkAnd, IfOk, refl, sym, ap, subst, ◌∙◌, arith, add-one, drop-cons, append_assoc, append-nil}
 use Rattle.std.specs.Borrow.{Bor}
 use Rattle.std.specs.Int.{from_bool}
@@ -11,7 +11,7 @@ use Rattle.std.proofs.lemmas.List.{drop_all}
 use Rattle.dac_lattice.specs.Entries.{Combine, keep, merge_entries}
 use Rattle.dac_lattice.specs.Merges.{lowest_of, keep_lowest}
 
--- the element at a place, before those after it, if there is one
+-- the element at an index, followed by those after it, if there is one
 abbrev IsNext : {E : Type 0} → List E → ℕ → Option E → Type 0
 IsNext xs i None = length xs ≤ i
 IsNext xs i (Some e) = (i < length xs) × (drop i xs ≡ e ∷ drop (i + 1) xs)
@@ -22,7 +22,7 @@ next_from xs i (Some e) at =
     let here = at.3 in
     (here.0, drop-cons xs i e.now here.0 ∙ (λ k. sym (here.1 e.now) k ∷ ap (λ n. drop n xs) (sym (add-one i)) k))
 
--- how many entries are taken
+-- the number of entries taken
 abbrev taken : {E : Type 0} → Option E → ℕ
 taken o = from_bool (is_some o)
 
@@ -43,22 +43,22 @@ keep_before : {K X : Type 0} (k : K) (v : Option X) (es : List (K × X)) → kee
 keep_before k None es = refl
 keep_before k (Some v) es = refl
 
--- which entries are at the lowest key, by the order of the two keys
+-- the entries with the lowest key, from the comparison of two keys
 pub lowest_so : {K X : Type 0} (R : K → K → Ordering) (x y : K × X) (r : Ordering) → r ≡ R x.0 y.0 → by_order r (Some x, None) (Some x, Some y) (None, Some y) ≡ lowest_of R (Some x) (Some y)
 lowest_so R x y r e = ap (λ r. by_order r (Some x, None) (Some x, Some y) (None, Some y)) e
 
--- what holds of a value that was made, where it is known which
+-- a property of the value of a successful call, if that value is known
 pub where_made : {U V E F : Type 0} (r : Result U F) (made : Result V E) (P : V → Type 0) (v : V) → OnOk r (IsOkAnd made P) → IfOk made (λ u. u ≡ v) → OnOk r (P v)
 where_made (Ok u) (Ok w) P v h e = subst P e h
 where_made (Ok u) (Err w) P v h e = absurd h
 where_made (Err u) made P v h e = tt
 
 module _ {K X : Type 0} (R : K → K → Ordering) (f : Combine K X) where
-  -- the entries of both that are left at these places
+  -- the merge of the entries from these indices on
   abbrev left : List (K × X) → List (K × X) → ℕ → ℕ → List (K × X)
   left xs ys i j = merge_entries R f (drop i xs) (drop j ys)
 
-  -- a step from the places i and j, which takes n and m entries and keeps what is kept of a and b
+  -- a step from the indices i and j: it takes n and m entries, and appends the combination of a and b
   pub record IsStep (xs ys : List (K × X)) (i j n m : ℕ) (a b : Option (K × X)) : Type 0 where
     pub merged : left xs ys i j ≡ keep_lowest f a b (left xs ys (i + n) (j + m))
     pub first : i + n ≤ length xs
@@ -132,7 +132,7 @@ module _ {K X : Type 0} (R : K → K → Ordering) (f : Combine K X) where
       whole : left xs ys i j ≡ ordered (R x.0 y.0)
       whole k = merge_entries R f (p.1 k) (q.1 k)
 
-  -- the same of the entries that are lent
+  -- a step, for borrowed entries
   pub step : (xs ys : List (K × X)) (i j : ℕ) (x y : Option (Bor (K × X))) → IsItemAt xs i x → IsItemAt ys j y → i ≤ length xs → j ≤ length ys
       → (a b : Option (Bor (K × X))) → (option_copied a, option_copied b) ≡ lowest_of R (option_copied x) (option_copied y)
       → (n m : ℕ) → n ≡ from_bool (is_some a) → m ≡ from_bool (is_some b) → IsStep xs ys i j n m (option_copied a) (option_copied b)
@@ -148,7 +148,7 @@ module _ {K X : Type 0} (R : K → K → Ordering) (f : Combine K X) where
   keep_lowest_before (Some x) None es = keep_before x.0 (f x.0 (Some x.1) None) es
   keep_lowest_before (Some x) (Some y) es = keep_before x.0 (f x.0 (Some x.1) (Some y.1)) es
 
-  -- what is merged after a step, before what is left
+  -- after a step, the merged entries followed by the merge of the rest are unchanged
   pub merged_more : (xs ys : List (K × X)) (i j n m : ℕ) (a b : Option (K × X)) → IsStep xs ys i j n m a b
       → (old new whole : List (K × X)) → old ++ left xs ys i j ≡ whole → new ≡ old ++ keep_lowest f a b [] → new ++ left xs ys (i + n) (j + m) ≡ whole
   merged_more xs ys i j n m a b step old new whole so_far pushed =
@@ -156,6 +156,6 @@ module _ {K X : Type 0} (R : K → K → Ordering) (f : Combine K X) where
       ap (λ l. l ++ rest) pushed ∙ append_assoc old (keep_lowest f a b []) rest
       ∙ ap (λ l. old ++ l) (keep_lowest_before a b rest ∙ sym step.merged) ∙ so_far
 
-  -- nothing is left
+  -- if no entry remains, the merged entries are the whole merge
   pub merged_whole : (xs ys : List (K × X)) (i j : ℕ) → length xs ≤ i → length ys ≤ j → (all whole : List (K × X)) → all ++ left xs ys i j ≡ whole → all ≡ whole
   merged_whole xs ys i j p q all whole so_far = sym (append-nil all) ∙ ap (λ l. all ++ l) (sym (λ k. merge_entries R f (drop_all i xs p k) (drop_all j ys q k))) ∙ so_far

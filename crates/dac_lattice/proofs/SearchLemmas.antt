@@ -1,4 +1,4 @@
--- What a binary search by key finds in a list of entries in order.
+-- Binary search by key in a list of entries in key order.
 use Rattle.std.specs.Prelude.{◌≡◌, ℕ, ◌<◌, false, cond, T, List, [], ◌∷◌, length, None, Some, Result, Ok, Err, refl}
 use Rattle.std.proofs.Common.{inl, inr, zero, suc, sym, ap, ◌∙◌, arith, get_or, add-one}
 use Rattle.std.specs.declared.cmp.Ordering.{Ordering}
@@ -40,7 +40,7 @@ module _ {K X : Type 0} {R : K → K → Ordering} (o : IsTotalOrder R) (exact :
     | inr q ↦ apart_greater o _ k (high j d q p)
   ]
 
-  -- what a binary search by key answers, in the words of `find`
+  -- the result of a binary search by key, in terms of `find`
   pub searched : (xs : List (K × X)) (k : K) (r : Result ℕ ℕ) → IsInOrder R xs → IsSearchInRange r (length xs) → IsBinarySearchResult (λ e. R e.0 k) xs r → IsPlaceOf R xs k r
   searched xs k (Ok i) h in_range at = (in_range, λ d. ap (λ q. find R q xs) (sym (exact _ k (at d))) ∙ find_at o exact xs i d h in_range)
   searched xs k (Err i) h in_range parted = let parts = parted (rises xs h k) in absent xs k (absent_at xs k i parts.0 parts.1)

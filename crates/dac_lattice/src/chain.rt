@@ -1,19 +1,19 @@
-//! The greatest of totally ordered values.
+//! The maximum of totally ordered values.
 ghost use Rattle.std.specs.Prelude.{◌≡◌, ◌↔◌, IsTrue, IfOk};
 
 use crate::{Bottom, Lattice};
 use dac_origins::{MapKey, NoMemory};
 use std::alloc::Global;
 
-/// The greatest value seen. The order is that of the values, and a join takes the greater of two.
+/// The greatest value received so far: ordered as its values are, with the maximum as join.
 #[derive(Clone, Copy, Debug)]
 pub struct Max<T> {
-    /// The greatest value seen.
+    /// The greatest value received.
     pub value: T,
 }
 
 impl<T: MapKey> Max<T> {
-    /// This value, as the greatest one seen.
+    /// The maximum of one value.
     pub fn new(value: T) -> Self
         ensures { result ≡ record { value = value } }
     {

@@ -1,17 +1,18 @@
-//! Whether something is up.
+//! A flag that can only go down.
 ghost use Rattle.std.specs.Prelude.{◌≡◌, ◌↔◌, IsTrue, IfOk};
 
 use crate::{Bottom, Lattice};
 use dac_origins::{MapKey, NoMemory};
 use std::alloc::Global;
 
-/// Whether something is up. Up is below down, so what is said to be down by one is down for all who hear it. It says
-/// whether a node went down, or whether a permission was taken: up is permitted, down is not.
+/// A two-valued lattice in which up is below down, so that once one replica sets it down, it is down at every replica
+/// that merges it. It records that a node went down, that a permission was withdrawn, or that an incarnation is
+/// drained.
 #[derive(Clone, Copy, Debug, PartialEq, Eq, PartialOrd, Ord, Hash)]
 pub enum Flag {
-    /// Up, or permitted.
+    /// Up, permitted, or not drained.
     Up,
-    /// Down, or not permitted.
+    /// Down, not permitted, or drained.
     Down,
 }
 

@@ -5,12 +5,12 @@ ghost use Rattle.dac_lattice.specs.Lattices.{IsLattice};
 use dac_origins::NoMemory;
 use std::alloc::Global;
 
-/// Values with an order in which any two have a least upper bound, their join.
+/// Types with an order in which any two values have a least upper bound, their join.
 ///
-/// The laws are one ghost member: the order is a partial order, and the join is the least value that is
-/// above both. Each law asks that its values are values of the type, which `tells_invariant` tells.
+/// One ghost member contains the laws: the order is a partial order, and the join is the least upper bound. They hold
+/// only for values with the type's invariant (`is_value`), which `tells_invariant` yields.
 pub trait Lattice: Drop {
-    /// Holds of the values of the type.
+    /// The type's invariant, as a predicate of values.
     ghost is_value: { Self → Type 0 };
 
     /// The order.
@@ -19,23 +19,23 @@ pub trait Lattice: Drop {
     /// The least upper bound.
     ghost join: { Self → Self → Self };
 
-    /// A value of the type is one. This only tells proofs so, and does nothing when it runs.
+    /// States the type's invariant for proofs; does nothing at run time.
     fn tells_invariant(&self)
         ensures { is_value self.now };
 
-    /// The least value that is above both. [`NoMemory`] is the only error.
+    /// The least upper bound of both.
     fn join(&self, other: &Self) -> Result<Self, NoMemory>
         ensures { IfOk result (λ joined. joined ≡ join self.now other.now) };
 
-    /// Whether this value is below the other one, or equal to it.
+    /// Whether this value is less than or equal to the other one.
     fn leq(&self, other: &Self) -> bool
         ensures { IsTrue result ↔ below self.now other.now };
 
-    /// Whether the two are one value.
+    /// Whether both are equal.
     fn equal(&self, other: &Self) -> bool
         ensures { IsTrue result ↔ (self.now ≡ other.now) };
 
-    /// An equal value. It may share memory that never changes. [`NoMemory`] is the only error.
+    /// An equal value. It can share immutable memory.
     fn copy(&self) -> Result<Self, NoMemory>
         ensures { IfOk result (λ copied. copied ≡ self.now) };
 
@@ -48,13 +48,13 @@ pub trait Bottom: Lattice {
     /// The least value.
     ghost bottom: { Self };
 
-    /// The least value. It takes no memory.
+    /// The least value.
     fn bottom(alloc: Global) -> Self
         ensures { result ≡ bottom };
 
-    /// It is below every value.
+    /// The least value is below every value.
     ghost least: { (x : Self) → Self.is_value x → Self.below bottom x };
 
-    /// It is a value itself.
+    /// The least value has the type's invariant.
     ghost bottom_value: { Self.is_value bottom };
 }

@@ -1,13 +1,15 @@
-//! Lattices: values of which any two have a least upper bound, and maps of such values.
+//! Lattices: types in which any two values have a least upper bound, and maps to such types.
 //!
-//! Replicas that join what they hear agree, whatever the order and however often they hear it, since a join is
-//! commutative, associative and idempotent. This crate says once what a lattice owes, as the laws of the trait
-//! [`Lattice`]. It proves them for the greatest value ([`Max`]), for what is up or down ([`Flag`]), and for two
-//! lattices side by side ([`Pair`]). It proves them too for maps whose values are a lattice ([`MapOf`]). The merge of
-//! two sorted lists of entries stands in [`merging`], for every map that is kept so.
+//! A join is commutative, associative and idempotent, so that replicas that merge the same states agree, whatever their
+//! order and repetition. The trait [`Lattice`] states the laws. They are proved for the maximum ([`Max`]), a flag that
+//! goes down ([`Flag`]), pairs ([`Pair`]), and maps to a lattice ([`MapOf`]). [`merging`] merges maps stored as sorted
+//! lists of entries.
 //!
-//! A [`Piece`] is a lattice to which operations add their deltas, with a definition of what a set of
-//! operations means. Its law is that joined deltas are that definition.
+//! A [`Piece`] is a lattice to which each operation adds a delta, with a definition of the meaning of a set of
+//! operations. Its law is that the joined deltas have that meaning.
+//!
+//! Functions that don't return `Result<_, NoMemory>` allocate nothing. `NoMemory` is the only error, and leaves
+//! borrowed arguments unchanged.
 #![tactic(auto)]
 
 pub use chain::Max;

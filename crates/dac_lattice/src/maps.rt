@@ -1,4 +1,4 @@
-//! Maps whose values are a lattice.
+//! Maps to a lattice.
 ghost use Rattle.std.specs.Prelude.{◌≡◌, ◌↔◌, ◌<◌, [], ◌∷◌, length, IfOk, IfSome, IsSome, Some};
 ghost use Rattle.std.specs.Option.{option_copied};
 ghost use Rattle.std.specs.FinMap.{find};
@@ -13,11 +13,10 @@ use std::alloc::Global;
 use std::marker::Model;
 use std::sync::Arc;
 
-/// A map from keys to values of a lattice. Its order and its join are those of the values at each key,
-/// where no value is below every value. Contracts see it as the list of its entries in the order of the
-/// keys.
+/// A map from keys to values of a lattice, ordered and joined key by key; an absent key counts as least. Contracts
+/// treat it as the list of its entries in key order.
 ///
-/// Entries never change, so copies share them, and so does a join where this side has none, or the other side is below it.
+/// Entries are immutable, so copies share them, and so does a join if this map is empty or the other one is below it.
 #[derive(Drop)]
 pub struct MapOf<K: MapKey, L: Lattice> {
     alloc: Global,
@@ -36,7 +35,7 @@ impl<K: MapKey, L: Lattice> Model for MapOf<K, L> {
 }
 
 impl<K: MapKey, L: Lattice> MapOf<K, L> {
-    /// The map that has this value at this key, and no other key. [`NoMemory`] is the only error.
+    /// The map with one entry.
     pub fn one(alloc: Global, key: K, value: L) -> Result<Self, NoMemory>
         ensures { IfOk result (λ map. map ≡ (key, value) ∷ []) }
     {
@@ -46,7 +45,7 @@ impl<K: MapKey, L: Lattice> MapOf<K, L> {
         MapOf::of(alloc, entries)
     }
 
-    /// The map of these entries, which copies will share. [`NoMemory`] is the only error.
+    /// The map of these entries, which copies will share.
     fn of(alloc: Global, entries: Vec<(K, L)>) -> Result<Self, NoMemory>
         requires { IsMap K.cmp L.is_value entries.items }
         ensures { IfOk result (λ map. map ≡ entries.items) }
@@ -58,7 +57,7 @@ impl<K: MapKey, L: Lattice> MapOf<K, L> {
         })
     }
 
-    /// The value at a key, if there is one.
+    /// The value at a key, if any.
     pub fn get(&self, key: K) -> Option<&L>
         ensures { option_copied result ≡ find K.cmp key self.now }
     {
@@ -66,8 +65,7 @@ impl<K: MapKey, L: Lattice> MapOf<K, L> {
         value_at(self.entries(), key)
     }
 
-    /// The value at a key, if there is one. It is looked for at this place first, which changes nothing but how long that
-    /// takes.
+    /// The value at a key, if any. The search tries index `place` first, which only affects its time.
     pub fn get_near(&self, place: usize, key: K) -> Option<&L>
         ensures { option_copied result ≡ find K.cmp key self.now }
     {
@@ -75,7 +73,7 @@ impl<K: MapKey, L: Lattice> MapOf<K, L> {
         value_near(self.entries(), place, key)
     }
 
-    /// The entries in the order of the keys.
+    /// The entries in key order.
     pub fn entries(&self) -> &[(K, L)]
         ensures { result.now ≡ self.now }
     {
@@ -86,7 +84,7 @@ impl<K: MapKey, L: Lattice> MapOf<K, L> {
     }
 }
 
-/// The place of a key whose value is above this one, which is looked for at this place first.
+/// The index of the key if its value is at least `value`. The search tries index `place` first.
 fn place_above<K: MapKey, L: Lattice>(
     entries: &[(K, L)],
     place: usize,
@@ -103,7 +101,7 @@ fn place_above<K: MapKey, L: Lattice>(
     }
 }
 
-/// Keeps the value of a key that one of two maps has, and joins the two of a key that both have.
+/// Keeps the value of a key that only one map has, and joins the two of a key that both have.
 struct JoinValues;
 
 impl<K: MapKey, L: Lattice> Combine<K, L> for JoinValues {
@@ -158,7 +156,7 @@ impl<K: MapKey, L: Lattice> Lattice for MapOf<K, L> {
     fn leq(&self, other: &Self) -> bool {
         self.tells_invariant();
         other.tells_invariant();
-        // Most keys follow each other on both sides.
+        // Consecutive keys here are mostly consecutive there.
         let mut place = 0;
         for (key, value) in self.entries() {
             let Some(found) = place_above(other.entries(), place, *key, value) else {

@@ -1,4 +1,4 @@
-//! The merge of two maps that are kept as lists of entries in the order of their keys.
+//! The merge of two maps that are stored as lists of entries in key order.
 ghost use Rattle.std.specs.Prelude.{◌≡◌, ◌++◌, [], None, Some, Option, IfOk, IsOkAnd, OnOk};
 ghost use Rattle.std.specs.Option.{option_copied};
 ghost use Rattle.std.specs.FinMap.{find};
@@ -10,28 +10,28 @@ use dac_origins::{MapKey, NoMemory};
 use std::alloc::Global;
 use std::cmp::Ordering;
 
-/// What two maps have at a key, made into what their merge has there.
+/// Combines the values of two maps at a key into the value of their merge.
 ///
-/// Each call answers the value to keep, or `None` where the key is dropped; [`NoMemory`] is the only error.
+/// Each method returns the value to keep, or `None` to drop the key.
 pub trait Combine<K, X> {
-    /// What is kept at a key, by what each map has there.
+    /// The merged value at a key, from the value of each map there.
     ghost combined: { Self → K → Option X → Option X → Option X };
 
-    /// At a key of the first map alone.
+    /// Combines at a key of the first map only.
     fn left(&self, key: K, mine: &X) -> Result<Option<X>, NoMemory>
         ensures { IfOk result (λ made. made ≡ combined self.now key (Some mine.now) None) };
 
-    /// At a key of the second map alone.
+    /// Combines at a key of the second map only.
     fn right(&self, key: K, theirs: &X) -> Result<Option<X>, NoMemory>
         ensures { IfOk result (λ made. made ≡ combined self.now key None (Some theirs.now)) };
 
-    /// At a key of both.
+    /// Combines at a key of both maps.
     fn both(&self, key: K, mine: &X, theirs: &X) -> Result<Option<X>, NoMemory>
         ensures { IfOk result
             (λ made. made ≡ combined self.now key (Some mine.now) (Some theirs.now)) };
 }
 
-/// Puts an entry at the end, if there is a value.
+/// Appends an entry, if there is a value.
 fn push_kept<K: MapKey, X: Drop>(
     merged: &mut Vec<(K, X)>,
     key: K,
@@ -46,7 +46,7 @@ fn push_kept<K: MapKey, X: Drop>(
     Ok(())
 }
 
-/// Of the next entries of two maps those at the lowest key: one of them, or both where the keys are equal.
+/// Among the next entries of two maps those with the lowest key: one of them, or both if their keys are equal.
 fn lowest<'a, K: MapKey, X>(
     mine: Option<&'a (K, X)>,
     theirs: Option<&'a (K, X)>,
@@ -64,7 +64,7 @@ fn lowest<'a, K: MapKey, X>(
     }
 }
 
-/// Puts what is kept of the entries at one key at the end.
+/// Appends the combination of the entries at one key.
 fn push_lowest<K: MapKey, X: Drop, C: Combine<K, X>>(
     merged: &mut Vec<(K, X)>,
     how: &C,
@@ -86,8 +86,7 @@ fn push_lowest<K: MapKey, X: Drop, C: Combine<K, X>>(
     }
 }
 
-/// The entries of both lists as `how` combines them, in one pass. Where both are in the order of the keys, so is what
-/// is merged. [`NoMemory`] is the only error.
+/// Merges both lists with `how`, in one pass. If both are in key order, so is the result.
 pub fn merge<K: MapKey, X: Drop, C: Combine<K, X>>(
     alloc: Global,
     how: &C,
@@ -109,7 +108,7 @@ pub fn merge<K: MapKey, X: Drop, C: Combine<K, X>>(
     Ok(merged)
 }
 
-/// Where a key is, or would be.
+/// The index of a key, or of its insertion point.
 fn place_of<K: MapKey, X>(entries: &[(K, X)], key: K) -> Result<usize, usize>
     requires { IsInOrder K.cmp entries.now }
     ensures { IsPlaceOf K.cmp entries.now key result }
@@ -117,7 +116,7 @@ fn place_of<K: MapKey, X>(entries: &[(K, X)], key: K) -> Result<usize, usize>
     entries.binary_search_by_key(&key, |entry| entry.0)
 }
 
-/// The place of a key in a sorted list of entries, which is looked for at this place first.
+/// The index of a key in a sorted list of entries. The search tries index `place` first.
 pub(crate) fn place_near<K: MapKey, X>(
     entries: &[(K, X)],
     place: usize,
@@ -132,7 +131,7 @@ pub(crate) fn place_near<K: MapKey, X>(
     }
 }
 
-/// The value at a key of a sorted list of entries, if there is one. It is looked for at this place first.
+/// The value at a key of a sorted list of entries, if any. The search tries index `place` first.
 pub fn value_near<K: MapKey, X>(entries: &[(K, X)], place: usize, key: K) -> Option<&X>
     requires { IsInOrder K.cmp entries.now }
     ensures { option_copied result ≡ find K.cmp key entries.now }
@@ -143,7 +142,7 @@ pub fn value_near<K: MapKey, X>(entries: &[(K, X)], place: usize, key: K) -> Opt
     }
 }
 
-/// The value at a key of a sorted list of entries, if there is one.
+/// The value at a key of a sorted list of entries, if any.
 pub fn value_at<K: MapKey, X>(entries: &[(K, X)], key: K) -> Option<&X>
     requires { IsInOrder K.cmp entries.now }
     ensures { option_copied result ≡ find K.cmp key entries.now }

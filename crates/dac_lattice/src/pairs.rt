@@ -1,22 +1,21 @@
-//! Two lattices side by side.
+//! The product of two lattices.
 ghost use Rattle.std.specs.Prelude.{◌≡◌, ◌↔◌, IsTrue, IfOk};
 
 use crate::{Bottom, Lattice};
 use dac_origins::NoMemory;
 use std::alloc::Global;
 
-/// Two values side by side. Each has its own order. A pair is below another where both of its values are below the
-/// other's, and a join joins each with its own.
+/// The product of two lattices, ordered and joined componentwise.
 #[derive(Debug, Drop)]
 pub struct Pair<A, B> {
-    /// The first value.
+    /// The first component.
     pub first: A,
-    /// The second value.
+    /// The second component.
     pub second: B,
 }
 
 impl<A: Lattice, B: Lattice> Pair<A, B> {
-    /// These two values.
+    /// The pair of two values.
     pub fn new(first: A, second: B) -> Self
         ensures { result ≡ record { first = first; second = second } }
     {

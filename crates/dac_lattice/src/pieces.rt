@@ -1,4 +1,4 @@
-//! Pieces of a state, to which each operation adds its delta.
+//! Component lattices of a state, to which each operation adds a delta.
 ghost use Rattle.std.specs.Prelude.{◌≡◌, List, IfOk};
 ghost use Rattle.dac_origins.specs.declared.dot.Dot.{Dot};
 ghost use Rattle.dac_lattice.specs.Pieces.{AreOperations, IsPiece, JoinsAreTogether, OrderAndRepeatsAreNothing, DeltasAreMeanings};
@@ -7,33 +7,33 @@ use crate::Bottom;
 use dac_origins::{Dot, NoMemory};
 use std::alloc::Global;
 
-/// A lattice to which each operation adds its delta.
+/// A component lattice, to which each operation adds a delta.
 ///
-/// A piece has a definition: what a set of operations means, said of them all at once and of one value at
-/// most. The law is that a set of no operations means the least value, and that to add an operation is to
-/// join its delta. So the joined deltas of any set of operations are what the set means.
+/// A piece defines the meaning of a set of operations: a statement about all of them that holds of at most one value.
+/// By its law the empty set means the least value, and adding an operation joins its delta, so that the joined deltas
+/// of any set of operations are the set's meaning.
 pub trait Piece: Bottom {
-    /// What an operation does, as far as this piece looks at it.
+    /// The part of an operation that this piece depends on.
     type Act;
 
-    /// Whether an act may have this dot.
+    /// Whether an act can have this dot.
     ghost fits: { Dot → Self.Act → Type 0 };
 
     /// The delta of an operation.
     ghost delta: { Dot → Self.Act → Self };
 
-    /// The definition: whether a value is what the operations mean.
+    /// The definition: whether a value is the meaning of the operations.
     ghost means: { List (Dot × Self.Act) → Self → Type 0 };
 
-    /// What one operation adds. [`NoMemory`] is the only error.
+    /// The delta that one operation adds.
     fn delta(alloc: Global, dot: Dot, act: &Self::Act) -> Result<Self, NoMemory>
         ensures { IfOk result (λ made. made ≡ delta dot act.now) };
 
-    /// To add an operation is to join its delta, and no operations are the least value.
+    /// Adding an operation joins its delta, and no operations mean the least value.
     ghost piece_laws: { IsPiece Self.is_value Self.join Self.bottom fits delta means };
 }
 
-/// The joined deltas of operations, which are what the operations mean. [`NoMemory`] is the only error.
+/// The joined deltas of operations, which are the meaning of the operations.
 pub fn join_deltas<P: Piece>(alloc: Global, operations: &[(Dot, P::Act)]) -> Result<P, NoMemory>
     requires { AreOperations P.fits operations.now }
     ensures { IfOk result (λ joined. P.means operations.now joined) }
@@ -48,9 +48,9 @@ pub fn join_deltas<P: Piece>(alloc: Global, operations: &[(Dot, P::Act)]) -> Res
     Ok(joined)
 }
 
-/// The laws that follow for every piece, as the contract of a function that does nothing. The joined deltas of
-/// operations are what they mean. Two meanings joined are the meaning of both together where no two different
-/// operations have one dot. The order of operations and their repeats make no difference.
+/// Laws that hold for every piece, as the contract of an empty function. The joined deltas of operations are their
+/// meaning. The join of two meanings is the meaning of all the operations, unless two different ones have the same dot.
+/// Order and repetition make no difference.
 pub fn laws_of_pieces<P: Piece>()
     ensures deltas { DeltasAreMeanings P.join P.bottom P.fits P.delta P.means }
     ensures together { JoinsAreTogether P.is_value P.join P.fits P.means }

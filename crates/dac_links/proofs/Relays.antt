@@ -1,11 +1,11 @@
--- Each move keeps the rule of the relay.
+-- Each operation on a link keeps its invariant.
 use Rattle.std.proofs.Common.{◌≡◌, ◌≢◌, ℕ, zero, suc, true, false, true≢false, List, [], ◌∷◌, ◌++◌, length, set, sym, refl, ap, ◌∙◌, subst, ⊎_elim, append_assoc}
 use mathlib.Core.Option.{some, some-ne-none}
 use lib.ListN.{get_elem?}
 use Rattle.crossbeam_channel.specs.Fifo.{Pushes, Pops, Forks, Merges}
 use Rattle.atomic_table.proofs.Lists.{at_set, at_snoc}
 use Rattle.dac_links.specs.declared.rule.Log.{Log}
-use Rattle.dac_links.specs.Relay.{Paper, log, RelayFits, Relayed}
+use Rattle.dac_links.specs.Relay.{LetterValue, log, RelayFits, Relayed}
 
 at_end : (l : List Log) (a b : Log) (j : ℕ) → get_elem? l j ≢ some b → get_elem? (l ++ a ∷ []) j ≡ some b → j ≡ length l
 at_end [] a b zero n e = refl
@@ -23,7 +23,7 @@ all_set F views port w mine others j u e = ⊎_elim (λ (x : (j ≡ port) × (w 
 pub begins : Relayed [] (log true true [] [] ∷ [])
 begins = (0, 0, [], [], refl, all_set (RelayFits 0 0 [] []) (log true true [] [] ∷ []) 0 (log true true [] []) ((λ _. (refl, refl)), λ _. (refl, refl)) (λ j u other e. absurd (other (at_end [] _ u j (λ x. some-ne-none u (sym x)) e))))
 
-pub sends : (n port : ℕ) (v : Log) (x : Paper) → v.puts ≡ true → Pushes Relayed n port v x (λ w. w ≡ log v.puts v.takes (v.put ++ x ∷ []) v.taken)
+pub sends : (n port : ℕ) (v : Log) (x : LetterValue) → v.puts ≡ true → Pushes Relayed n port v x (λ w. w ≡ log v.puts v.takes (v.put ++ x ∷ []) v.taken)
 sends n port v x may items views _ h at = let w : Log = log v.puts v.takes (v.put ++ x ∷ []) v.taken in let mine = h.5 port v at in let sent = h.2 ++ x ∷ [] in (
   w,
   (

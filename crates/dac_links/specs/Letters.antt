@@ -1,4 +1,4 @@
--- Letters: the bytes of a message, or none where no more come.
+-- Letters: the bytes of a message, or nothing for the end letter.
 use Rattle.std.specs.Prelude.{ℕ, List, Option, None, Some, Vec}
 use Rattle.std.specs.Global.{Global}
 

@@ -11,30 +11,33 @@ use crossbeam_channel::{Pass, RuledReceiver, RuledSender, bounded_with};
 use std::alloc::{AllocError, Global};
 use std::sync::Wait;
 
-/// The other end of the link is gone.
+/// The other end of the link was dropped.
 #[derive(Clone, Copy, Debug, PartialEq, Eq)]
 pub struct Gone;
 
-/// The end that letters are put in.
+/// The end at which a thread sends letters.
 #[derive(Drop)]
 pub struct LinkSender {
+    /// The channel's sending end.
     pub end: RuledSender<Letter, Log, InOrder>,
+    /// Permits sending, and records the letters sent, for contracts.
     pub pass: Pass<Letter, Log>,
     ghost seated: { IsSeatAt (sends_on end) pass },
     ghost may: { (view pass).puts ≡ true },
 }
 
-/// The end that letters are taken from.
+/// The end at which a thread receives letters.
 #[derive(Drop)]
 pub struct LinkReceiver {
+    /// The channel's receiving end.
     pub end: RuledReceiver<Letter, Log, InOrder>,
+    /// Permits receiving, and records the letters received, for contracts.
     pub pass: Pass<Letter, Log>,
     ghost seated: { IsSeatAt (receives_on end) pass },
     ghost may: { (view pass).takes ≡ true },
 }
 
-/// A link that has room for so many letters, and its two ends. Nothing was put and nothing was taken. Want of memory is the only
-/// error.
+/// An empty link that holds up to `room` letters, as its two ends. Fails only if an allocation does.
 pub fn link(alloc: Global, room: usize) -> Result<(LinkSender, LinkReceiver), AllocError>
     requires { 0 < room }
     ensures one { IfOk result (λ r. receives_on r.1.end ≡ sends_on r.0.end) }
@@ -52,7 +55,7 @@ pub fn link(alloc: Global, room: usize) -> Result<(LinkSender, LinkReceiver), Al
 }
 
 impl LinkSender {
-    /// Puts a letter behind all that were put. At `Err` nothing was put.
+    /// Sends a letter; waits while the link is full. At `Err` nothing was sent.
     pub fn put<R: Wait>(&mut self, rt: &R, letter: Letter) -> Result<(), Gone>
         ensures link { sends_on self.new.end ≡ sends_on self.old.end }
         ensures put { MatchResult result
@@ -66,7 +69,7 @@ impl LinkSender {
         }
     }
 
-    /// Shows that what was taken is a beginning of what was put. Both ends are as before.
+    /// Proves that the letters received are a prefix of those sent. Both ends stay unchanged.
     pub fn compare(&mut self, receiver: LinkReceiver) -> LinkReceiver
         requires { receives_on receiver.end ≡ sends_on self.old.end }
         ensures link { (sends_on self.new.end ≡ sends_on self.old.end)
@@ -91,7 +94,7 @@ impl LinkSender {
 }
 
 impl LinkReceiver {
-    /// Takes the letter that was put next, and waits for it. At `Err` nothing was taken.
+    /// Waits for the next letter and receives it. At `Err` nothing was received.
     pub fn take<R: Wait>(&mut self, rt: &R) -> Result<Letter, Gone>
         ensures link { receives_on self.new.end ≡ receives_on self.old.end }
         ensures taken { MatchResult result

@@ -1,8 +1,8 @@
-//! Links: letters that go from one thread to another, in order and each once.
+//! Links: bounded FIFO channels that carry letters from one thread to another, each once.
 //!
-//! A [`Letter`] has the bytes of a message, or says that no more come. [`link`] makes a link, which holds a bounded number
-//! of letters. Letters are put in at its [`LinkSender`] and taken out at its [`LinkReceiver`]. Each end knows all that went
-//! through it. What was taken is a beginning of what was put, and [`LinkSender::compare`] shows it.
+//! A [`Letter`] carries the bytes of a message, or ends a sequence of them. [`link`], the only function that allocates,
+//! makes a link with a [`LinkSender`] and a [`LinkReceiver`]. The letters received are a prefix of those sent, which
+//! [`LinkSender::compare`] proves.
 #![tactic(auto)]
 
 mod ends;

@@ -1,22 +1,22 @@
-//! The rule of a link: what was put is what was taken and then what the link holds.
+//! The invariant of a link.
 
 use crate::letter::Letter;
 use crossbeam_channel::protocol::{Join, Lesson, Outcome, Protocol, Split};
 use std::collections::LinkedList;
 
-/// What a pass may do, what it has put and what it has taken. No value of it is made.
+/// Permissions of a pass, and the letters that went through it. Only contracts use it: no value of it is made.
 pub struct Log {
-    /// Whether it may put.
+    /// Whether the pass permits sending.
     pub puts: bool,
-    /// Whether it may take.
+    /// Whether the pass permits receiving.
     pub takes: bool,
-    /// What was put, the oldest first.
+    /// The letters sent, oldest first.
     pub put: LinkedList<Letter>,
-    /// What was taken, the oldest first.
+    /// The letters received, oldest first.
     pub taken: LinkedList<Letter>,
 }
 
-/// Letters come out in the order in which they went in, each once.
+/// The protocol of a link: FIFO, each letter once.
 pub struct InOrder;
 
 impl Protocol<Letter, Log> for InOrder {
@@ -28,7 +28,7 @@ impl Protocol<Letter, Log> for InOrder {
     ghost first = { log true true [] [] };
 }
 
-/// One pass that puts and one that takes.
+/// Splits the first pass into one for sending and one for receiving, and joins them again.
 pub(crate) struct Roles;
 
 impl Split<Log> for Roles {
@@ -49,7 +49,7 @@ impl Join<Log> for Roles {
     ghost spent = { log false false [] [] };
 }
 
-/// A letter was put.
+/// A letter was sent.
 pub(crate) struct Put;
 
 impl Outcome<Letter, Log> for Put {
@@ -63,7 +63,7 @@ impl Lesson<Letter, Log> for Put {
     ghost fact = { λ v items. Unit {0} };
 }
 
-/// A letter was taken.
+/// A letter was received.
 pub(crate) struct Took;
 
 impl Outcome<Letter, Log> for Took {
@@ -77,7 +77,7 @@ impl Lesson<Letter, Log> for Took {
     ghost fact = { λ v items. Unit {0} };
 }
 
-/// What was put is what was taken and what the link holds.
+/// The letters sent are those received, followed by those in the channel.
 pub(crate) struct Whole;
 
 impl Lesson<Letter, Log> for Whole {

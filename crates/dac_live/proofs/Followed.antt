@@ -1,4 +1,4 @@
--- A caller's lines, by its last receipts.
+-- A caller's lines agree with its last receipts.
 use Rattle.std.proofs.Common.{◌≡◌, ℕ, zero, suc, ◌+◌, ◌<◌, List, [], ◌∷◌, ◌++◌, length, take, get_or, Option, Some, None, refl, sym, ap, ◌∙◌, subst, arith, add-zero, add_assoc}
 use Rattle.std.specs.Prelude.{option_to_list}
 use Rattle.std.proofs.lemmas.List.{take_more, length-take-le}
@@ -23,7 +23,7 @@ receipts_push : (last : ℕ) (cs : List Call) (c : Call) → receipts_from last 
 receipts_push last [] c = refl
 receipts_push last (d ∷ cs) c = ap (λ l. last ∷ l) (receipts_push (receipt_by last d.place d.answer) cs c)
 
--- one record more of the seat, and of another
+-- one more record, of this seat or of another
 calls_on : (s i : ℕ) (rs : List Record) (r : Record) → i < length rs → r ≡ get_or rs i r → calls_of s (take (i + 1) rs) ≡ calls_of s (take i rs ++ r ∷ [])
 calls_on s i rs r within at = ap (calls_of s) (take_more rs i r within ∙ ap (λ x. take i rs ++ x ∷ []) (sym at))
 
@@ -44,14 +44,14 @@ pub all_mine : (s i last : ℕ) (rs : List Record) (r : Record) (all : List ℕ)
 all_mine s i last rs r all within at mine is so_far =
     (λ j. so_far j ++ receipt_by (is j) (i + 1) r.answer ∷ []) ∙ sym (receipts_push 0 (calls_of s (take i rs)) (call_of (i + 1) r.event r.answer)) ∙ ap (receipts_from 0) (sym (calls_mine s i rs r within at mine))
 
--- the one after so many calls
+-- the receipt after this many calls
 receipt_there : (last k : ℕ) (cs : List Call) → k < length (receipts_from last cs) → get_or (receipts_from last cs) k 0 ≡ receipt_after last (take k cs)
 receipt_there last zero [] within = refl
 receipt_there last (suc k) [] within = absurd (omega (arith, within))
 receipt_there last zero (c ∷ cs) within = refl
 receipt_there last (suc k) (c ∷ cs) within = let less : k < length (receipts_from (receipt_by last c.place c.answer) cs) = omega (arith, within) in receipt_there (receipt_by last c.place c.answer) k cs less
 
--- ---- lines that go with them
+-- ---- lines that agree with receipts
 before_count : {B : Type 0} (o : Option B) (ys : List B) → length (before o ys) ≡ length (before o []) + length ys
 before_count None ys = omega arith
 before_count (Some y) ys = omega arith
@@ -68,7 +68,7 @@ follows_at receipts from to (b ∷ front) after l follows =
     let count : (from + asked_in (b ∷ [])) + asked_in front ≡ from + asked_in (b ∷ front) = add_assoc from (asked_in (b ∷ [])) (asked_in front) ∙ ap (λ k. from + k) (sym (before_count (answer_in b.0) (found (λ (x : LineAnswer × Option Page). answer_in x.0) front))) in
     subst (λ k. (k < length receipts) × IsTold (get_or receipts k 0) l.0 l.1) count (follows_at receipts (from + asked_in (b ∷ [])) to front after l follows.2)
 
--- so each goes with its last receipt
+-- each line agrees with its last receipt
 pub follows_receipts : (calls : List Call) (receipts : List ℕ) (to : ℕ) (ls : List (LineAnswer × Option Page)) → receipts ≡ receipts_from 0 calls → Follows receipts 0 to ls → FollowsReceipts calls ls
 follows_receipts calls receipts to ls are follows = record {
   each = λ front after answer read is.
@@ -78,7 +78,7 @@ follows_receipts calls receipts to ls are follows = record {
       subst (λ k. IsTold k answer read) (receipt_there 0 (asked_in front) calls there.0) there.1;
 }
 
--- one more of what is found, as one or none
+-- one more value found, as a list of one or none
 listed_as : {B : Type 0} (o : Option B) → listed o ≡ option_to_list o
 listed_as None = refl
 listed_as (Some y) = refl

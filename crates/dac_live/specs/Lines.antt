@@ -1,4 +1,4 @@
--- What the lines of callers are answered, and what their seats asked and were answered.
+-- The results of callers' lines, and the records of their seats.
 use Rattle.std.specs.Prelude.{⊤, ℕ, ◌≡◌, ◌<◌, ◌≤◌, ◌++◌, ◌∷◌, [], All, List, Option, Some, None, Result, flat_map, if◌then◌else◌, length, zip}
 use Rattle.std.specs.List.{AllZip}
 use Rattle.dac_messages.specs.declared.reply.Reply.{Reply}
@@ -19,36 +19,36 @@ use Rattle.dac_live.specs.Asked.{answer_one}
 use Rattle.dac_phases.specs.Asks.{is_of, asks_of}
 use Rattle.dac_phases.specs.Pairs.{records_at}
 
--- ---- what a caller owes
--- the line is one of a node that there is, and of a caller from 1 to 4
+-- ---- the precondition of a run
+-- the line is for a node of the configuration, and for a caller from 1 to 4
 abbrev pub IsLineOf : ℕ → Line → Type 0
 IsLineOf nodes line = (line.node.0 < nodes) × (1 ≤ line.caller) × (line.caller ≤ 4)
 
--- all lines of the phase are
+-- all lines of the phase are for nodes of the configuration, and for callers from 1 to 4
 abbrev pub HasLines : ℕ → Phase → Type 0
 HasLines nodes phase = All (IsLineOf nodes) phase.lines.items
 
--- ---- what they are answered
+-- ---- the results of lines
 abbrev pub answer_in : LineAnswer → Option (Result Reply Refusal)
 answer_in (Done answer) = Some answer
 answer_in Fresh = None
 answer_in Stale = None
 
--- the answer that this caller is given at the line, if any
+-- the result of the line, if it calls the node and is this caller's
 abbrev pub told_one : ℕ → ℕ → Line × LineAnswer → Option (Result Reply Refusal)
 told_one node caller told = if is_of node caller told.0 then answer_in told.1 else None
 
--- the answers that it is given at these lines, in order
+-- the results of this caller's lines of a phase, in order
 abbrev pub told_in : ℕ → ℕ → List Line → List LineAnswer → List (Result Reply Refusal)
 told_in node caller lines answers = found (told_one node caller) (zip lines answers)
 
--- those that it is given over all phases, in order
+-- the results of this caller's lines over all phases, in order
 abbrev pub told_of : ℕ → ℕ → List Phase → List (List LineAnswer) → List (Result Reply Refusal)
 told_of node caller phases answers =
     flat_map (λ (p : Phase × List LineAnswer). told_in node caller p.0.lines.items p.1) (zip phases answers)
 
--- ---- what answers what
--- a line that asks has an answer, and one that reads has a fresh or a stale page
+-- ---- results of the right kind
+-- a line that calls has a reply or refusal, and one that reads has a fresh or a stale page
 abbrev pub Answers : Ask → LineAnswer → Type 0
 Answers (Do event) (Done answer) = ⊤
 Answers (Do event) Fresh = ⊥
@@ -57,49 +57,49 @@ Answers Read (Done answer) = ⊥
 Answers Read Fresh = ⊤
 Answers Read Stale = ⊤
 
--- each line of a phase is answered
+-- each line of a phase has a result of its kind
 abbrev pub LinesAnswered : List Line → List LineAnswer → Type 0
 LinesAnswered lines answers = AllZip (λ (line : Line) (answer : LineAnswer). Answers line.what answer) lines answers
 
--- each line of each phase is
+-- each line of each phase has a result of its kind
 abbrev pub AreAnswered : List Phase → List (List LineAnswer) → Type 0
 AreAnswered phases answers =
     AllZip (λ (p : Phase) (all : List LineAnswer). LinesAnswered p.lines.items all) phases answers
 
--- ---- what is handed out to a caller's lines, by what it read: the next one stands last
--- what came of a line that read so, and its page
+-- ---- the reads left for a caller's lines, the next one last
+-- the result of a line that reads, and its page
 abbrev pub seen_as : Reading → LineAnswer × Option Page
 seen_as (reading.Fresh page) = (Fresh, Some page)
 seen_as (reading.Stale page) = (Stale, page)
 
--- a line that reads is handed out what was read next, and nothing where no more was read
+-- a line that reads takes the next read, or nothing if none is left
 abbrev pub HandedReading : List Reading → List Reading → Option (LineAnswer × Option Page) → Type 0
 HandedReading reads left None = reads ≡ []
 HandedReading reads left (Some told) = (one : Reading) × (reads ≡ left ++ one ∷ []) × (told ≡ seen_as one)
 
--- a line that asks leaves what was read as it is
+-- a line that calls takes no read
 abbrev pub Handed : Ask → List Reading → List Reading → Option (LineAnswer × Option Page) → Type 0
 Handed (Do event) reads left told = left ≡ reads
 Handed Read reads left told = HandedReading reads left told
 
 -- ---- callers' seats
--- the records of this caller's seat are what its lines ask, in order, and were answered as the lines are
+-- the records of this caller's seat are its lines that call, in order, with the lines' results
 pub record CallerHolds (node caller : ℕ) (phases : List Phase) (answers : List (List LineAnswer))
     (records : List Record) : Type 0 where
   pub asked : found (event_one caller) records ≡ asks_of node caller phases
   pub told : found (answer_one caller) records ≡ told_of node caller phases answers
 
--- those of all callers of a node are
+-- the records of all callers of a node are their lines that call, with the lines' results
 abbrev pub NodeHolds : ℕ → List Phase → List (List LineAnswer) → List Record → Type 0
 NodeHolds node phases answers records =
     (caller : ℕ) → 1 ≤ caller → caller ≤ 4 → CallerHolds node caller phases answers records
 
--- those of all callers of all nodes are
+-- the records of all callers of all nodes are their lines that call, with the lines' results
 abbrev pub CallersHold : List Phase → List (List LineAnswer) → List JournalValue → Type 0
 CallersHold phases answers closed =
     (node : ℕ) → node < length closed → NodeHolds node phases answers (records_at closed node)
 
--- those of this node aren't, and those of nodes before it are
+-- the first node at which a caller's records aren't its lines that call, with the lines' results
 pub record IsStrange (node : ℕ) (phases : List Phase) (answers : List (List LineAnswer)) (closed : List JournalValue)
     : Type 0 where
   pub within : node < length closed

@@ -1,4 +1,4 @@
--- What the lines of callers read.
+-- The pages that callers' lines read.
 use Rattle.std.specs.Prelude.{⊤, ℕ, ◌≡◌, ◌<◌, ◌≤◌, ◌==◌, ◌++◌, ◌∷◌, [], All, List, Option, Some, None, Result, Ok, Err, flat_map, if◌then◌else◌, length, take, zip}
 use Rattle.std.specs.List.{AllZip}
 use Rattle.dac_config.specs.Table.{Table}
@@ -28,37 +28,37 @@ AreNoted phases reads =
 abbrev pub IsPageOf : Beginning → List Record → Page → Type 0
 IsPageOf o rs page = page ≡ page_after o (take page.place rs)
 
--- the page that a line of this node read, if any
+-- the page that the line read, if it is a line of this node and read one
 abbrev pub page_one : ℕ → Line × Option Page → Option Page
 page_one node read = if read.0.node.0 == node then read.1 else None
 
--- the pages that these lines of it read, in order
+-- the pages that these lines of this node read, in order
 abbrev pub pages_in : ℕ → List Line → List (Option Page) → List Page
 pages_in node lines reads = found (page_one node) (zip lines reads)
 
--- those that its lines read over all phases, in order
+-- the pages that lines of this node read over all phases, in order
 abbrev pub pages_read : ℕ → List Phase → List (List (Option Page)) → List Page
 pages_read node phases reads =
     flat_map (λ (p : Phase × List (Option Page)). pages_in node p.0.lines.items p.1) (zip phases reads)
 
--- each page that a line of a node read is the node's after as many records of its journal as the page's place says
+-- each page that a line of a node read is the one after as many records of the node's journal as its place says
 abbrev pub PagesAreRead : Table → List Phase → List (List (Option Page)) → List JournalValue → Type 0
 PagesAreRead t phases reads closed = (node : ℕ) → node < length closed
     → All (IsPageOf (beginning_of t (record { 0 = node }) 0) (records_at closed node)) (pages_read node phases reads)
 
 -- ---- receipts
--- the place of a caller's last receipt once a call at this place was answered so: a refusal gives no receipt
+-- the place of a caller's last receipt after a call at this place; a refusal gives no receipt
 abbrev pub receipt_by : ℕ → ℕ → Result Reply Refusal → ℕ
 receipt_by last place (Ok reply) = place
 receipt_by last place (Err why) = last
 
--- the same once all these calls were answered
+-- the place of the last receipt after all these calls
 abbrev pub receipt_after : ℕ → List Call → ℕ
 receipt_after last [] = last
 receipt_after last (c ∷ cs) = receipt_after (receipt_by last c.place c.answer) cs
 
--- What came of a line and the page that it read, where its caller's last receipt is at this place: a fresh page isn't
--- before that place. A stale one is, or there is none. A line that asks reads none.
+-- The result and the page of a line agree with the caller's last receipt, which has this place: a fresh page isn't
+-- older, a stale one is, or there is none. A line that calls reads no page.
 abbrev pub IsTold : ℕ → LineAnswer → Option Page → Type 0
 IsTold receipt (Done answer) None = ⊤
 IsTold receipt (Done answer) (Some page) = ⊥
@@ -68,43 +68,43 @@ IsTold receipt Stale None = ⊤
 IsTold receipt Stale (Some page) = page.place < receipt
 
 -- ---- a caller's lines
--- what came of a line, and the page that it read, if it is this caller's of this node
+-- the result of a line, and its page, if the line is this caller's of this node
 abbrev pub own_one : ℕ → ℕ → Line × (LineAnswer × Option Page) → Option (LineAnswer × Option Page)
 own_one node caller told = if is_of node caller told.0 then Some told.1 else None
 
--- the same of those of these lines that are, in order
+-- the results and pages of this caller's lines of a phase, in order
 abbrev pub own_in : ℕ → ℕ → List Line → List LineAnswer → List (Option Page) → List (LineAnswer × Option Page)
 own_in node caller lines answers reads = found (own_one node caller) (zip lines (zip answers reads))
 
--- the same over all phases, in order
+-- the results and pages of this caller's lines over all phases, in order
 abbrev pub own_of : ℕ → ℕ → List Phase → List (List LineAnswer) → List (List (Option Page)) → List (LineAnswer × Option Page)
 own_of node caller phases answers reads =
     flat_map (λ (p : Phase × (List LineAnswer × List (Option Page))). own_in node caller p.0.lines.items p.1.0 p.1.1)
     (zip phases (zip answers reads))
 
--- how many of these lines ask
+-- the number of these lines that call
 abbrev pub asked_in : List (LineAnswer × Option Page) → ℕ
 asked_in lines = length (found (λ (l : LineAnswer × Option Page). answer_in l.0) lines)
 
--- Each of a caller's lines goes by the caller's last receipt before it. That is the last one of as many of its calls as
--- lines before this one ask; it is at place 0 if there is none.
+-- Each of a caller's lines agrees with the caller's last receipt before it: the last one of as many calls as lines
+-- before it call, or place 0 if there is none.
 pub record FollowsReceipts (calls : List Call) (lines : List (LineAnswer × Option Page)) : Type 0 where
   pub each : (before after : List (LineAnswer × Option Page)) (answer : LineAnswer) (read : Option Page)
       → lines ≡ before ++ (answer, read) ∷ after → IsTold (receipt_after 0 (take (asked_in before) calls)) answer read
 
--- those of all callers of a node do
+-- the lines of all callers of a node agree with the receipts before them
 abbrev pub NodeFollows : ℕ → List Phase → List (List LineAnswer) → List (List (Option Page)) → List Record → Type 0
 NodeFollows node phases answers reads records = (caller : ℕ) → 1 ≤ caller → caller ≤ 4
     → FollowsReceipts (calls_of caller records) (own_of node caller phases answers reads)
 
--- those of all callers of all nodes do
+-- the lines of all callers of all nodes agree with the receipts before them
 abbrev pub FollowReceipts : List Phase → List (List LineAnswer) → List (List (Option Page)) → List JournalValue → Type 0
 FollowReceipts phases answers reads closed =
     (node : ℕ) → node < length closed → NodeFollows node phases answers reads (records_at closed node)
 
 -- ---- both
--- A line that reads has a page of its node's journal, or none if it is stale. It is fresh if its page isn't before its
--- caller's last receipt.
+-- A line that reads has a page of its node's journal, unless it is stale and has none. It is fresh if the page isn't
+-- older than its caller's last receipt.
 pub record ReadsHold (t : Table) (phases : List Phase) (answers : List (List LineAnswer))
     (reads : List (List (Option Page))) (closed : List JournalValue) : Type 0 where
   pub noted : AreNoted phases reads

@@ -1,4 +1,4 @@
-//! What a caller's seat was answered, and whether that is what its lines were.
+//! Compares the results in a caller's records with those of its lines.
 
 ghost use Rattle.std.specs.Prelude.{◌≡◌, ◌≤◌, ◌++◌, ◌∷◌, ◌↔◌, [], map, length, IfOk, OnOk, IsTrue, MatchOption};
 ghost use Rattle.std.specs.Option.{option_copied};
@@ -15,7 +15,7 @@ use dac_journal::same_answer;
 use dac_phases::{are_asked, asked_by};
 use std::alloc::Global;
 
-/// What this seat's record was answered, if it is one.
+/// The result in this record, if it is a record of this seat.
 fn answer_of(one: &Record, seat: u16) -> Option<&Answer>
     ensures { option_copied result ≡ answer_one seat one.now }
 {
@@ -26,7 +26,6 @@ fn answer_of(one: &Record, seat: u16) -> Option<&Answer>
     }
 }
 
-/// A copy of an answer.
 fn copy_answer(answer: &Answer) -> Result<Answer, NoMemory>
     ensures { IfOk result (λ copy. copy ≡ answer.now) }
 {
@@ -39,7 +38,6 @@ fn copy_answer(answer: &Answer) -> Result<Answer, NoMemory>
     }
 }
 
-/// A copy of the answer goes behind the list.
 fn put_answer(all: &mut Vec<Answer>, answer: &Answer) -> Result<(), NoMemory>
     ensures { OnOk result (all.new.items ≡ all.old.items ++ answer.now ∷ []) }
 {
@@ -48,7 +46,7 @@ fn put_answer(all: &mut Vec<Answer>, answer: &Answer) -> Result<(), NoMemory>
     Ok(())
 }
 
-/// What the records of this seat were answered, in order.
+/// The results in this seat's records, in order.
 pub fn answers_of(alloc: Global, records: &[Record], seat: u16) -> Result<Vec<Answer>, NoMemory>
     ensures { IfOk result (λ all. all.items ≡ found (answer_one seat) records.now) }
 {
@@ -63,7 +61,7 @@ pub fn answers_of(alloc: Global, records: &[Record], seat: u16) -> Result<Vec<An
     Ok(all)
 }
 
-/// Whether the records of this seat were answered so, in order and no others.
+/// Returns whether this seat's records have these results, in order, and no others.
 pub fn are_told(told: &[&Answer], records: &[Record], seat: u16) -> bool
     ensures { IsTrue result
         ↔ (found (answer_one seat) records.now ≡ map (λ a. a.now) told.now) }
@@ -88,7 +86,7 @@ pub fn are_told(told: &[&Answer], records: &[Record], seat: u16) -> bool
     next == told.len()
 }
 
-/// Whether the records of a caller's seat are what its lines ask, and were answered as the lines are.
+/// Returns whether a caller's records are its lines, with the lines' results.
 fn caller_holds(
     alloc: Global,
     phases: &[Phase],
@@ -110,7 +108,7 @@ fn caller_holds(
     Ok(are_told(told.as_slice(), records, seat))
 }
 
-/// Whether those of all callers of a node are.
+/// Returns whether the records of all callers of a node are their lines, with the lines' results.
 fn node_holds(
     alloc: Global,
     phases: &[Phase],
@@ -131,8 +129,8 @@ fn node_holds(
     Ok(true)
 }
 
-/// Names the first node, of these journals that stand by name, where the records of a caller's seat aren't what its lines ask,
-/// or were answered otherwise than the lines. [`NoMemory`] is the only error.
+/// The first node at which a caller's seat has other records than its lines ask for, or other results than its lines
+/// have.
 pub fn strange_node(
     alloc: Global,
     phases: &[Phase],

@@ -1,4 +1,4 @@
-//! Answers and pages, handed out to the lines that they are of.
+//! Assigns results and pages to the lines that they belong to.
 
 ghost use Rattle.std.specs.Prelude.{◌≡◌, IfOk, reverse};
 ghost use Rattle.dac_live.specs.Lines.{seen_as, Handed, HandedReading};
@@ -11,7 +11,7 @@ use dac_crews::{Answer, Ask, CloseFault, Closed, Line, Page, Phase, RunFault, Se
 use dac_workers::Reading;
 use std::alloc::Global;
 
-/// What is still to be handed out of what a caller was answered and read. The next one stands last.
+/// The results and reads of a caller that aren't assigned yet, the next one last.
 #[derive(Drop)]
 struct Rest {
     node: NodeId,
@@ -20,7 +20,7 @@ struct Rest {
     reads: Vec<Reading>,
 }
 
-/// What came of a line that read so, and its page.
+/// The result of a line that reads, and its page.
 fn seen_as(reading: Reading) -> (LineAnswer, Option<Page>)
     ensures { result ≡ seen_as reading }
 {
@@ -30,7 +30,7 @@ fn seen_as(reading: Reading) -> (LineAnswer, Option<Page>)
     }
 }
 
-/// What came of the next line that reads, and its page. `None` where the caller read no further one.
+/// The result of the next line that reads, and its page, or `None` if the caller read no more.
 fn next_reading(reads: &mut Vec<Reading>) -> Option<(LineAnswer, Option<Page>)>
     ensures { HandedReading reads.old.items reads.new.items result }
 {
@@ -41,8 +41,8 @@ fn next_reading(reads: &mut Vec<Reading>) -> Option<(LineAnswer, Option<Page>)>
 }
 
 impl Rest {
-    /// What came of its next line, which asks for this, and the page if it reads one. `None` where it was not answered so often, or
-    /// read no further page.
+    /// The result of the caller's next line with this request, and the page of one that reads. `None` if the caller has
+    /// no more results or reads.
     fn next(&mut self, what: &Ask) -> Option<(LineAnswer, Option<Page>)>
         ensures { Handed what.now self.old.reads.items self.new.reads.items result }
     {
@@ -56,7 +56,7 @@ impl Rest {
     }
 }
 
-/// What is to be handed out to a caller.
+/// The results and reads to assign to a caller's lines.
 fn rest_of(alloc: Global, closed: &[Closed], seen: Seen) -> Result<Rest, RunFault>
     ensures { IfOk result (λ rest. rest.reads.items ≡ reverse seen.reads.items) }
 {
@@ -79,7 +79,7 @@ fn rest_of(alloc: Global, closed: &[Closed], seen: Seen) -> Result<Rest, RunFaul
     })
 }
 
-/// What is to be handed out to all callers.
+/// The results and reads to assign to all callers' lines.
 fn rests_of(alloc: Global, closed: &[Closed], all: Vec<Seen>) -> Result<Vec<Rest>, RunFault> {
     let mut rests = Vec::new(alloc);
     for seen in all {
@@ -89,7 +89,7 @@ fn rests_of(alloc: Global, closed: &[Closed], all: Vec<Seen>) -> Result<Vec<Rest
     Ok(rests)
 }
 
-/// What came of the next line of its caller, and its page. `None` where there is no such caller, or it was not answered so often.
+/// The result of the next line of its caller, and its page, or `None` if there is none.
 fn next_of(rests: &mut [Rest], line: &Line) -> Option<(LineAnswer, Option<Page>)> {
     for i in 0..rests.len() {
         let rest = &mut rests[i];
@@ -100,7 +100,7 @@ fn next_of(rests: &mut [Rest], line: &Line) -> Option<(LineAnswer, Option<Page>)
     None
 }
 
-/// What came of each line of a phase, and the page that it read.
+/// The result of each line of a phase, and its page.
 fn told_in(
     alloc: Global,
     rests: &mut [Rest],
@@ -119,15 +119,15 @@ fn told_in(
     Ok((AnswerList::new(answers), ReadList::new(reads)))
 }
 
-/// The records of a caller's seat aren't what its lines ask, and so no record is named.
+/// The fault of a node whose callers' records don't match their lines. It names no record.
 pub(crate) fn mismatch(node: NodeId) -> RunFault {
     let why = CloseFault::Mismatch { place: 0 };
     RunFault::Close { node, why }
 }
 
-/// What came of each line of each phase, and the page that it read, by what the callers read and what the journals, which stand by
-/// name, say of them. Whether it is so is left to [`are_answered`](crate::are_answered), [`strange_node`](crate::strange_node),
-/// [`last_pages`](crate::last_pages) and [`strange_read`](crate::receipts::strange_read).
+/// The result and the page of each line of each phase, from the callers' reads and the journals. Only
+/// [`are_answered`](crate::are_answered), [`strange_node`](crate::strange_node), [`last_pages`](crate::last_pages) and
+/// [`strange_read`](crate::receipts::strange_read) check that they are right.
 pub(crate) fn all_told(
     alloc: Global,
     phases: &[Phase],

@@ -1,4 +1,4 @@
-//! A journal's records, replayed once: the answers, the pages that were read, and the page after all of them.
+//! Replays a journal once, and checks its results, the pages read, and the page after it.
 
 ghost use Rattle.std.specs.Prelude.{◌≡◌, ◌≤◌, true, All, IfOk, IfSome, length, map};
 ghost use Rattle.std.specs.List.{AllWithin};
@@ -15,7 +15,7 @@ use dac_journal::{Node, is_answered, same_answer};
 use dac_sites::page_of;
 use std::alloc::Global;
 
-/// The node goes on by what a record asks. It tells whether the node answers as the record says.
+/// Handles the event of a record, and returns whether the node's result is the record's.
 fn repeats(config: &Config, me: NodeId, node: &mut Node, one: &Record) -> Result<bool, NoMemory>
     ensures { IfOk result
         (λ same. same ≡ true → Steps config.now me node.old one.now.event node.new one.now.answer) }
@@ -27,8 +27,8 @@ fn repeats(config: &Config, me: NodeId, node: &mut Node, one: &Record) -> Result
     Ok(same_answer(&answer, &one.answer))
 }
 
-/// Goes past the pages of this place, of pages that stand by their places, from this one on. `None` where one of them isn't the
-/// node's page.
+/// Skips the pages with this place, in a list sorted by place. Returns the next index, or `None` if one of them isn't
+/// the node's page.
 fn passed(
     alloc: Global,
     config: &Config,
@@ -56,8 +56,8 @@ fn passed(
     Some(reads.len())
 }
 
-/// The page after all records, if they are a history of this node, which had no incarnation before them, and each of the pages is
-/// the one after as many of them as its place says. The pages stand by their places. [`NoMemory`] is the only error.
+/// The page after all records, or `None` unless they are a history of this node, from before its first boot, and each
+/// of the pages is the one after as many of them as its place says. The pages are sorted by place.
 pub fn page_of_history(
     alloc: Global,
     config: &Config,

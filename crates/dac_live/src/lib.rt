@@ -1,7 +1,10 @@
-//! What a run reports is read off the closed journals: what the links carried, the last pages, and what callers asked.
+//! Live runs, with a report that is checked against the closed journals.
 //!
-//! [`run_live`] runs phases at sites and makes a [`LiveReport`] of what came of them. It asks nothing of the threads: each
-//! journal is a history of its node, and the rest of the report is compared with the journals before it is handed out.
+//! [`run_live`] runs phases at sites and returns a [`LiveReport`]. It doesn't rely on the threads: each journal is a
+//! history of its node, and the rest of the report is compared with the journals before it is returned.
+//!
+//! Functions whose result can't carry `NoMemory` allocate nothing, and `NoMemory` is the only error of those that name
+//! no other. Lists with an item for each node are in order of name.
 #![tactic(auto)]
 
 pub use callers::{answers_of, are_told, strange_node};

@@ -1,4 +1,4 @@
-//! What the lines of callers are answered.
+//! The results of callers' lines.
 
 ghost use Rattle.std.specs.Prelude.{◌≡◌, ◌++◌, true, map, length, IfOk};
 ghost use Rattle.std.specs.Option.{option_copied};
@@ -12,7 +12,7 @@ use dac_crews::{Answer, Ask, Line, Phase};
 use dac_phases::is_of;
 use std::alloc::Global;
 
-/// The answer that this caller is given at the line, if it is one that asks.
+/// The result of the line, if it calls the node and is this caller's.
 fn answer_in<'a>(
     line: &Line,
     answer: &'a LineAnswer,
@@ -30,7 +30,7 @@ fn answer_in<'a>(
     }
 }
 
-/// The list, with the answers behind it that this caller is given at the lines of a phase.
+/// Appends the results of this caller's lines of a phase.
 fn with_answers<'a>(
     mut all: Vec<&'a Answer>,
     lines: &[Line],
@@ -53,7 +53,7 @@ fn with_answers<'a>(
     Ok(all)
 }
 
-/// The answers that this caller is given, over all phases, in order. [`NoMemory`] is the only error.
+/// The results of this caller's lines, over all phases, in order.
 pub fn told_to<'a>(
     alloc: Global,
     phases: &[Phase],
@@ -74,7 +74,7 @@ pub fn told_to<'a>(
     Ok(all)
 }
 
-/// Whether what came of the line is what comes of such a line.
+/// Returns whether the result is one of the line's kind.
 fn is_answered(line: &Line, answer: &LineAnswer) -> bool
     ensures { result ≡ true → Answers line.now.what answer.now }
 {
@@ -84,7 +84,7 @@ fn is_answered(line: &Line, answer: &LineAnswer) -> bool
     }
 }
 
-/// Whether each line of a phase is answered.
+/// Returns whether each line of a phase has a result of its kind.
 fn lines_answered(lines: &[Line], answers: &[LineAnswer]) -> bool
     ensures { result ≡ true → LinesAnswered lines.now answers.now }
 {
@@ -101,7 +101,7 @@ fn lines_answered(lines: &[Line], answers: &[LineAnswer]) -> bool
     true
 }
 
-/// Whether each line is answered: one that asks by an answer, and one that reads by a fresh or a stale page.
+/// Returns whether each line has a result of its kind: a call a reply or refusal, and a read a fresh or a stale page.
 pub fn are_answered(phases: &[Phase], answers: &[AnswerList]) -> bool
     ensures { result ≡ true → AreAnswered phases.now answers.now }
 {

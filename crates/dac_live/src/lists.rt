@@ -1,4 +1,5 @@
-//! Lists in reports.
+//! The lists of a report, as types whose values are the lists. Each `Drop` is written by hand, so that a proof sees it
+//! as one call.
 
 ghost use Rattle.std.specs.Prelude.{◌≡◌};
 
@@ -6,12 +7,11 @@ use crate::report::LineAnswer;
 use dac_crews::{Closed, Page};
 use std::marker::Model;
 
-/// What came of the lines of a phase, in their order. Contracts see it as the list.
+/// The results of a phase's lines, in their order.
 pub struct AnswerList {
     answers: Vec<LineAnswer>,
 }
 
-/// Written out: a drop is one call for a proof, wherever it stands.
 impl Drop for AnswerList {
     fn drop(self) {
         let AnswerList { answers: _answers } = self;
@@ -32,14 +32,14 @@ impl Model for AnswerList {
 }
 
 impl AnswerList {
-    /// The answers of a vector, in its order. It takes no memory.
+    /// The results of a vector, in its order.
     pub fn new(answers: Vec<LineAnswer>) -> Self
         ensures { result ≡ answers.items }
     {
         AnswerList { answers }
     }
 
-    /// The vector of the answers. It takes no memory.
+    /// The vector of the results.
     pub fn into_vec(self) -> Vec<LineAnswer>
         ensures { result.items ≡ self }
     {
@@ -47,7 +47,7 @@ impl AnswerList {
         answers
     }
 
-    /// The answers in their order.
+    /// The results, in order.
     pub fn as_slice(&self) -> &[LineAnswer]
         ensures { result.now ≡ self.now }
     {
@@ -55,12 +55,11 @@ impl AnswerList {
     }
 }
 
-/// What came of the lines of each phase, in the order of the phases. Contracts see it as the list of lists.
+/// The results of the lines of each phase, in the order of the phases.
 pub struct AnswersByPhase {
     phases: Vec<AnswerList>,
 }
 
-/// Written out: a drop is one call for a proof, wherever it stands.
 impl Drop for AnswersByPhase {
     fn drop(self) {
         let AnswersByPhase { phases: _phases } = self;
@@ -81,14 +80,14 @@ impl Model for AnswersByPhase {
 }
 
 impl AnswersByPhase {
-    /// The lists of a vector, in its order. It takes no memory.
+    /// The lists of a vector, in its order.
     pub fn new(phases: Vec<AnswerList>) -> Self
         ensures { result ≡ phases.items }
     {
         AnswersByPhase { phases }
     }
 
-    /// The vector of the lists. It takes no memory.
+    /// The vector of the lists.
     pub fn into_vec(self) -> Vec<AnswerList>
         ensures { result.items ≡ self }
     {
@@ -96,7 +95,7 @@ impl AnswersByPhase {
         phases
     }
 
-    /// The lists in their order.
+    /// The lists, in order.
     pub fn as_slice(&self) -> &[AnswerList]
         ensures { result.now ≡ self.now }
     {
@@ -104,12 +103,11 @@ impl AnswersByPhase {
     }
 }
 
-/// What the lines of a phase read, in their order: a page, or none. Contracts see it as the list.
+/// For each line of a phase, in order, the page that it read, if any.
 pub struct ReadList {
     reads: Vec<Option<Page>>,
 }
 
-/// Written out: a drop is one call for a proof, wherever it stands.
 impl Drop for ReadList {
     fn drop(self) {
         let ReadList { reads: _reads } = self;
@@ -130,14 +128,14 @@ impl Model for ReadList {
 }
 
 impl ReadList {
-    /// The list of a vector, in its order. It takes no memory.
+    /// The reads of a vector, in its order.
     pub fn new(reads: Vec<Option<Page>>) -> Self
         ensures { result ≡ reads.items }
     {
         ReadList { reads }
     }
 
-    /// The vector of what was read. It takes no memory.
+    /// The vector of the reads.
     pub fn into_vec(self) -> Vec<Option<Page>>
         ensures { result.items ≡ self }
     {
@@ -145,7 +143,7 @@ impl ReadList {
         reads
     }
 
-    /// What was read, in order.
+    /// The reads, in order.
     pub fn as_slice(&self) -> &[Option<Page>]
         ensures { result.now ≡ self.now }
     {
@@ -153,12 +151,11 @@ impl ReadList {
     }
 }
 
-/// What the lines of each phase read, in the order of the phases. Contracts see it as the list of lists.
+/// The reads of the lines of each phase, in the order of the phases.
 pub struct ReadsByPhase {
     phases: Vec<ReadList>,
 }
 
-/// Written out: a drop is one call for a proof, wherever it stands.
 impl Drop for ReadsByPhase {
     fn drop(self) {
         let ReadsByPhase { phases: _phases } = self;
@@ -179,14 +176,14 @@ impl Model for ReadsByPhase {
 }
 
 impl ReadsByPhase {
-    /// The lists of a vector, in its order. It takes no memory.
+    /// The lists of a vector, in its order.
     pub fn new(phases: Vec<ReadList>) -> Self
         ensures { result ≡ phases.items }
     {
         ReadsByPhase { phases }
     }
 
-    /// The vector of the lists. It takes no memory.
+    /// The vector of the lists.
     pub fn into_vec(self) -> Vec<ReadList>
         ensures { result.items ≡ self }
     {
@@ -194,7 +191,7 @@ impl ReadsByPhase {
         phases
     }
 
-    /// The lists in their order.
+    /// The lists, in order.
     pub fn as_slice(&self) -> &[ReadList]
         ensures { result.now ≡ self.now }
     {
@@ -202,12 +199,11 @@ impl ReadsByPhase {
     }
 }
 
-/// The pages of nodes, by name. Contracts see it as the list.
+/// A page of each node, in order of name.
 pub struct PageList {
     pages: Vec<Page>,
 }
 
-/// Written out: a drop is one call for a proof, wherever it stands.
 impl Drop for PageList {
     fn drop(self) {
         let PageList { pages: _pages } = self;
@@ -228,14 +224,14 @@ impl Model for PageList {
 }
 
 impl PageList {
-    /// The pages of a vector, in its order. It takes no memory.
+    /// The pages of a vector, in its order.
     pub fn new(pages: Vec<Page>) -> Self
         ensures { result ≡ pages.items }
     {
         PageList { pages }
     }
 
-    /// The vector of the pages. It takes no memory.
+    /// The vector of the pages.
     pub fn into_vec(self) -> Vec<Page>
         ensures { result.items ≡ self }
     {
@@ -243,7 +239,7 @@ impl PageList {
         pages
     }
 
-    /// The pages in their order.
+    /// The pages, in order.
     pub fn as_slice(&self) -> &[Page]
         ensures { result.now ≡ self.now }
     {
@@ -251,12 +247,11 @@ impl PageList {
     }
 }
 
-/// The closed journals of nodes, by name. Contracts see it as the list.
+/// The closed journal of each node, in order of name.
 pub struct ClosedList {
     journals: Vec<Closed>,
 }
 
-/// Written out: a drop is one call for a proof, wherever it stands.
 impl Drop for ClosedList {
     fn drop(self) {
         let ClosedList {
@@ -279,14 +274,14 @@ impl Model for ClosedList {
 }
 
 impl ClosedList {
-    /// The journals of a vector, in its order. It takes no memory.
+    /// The journals of a vector, in its order.
     pub fn new(journals: Vec<Closed>) -> Self
         ensures { result ≡ journals.items }
     {
         ClosedList { journals }
     }
 
-    /// The vector of the journals. It takes no memory.
+    /// The vector of the journals.
     pub fn into_vec(self) -> Vec<Closed>
         ensures { result.items ≡ self }
     {
@@ -294,7 +289,7 @@ impl ClosedList {
         journals
     }
 
-    /// The journals in their order.
+    /// The journals, in order.
     pub fn as_slice(&self) -> &[Closed]
         ensures { result.now ≡ self.now }
     {

@@ -1,4 +1,4 @@
-//! A run, and its report.
+//! A live run and its report.
 
 ghost use Rattle.std.specs.Prelude.{◌≡◌, ◌≢◌, ◌<◌, ◌≤◌, All, Err, IfOk, OnOk, length};
 ghost use Rattle.dac_base.specs.declared.limits.TheConstants.{MAX_NODES};
@@ -25,7 +25,7 @@ use std::alloc::Global;
 use std::sync::Wait;
 use std::thread::Threads;
 
-/// Refuses journals in which a link carried something else than it was to carry.
+/// Fails if the journals at the ends of a link don't match.
 fn check_links(alloc: Global, phases: usize, closed: &[Closed]) -> Result<(), RunFault>
     requires { length closed.now ≤ MAX_NODES }
     ensures { OnOk result (LinksHold phases closed.now) }
@@ -36,7 +36,7 @@ fn check_links(alloc: Global, phases: usize, closed: &[Closed]) -> Result<(), Ru
     }
 }
 
-/// Refuses journals that don't fall into the phases. No record is named: it may be that one is missing.
+/// Fails if the journals don't consist of the phases. The fault names no record, because one can be missing.
 fn check_phases(alloc: Global, phases: &[Phase], closed: &[Closed]) -> Result<(), RunFault>
     requires { length closed.now ≤ MAX_NODES }
     ensures { OnOk result (FallIntoPhases phases.now closed.now) }
@@ -47,7 +47,7 @@ fn check_phases(alloc: Global, phases: &[Phase], closed: &[Closed]) -> Result<()
     }
 }
 
-/// Refuses answers that aren't those of the lines, and journals in which a caller's seat has other records.
+/// Fails if a result isn't of its line's kind, or if a caller's records don't match its lines.
 fn check_callers(
     alloc: Global,
     phases: &[Phase],
@@ -67,7 +67,7 @@ fn check_callers(
     }
 }
 
-/// Refuses lists that don't have an entry for each line.
+/// Fails if the lists of reads don't have an entry for each line.
 fn check_noted(phases: &[Phase], reads: &[ReadList]) -> Result<(), RunFault>
     ensures { OnOk result (AreNoted phases.now reads.now) }
 {
@@ -77,8 +77,7 @@ fn check_noted(phases: &[Phase], reads: &[ReadList]) -> Result<(), RunFault>
     Ok(())
 }
 
-/// Refuses lines that were told otherwise than by their callers' last receipts before them and the pages that they read. These pages
-/// are of the journals.
+/// Fails if a read's result or page contradicts the caller's last receipt before the line.
 fn check_reads(
     alloc: Global,
     config: &Config,
@@ -99,8 +98,8 @@ fn check_reads(
     }
 }
 
-/// The fault of a run of at most four nodes, which aren't too many. If they were taken for too many, nothing would run, and the
-/// first node would leave no page.
+/// The fault of a run of at most four nodes, so never `TooManyNodes`. If it were, nothing would have run, and the first
+/// node would have no page.
 fn fault_of_few(why: RunFault) -> RunFault
     ensures { result ≢ RunFault.TooManyNodes }
 {
@@ -110,7 +109,7 @@ fn fault_of_few(why: RunFault) -> RunFault
     }
 }
 
-/// What came of a run, by its journals.
+/// The report of a run, checked against its journals.
 fn report_of(
     alloc: Global,
     config: &Config,
@@ -153,16 +152,17 @@ fn report_of(
     })
 }
 
-/// Runs the phases at sites of all nodes, and reports what came of them. The report is read off the closed journals, and
-/// compared with them.
+/// Runs the phases at sites of all nodes. The report is computed from the closed journals and checked against them.
 ///
-/// `TooManyNodes` comes of more than four nodes alone, before anything runs. `NoThread`, `Open` and `Site` come of the run
-/// itself, as do `Close`, `NoPage`, `LinkLost` and `NoMemory`. `LinkLost` comes too where the journals differ on what a link
-/// carried. `NoPage` comes too where a node's journal or last page is missing, the page isn't that of the whole journal, a page
-/// that a line read isn't that after as many records as its place says, or this is no history of the node. `Close` with a
-/// `Mismatch` comes too where a record is of a seat that no node has, at its place. It comes at place 0 where the records of a
-/// caller's seat aren't what its lines ask, a journal doesn't fall into the phases, a line lacks its answer, or a line that reads is fresh or stale otherwise than by
-/// its page and its caller's last receipt.
+/// Fails with `TooManyNodes` exactly if there are more than four nodes, before anything runs. `NoThread`, `Open`,
+/// `Site` and `NoMemory` are faults of the run. The others are faults of the run, or of the checks after it:
+///
+/// - `LinkLost`: the journals at the ends of a link don't match.
+/// - `NoPage`: a node's journal or final page is missing; that page isn't the one after the whole journal; a page read
+///   by a line isn't the one after as many records as its place says; or the journal is no history of the node.
+/// - `Close` with a `Mismatch`: a record's seat doesn't exist (at the record's place); or, at place 0, a caller's
+///   records don't match its lines, a journal doesn't consist of the phases, a line has no result, or a read is fresh
+///   or stale contrary to its page and the caller's last receipt.
 pub fn run_live<G: Gate, R: Threads + Wait + Sync>(
     rt: &R,
     alloc: Global,
@@ -170,28 +170,28 @@ pub fn run_live<G: Gate, R: Threads + Wait + Sync>(
     phases: &[Phase],
     gate: &G,
 ) -> Result<LiveReport, RunFault>
-    // Lines of nodes that there are, and of callers 1 to 4.
+    // Each line is for a node of the configuration, and for a caller from 1 to 4.
     requires { All (HasLines (node_count config.now)) phases.now }
-    // A journal of each node, by name.
+    // There is a journal of each node, in order of name.
     ensures nodes { IfOk result (λ r. AreNodes (node_count config.now) r.closed) }
-    // Each journal is a history of its node under the configuration, from one that was never booted.
+    // Each journal is a history of its node under the configuration, from before its first boot.
     ensures histories { IfOk result (λ r. AreTrueOf config.now r.closed) }
     // Each record is of a seat of its node: of a caller's, or of one of the two for another node.
     ensures seats { IfOk result (λ r. SeatsHold r.closed) }
-    // All that a link's worker asked is to hear what its shipper shipped, in order and each once. All that the shipper asked is to
-    // ship, five times a phase.
+    // The link worker hears exactly the messages that its shipper ships, in order and each once. The shipper only
+    // ships, five times a phase.
     ensures links { IfOk result (λ r. LinksHold (length phases.now) r.closed) }
-    // Each journal is the records of the phases, one phase behind the other. In those of a phase callers ask its lines, each shipper
-    // ships five times, and each link worker hears just what its shipper shipped in that phase.
+    // Each journal consists of the records of the phases, one phase after another. In a phase callers call their lines,
+    // each shipper ships five times, and each link worker hears exactly what its shipper ships in that phase.
     ensures phases { IfOk result (λ r. FallIntoPhases phases.now r.closed) }
-    // The last page of each node is that after all records of its journal.
+    // The last page of each node is the one after all records of its journal.
     ensures pages { IfOk result (λ r. PagesHold config.now r.closed r.pages) }
-    // The records of each caller's seat are what its lines ask, in order, and were answered as the lines are.
+    // The records of each caller's seat are its lines that call, in order, with the lines' results.
     ensures callers { IfOk result (λ r. CallersHold phases.now r.answers r.closed) }
-    // Each line is answered: one that asks by an answer, and one that reads by a fresh or a stale page.
+    // Each line has a result of its kind: a call a reply or refusal, and a read a fresh or a stale page.
     ensures lines { IfOk result (λ r. AreAnswered phases.now r.answers) }
-    // A fresh line read the page after as many records of its node's journal as its place says, and not before its caller's last
-    // record before the line that was no refusal. A stale one read an older page or none.
+    // A fresh read returns the page after as many records of the node's journal as its place says, and not before the
+    // caller's last accepted call before the line. A stale one returns an older page, or none.
     ensures reads { IfOk result
         (λ r. ReadsHold config.now phases.now r.answers r.reads r.closed) }
     ensures many { 4 < node_count config.now → result ≡ Err RunFault.TooManyNodes }

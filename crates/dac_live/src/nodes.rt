@@ -16,7 +16,7 @@ use dac_config::Config;
 use dac_crews::{Closed, Page, Phase, RunFault};
 use std::alloc::Global;
 
-/// The pages that lines of this node read, by their places.
+/// The pages read by lines of this node, sorted by place.
 fn pages_by_place<'a>(
     alloc: Global,
     phases: &[Phase],
@@ -32,7 +32,8 @@ fn pages_by_place<'a>(
     Ok(all)
 }
 
-/// The page that was read last of a node, if it is that of the whole journal. The pages that its lines read are of the journal too.
+/// The final page of a node, if it is the one after the whole journal, and if the pages read by lines of the node are
+/// of this journal too.
 fn page_of(
     alloc: Global,
     config: &Config,
@@ -58,17 +59,17 @@ fn page_of(
     }
 }
 
-/// That the next node is missing, where so many were found.
+/// The fault of the first node missing after this many.
 fn missing(found: usize, nodes: u8) -> RunFault {
     let node = NodeId(found.min(usize::from(nodes)) as u8);
     RunFault::NoPage { node }
 }
 
-/// The pages that were read last, if each is that after all records of its node's journal, and each page that a line read is that
-/// after as many of them as its place says. The journals stand by name, and so do the last pages.
+/// The final pages, if each is the one after all records of its node's journal, and each page read by a line is the one
+/// after as many of them as its place says.
 ///
-/// `NoPage` names the first node whose journal is missing, or the first whose last page is missing. If none is, it names the first
-/// node whose journal or one of whose pages isn't the one that it is to be. The only other error is
+/// Fails with `NoPage` of the first node whose journal is missing; otherwise of the first whose final page is missing;
+/// otherwise of the first whose journal or one of whose pages is wrong. Its only other error is
 /// [`NoMemory`](RunFault::NoMemory).
 pub fn last_pages(
     alloc: Global,
@@ -78,7 +79,7 @@ pub fn last_pages(
     closed: &[Closed],
     read: &[Page],
 ) -> Result<Vec<Page>, RunFault>
-    // Of each line the page that it read, or none.
+    // There is an entry for each line: the page read, or none.
     requires { AreNoted phases.now reads.now }
     ensures pages { IfOk result (λ all. PagesHold config.now closed.now all.items) }
     ensures read { IfOk result (λ all. all.items ≡ read.now) }

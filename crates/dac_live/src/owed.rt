@@ -1,4 +1,4 @@
-//! What a caller of a run owes.
+//! The precondition of a run.
 
 ghost use Rattle.std.specs.Prelude.{◌≡◌, true, All};
 ghost use Rattle.dac_config.specs.Table.{node_count};
@@ -7,14 +7,14 @@ ghost use Rattle.dac_live.specs.Lines.{IsLineOf, HasLines};
 use dac_config::Config;
 use dac_crews::{CALLERS, Line, Phase};
 
-/// Whether the line is one of a node below this number, and of a caller from 1 to 4.
+/// Returns whether the line is for a node below this number, and for a caller from 1 to 4.
 fn is_line(nodes: u8, line: &Line) -> bool
     ensures { result ≡ true → IsLineOf nodes line.now }
 {
     line.node.0 < nodes && 1 <= line.caller && line.caller <= CALLERS
 }
 
-/// Whether all lines of the phase are.
+/// Returns whether all lines of the phase are for nodes below this number, and for callers 1 to 4.
 fn has_lines(nodes: u8, phase: &Phase) -> bool
     ensures { result ≡ true → HasLines nodes phase.now }
 {
@@ -26,7 +26,8 @@ fn has_lines(nodes: u8, phase: &Phase) -> bool
     true
 }
 
-/// Whether all lines are of nodes of the configuration and of callers 1 to 4, as [`run_live`](crate::run_live) asks.
+/// Returns whether all lines are for nodes of the configuration and for callers 1 to 4, as
+/// [`run_live`](crate::run_live) requires.
 pub fn are_runnable(config: &Config, phases: &[Phase]) -> bool
     ensures { result ≡ true → All (HasLines (node_count config.now)) phases.now }
 {

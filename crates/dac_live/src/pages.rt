@@ -1,4 +1,4 @@
-//! The last page of a closed journal.
+//! The final page of a closed journal.
 
 ghost use Rattle.std.specs.Prelude.{◌≡◌, All, IfOk, IfSome, map};
 ghost use Rattle.dac_crews.specs.Journals.{beginning_of, AreHistory};
@@ -12,11 +12,11 @@ use dac_config::Config;
 use dac_crews::{Closed, Page};
 use std::alloc::Global;
 
-/// The page that was read last, if it is that after all records of the journal, of a node that had no incarnation before it. The
-/// pages that lines read of the node stand by their places, and are compared on the way.
+/// The final page, if it is the one after all records of the journal, which begins before the node's first boot. The
+/// replay also compares the pages read by lines of the node, which must be sorted by place.
 ///
-/// `None` where one of the pages is another one, they don't stand by their places, or the journal is another node's, has earlier
-/// incarnations or is no history of the node. [`NoMemory`] is the only error.
+/// `None` if one of the pages is wrong, if they aren't sorted, or if the journal is another node's, begins later, or is
+/// no history of the node.
 pub fn last_page(
     alloc: Global,
     config: &Config,

@@ -9,14 +9,14 @@ use dac_base::{NoMemory, NodeId};
 use dac_crews::{Line, Page, Phase};
 use std::alloc::Global;
 
-/// Whether each line of a phase has what it read.
+/// Returns whether each line of a phase has an entry.
 fn is_noted(phase: &Phase, noted: &ReadList) -> bool
     ensures { result ≡ true → length noted.now ≡ length phase.now.lines.items }
 {
     noted.as_slice().len() == phase.lines.len()
 }
 
-/// Whether each line of each phase has what it read: a page, or none.
+/// Returns whether each line of each phase has an entry: the page that it read, or none.
 pub fn are_noted(phases: &[Phase], reads: &[ReadList]) -> bool
     ensures { result ≡ true → AreNoted phases.now reads.now }
 {
@@ -33,7 +33,7 @@ pub fn are_noted(phases: &[Phase], reads: &[ReadList]) -> bool
     true
 }
 
-/// The page that a line of this node read, if any.
+/// The page that the line read, if it is a line of this node and read one.
 fn page_in<'a>(line: &Line, read: &'a Option<Page>, node: NodeId) -> Option<&'a Page>
     ensures { option_copied result ≡ page_one node.0 (line.now, read.now) }
 {
@@ -44,7 +44,7 @@ fn page_in<'a>(line: &Line, read: &'a Option<Page>, node: NodeId) -> Option<&'a 
     }
 }
 
-/// The list, with the pages behind it that lines of this node read in a phase.
+/// Appends the pages that lines of this node read in a phase.
 fn with_pages<'a>(
     mut all: Vec<&'a Page>,
     lines: &[Line],
@@ -66,7 +66,7 @@ fn with_pages<'a>(
     Ok(all)
 }
 
-/// The pages that lines of this node read, over all phases, in order. [`NoMemory`] is the only error.
+/// The pages that lines of this node read, over all phases, in order.
 pub fn pages_read<'a>(
     alloc: Global,
     phases: &[Phase],

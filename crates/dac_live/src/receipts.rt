@@ -1,4 +1,4 @@
-//! Whether pages that were read are told by receipts.
+//! Compares reads with the receipts before them.
 
 ghost use Rattle.std.specs.Prelude.{◌≡◌, ◌≤◌, ◌+◌, true, length, IfOk, IfSome, [], ◌∷◌, option_to_list};
 ghost use Rattle.dac_base.specs.declared.limits.TheConstants.{MAX_NODES};
@@ -14,7 +14,8 @@ use dac_crews::{Answer, CALLERS, Closed, Line, Page, Phase, Record};
 use dac_phases::is_of;
 use std::alloc::Global;
 
-/// The place of a caller's last receipt after a record at this place, where it was this one before. A refusal gives none.
+/// The place of a caller's last receipt after a call at this place. A refusal gives no receipt, so the place before it,
+/// `last`, stays.
 fn receipt_by(last: u64, place: u64, answer: &Answer) -> u64
     ensures { result ≡ receipt_by last place answer.now }
 {
@@ -24,7 +25,7 @@ fn receipt_by(last: u64, place: u64, answer: &Answer) -> u64
     }
 }
 
-/// The places of the last receipts of a seat: before its first record, and after each of them.
+/// The places of the last receipts of a seat: before its first record, and after each record.
 fn receipts_of(alloc: Global, records: &[Record], seat: u16) -> Result<Vec<u64>, NoMemory>
     ensures { IfOk result (λ all. all.items ≡ receipts_from 0 (calls_of seat records.now)) }
 {
@@ -41,7 +42,7 @@ fn receipts_of(alloc: Global, records: &[Record], seat: u16) -> Result<Vec<u64>,
     Ok(all)
 }
 
-/// Whether what came of a line is told by the caller's last receipt before it, and the page that the line read.
+/// Returns whether the result and the page of a line agree with the caller's last receipt before it.
 fn is_told(receipt: u64, answer: &LineAnswer, read: &Option<Page>) -> bool
     ensures { result ≡ true → IsTold receipt answer.now read.now }
 {
@@ -54,7 +55,7 @@ fn is_told(receipt: u64, answer: &LineAnswer, read: &Option<Page>) -> bool
     }
 }
 
-/// How many calls the caller has made after a line of its own.
+/// The number of the caller's calls after one of its lines.
 fn asked_after(asked: usize, answer: &LineAnswer) -> usize
     requires { asked + 1 ≤ usize.MAX }
     ensures { result ≡ asked + asked_in ((answer.now, None) ∷ []) }
@@ -65,7 +66,8 @@ fn asked_after(asked: usize, answer: &LineAnswer) -> usize
     }
 }
 
-/// Goes on over a line, where the caller has made so many calls before it. `None` where the line is one of its own and was told otherwise.
+/// Checks one line, before which the caller has made `asked` calls. Returns their number after it, or `None` if the
+/// line is this caller's and contradicts its last receipt.
 fn follow_line(
     receipts: &[u64],
     asked: usize,
@@ -87,7 +89,8 @@ fn follow_line(
     Some(asked_after(asked, answer))
 }
 
-/// Goes on over the lines of a phase, where the caller has made so many calls before it. `None` where a line of its own was told otherwise.
+/// Checks the lines of a phase, before which the caller has made `asked` calls. Returns their number after it, or
+/// `None` if a line of this caller contradicts its last receipt.
 fn follow_phase(
     receipts: &[u64],
     asked: usize,
@@ -115,7 +118,7 @@ fn follow_phase(
     Some(next)
 }
 
-/// Whether each line of a caller was told by its last receipt before it.
+/// Returns whether each line of a caller agrees with its last receipt before the line.
 fn caller_follows(
     alloc: Global,
     phases: &[Phase],
@@ -152,7 +155,7 @@ fn caller_follows(
     Ok(true)
 }
 
-/// Whether those of all callers of a node were.
+/// Returns whether each line of a node's callers agrees with the caller's last receipt before it.
 fn node_follows(
     alloc: Global,
     phases: &[Phase],
@@ -175,8 +178,8 @@ fn node_follows(
     Ok(true)
 }
 
-/// Names the first node, of these journals that stand by name, where a line of a caller was told otherwise than by the page that it
-/// read and by its caller's last receipt before it. [`NoMemory`] is the only error.
+/// The first node at which the result of a caller's line contradicts the page that it read, or the caller's last
+/// receipt before the line.
 pub fn strange_read(
     alloc: Global,
     phases: &[Phase],

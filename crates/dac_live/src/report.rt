@@ -1,29 +1,29 @@
-//! What a run reports.
+//! The report of a live run.
 
 use crate::lists::{AnswersByPhase, ClosedList, PageList, ReadsByPhase};
 use dac_events::Refusal;
 use dac_messages::Reply;
 
-/// What came of a line.
+/// The result of a line.
 #[derive(Drop)]
 pub enum LineAnswer {
-    /// The node answered so.
+    /// The node's reply or refusal to a line that calls.
     Done(Result<Reply, Refusal>),
-    /// The page that was read is at least at the place of the caller's last receipt.
+    /// The page read is at least as new as the caller's last receipt.
     Fresh,
-    /// It isn't, or there was none.
+    /// The page read is older, or there was none.
     Stale,
 }
 
-/// What came of a run.
+/// The report of a live run.
 #[derive(Drop)]
 pub struct LiveReport {
-    /// Of each phase, what came of each line.
+    /// The result of each line of each phase.
     pub answers: AnswersByPhase,
-    /// Of each phase, the page that each line read, if it read one.
+    /// The page that each line of each phase read, if any.
     pub reads: ReadsByPhase,
-    /// The last page of each node, by name.
+    /// The final page of each node, in order of name.
     pub pages: PageList,
-    /// The journal of each node, by name.
+    /// The journal of each node, in order of name.
     pub closed: ClosedList,
 }

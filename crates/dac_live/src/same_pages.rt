@@ -1,4 +1,4 @@
-//! Whether two pages are one page.
+//! Compares pages, part by part.
 
 ghost use Rattle.std.specs.Prelude.{◌≡◌, ◌↔◌, IsTrue};
 
@@ -9,7 +9,6 @@ use dac_pages::Page;
 use dac_placement::Verdict;
 use dac_status::{AppSummary, Mark, Summary};
 
-/// Whether the two are one origin, or there is none on both sides.
 fn same_origin(origin: &Option<Origin>, other: &Option<Origin>) -> bool
     ensures { IsTrue result ↔ (origin.now ≡ other.now) }
 {
@@ -20,7 +19,6 @@ fn same_origin(origin: &Option<Origin>, other: &Option<Origin>) -> bool
     }
 }
 
-/// Whether the two are one node, or there is none on both sides.
 fn same_node(node: &Option<NodeId>, other: &Option<NodeId>) -> bool
     ensures { IsTrue result ↔ (node.now ≡ other.now) }
 {
@@ -31,7 +29,6 @@ fn same_node(node: &Option<NodeId>, other: &Option<NodeId>) -> bool
     }
 }
 
-/// Whether the two are one life, or there is none on both sides.
 fn same_life(life: &Option<Life>, other: &Option<Life>) -> bool
     ensures { IsTrue result ↔ (life.now ≡ other.now) }
 {
@@ -42,7 +39,6 @@ fn same_life(life: &Option<Life>, other: &Option<Life>) -> bool
     }
 }
 
-/// Whether the two are one claim.
 fn is_claim(claim: &Claim, other: &Claim) -> bool
     ensures { IsTrue result ↔ (claim.now ≡ other.now) }
 {
@@ -52,7 +48,6 @@ fn is_claim(claim: &Claim, other: &Claim) -> bool
         && same_node(&claim.from, &other.from)
 }
 
-/// Whether the two are one claim, or there is none on both sides.
 fn same_claim(claim: &Option<Claim>, other: &Option<Claim>) -> bool
     ensures { IsTrue result ↔ (claim.now ≡ other.now) }
 {
@@ -63,21 +58,18 @@ fn same_claim(claim: &Option<Claim>, other: &Option<Claim>) -> bool
     }
 }
 
-/// Whether the two are one verdict.
 fn same_verdict(verdict: &Verdict, other: &Verdict) -> bool
     ensures { IsTrue result ↔ (verdict.now ≡ other.now) }
 {
     verdict == other
 }
 
-/// Whether the two are one mark.
 fn same_mark(mark: &Mark, other: &Mark) -> bool
     ensures { IsTrue result ↔ (mark.now ≡ other.now) }
 {
     mark == other
 }
 
-/// Whether the two are one list.
 fn same_marks(marks: &[Mark], others: &[Mark]) -> bool
     ensures { IsTrue result ↔ (marks.now ≡ others.now) }
 {
@@ -92,7 +84,6 @@ fn same_marks(marks: &[Mark], others: &[Mark]) -> bool
     true
 }
 
-/// Whether the two are one list.
 fn same_lives(lives: &[Option<Life>], others: &[Option<Life>]) -> bool
     ensures { IsTrue result ↔ (lives.now ≡ others.now) }
 {
@@ -107,7 +98,6 @@ fn same_lives(lives: &[Option<Life>], others: &[Option<Life>]) -> bool
     true
 }
 
-/// Whether the two are one list.
 fn same_flags(flags: &[bool], others: &[bool]) -> bool
     ensures { IsTrue result ↔ (flags.now ≡ others.now) }
 {
@@ -122,7 +112,6 @@ fn same_flags(flags: &[bool], others: &[bool]) -> bool
     true
 }
 
-/// Whether the two say the same of an application.
 fn same_app(app: &AppSummary, other: &AppSummary) -> bool
     ensures { IsTrue result ↔ (app.now ≡ other.now) }
 {
@@ -131,7 +120,6 @@ fn same_app(app: &AppSummary, other: &AppSummary) -> bool
         && same_marks(&app.marks, &other.marks)
 }
 
-/// Whether the two are one list.
 fn same_apps(apps: &[AppSummary], others: &[AppSummary]) -> bool
     ensures { IsTrue result ↔ (apps.now ≡ others.now) }
 {
@@ -146,7 +134,6 @@ fn same_apps(apps: &[AppSummary], others: &[AppSummary]) -> bool
     true
 }
 
-/// Whether the two are one summary.
 fn same_summary(summary: &Summary, other: &Summary) -> bool
     ensures { IsTrue result ↔ (summary.now ≡ other.now) }
 {
@@ -157,7 +144,7 @@ fn same_summary(summary: &Summary, other: &Summary) -> bool
         && same_apps(&summary.apps, &other.apps)
 }
 
-/// Whether the two are one page. It takes no memory.
+/// Returns whether two pages are equal.
 pub(crate) fn same_page(page: &Page, other: &Page) -> bool
     ensures { IsTrue result ↔ (page.now ≡ other.now) }
 {

@@ -1,4 +1,4 @@
--- What is asked by one more line of a phase, and in one more phase.
+-- The callers' lines of one more line, and of one more phase.
 use Rattle.std.proofs.Common.{◌≡◌, ℕ, ◌+◌, ◌<◌, List, [], ◌∷◌, ◌++◌, length, map, take, get_or, Option, sym, ap, ◌∙◌, arith}
 use Rattle.std.specs.List.{cons_option}
 use Rattle.std.proofs.lemmas.List.{take_more, length-map, get_or-map}
@@ -14,7 +14,7 @@ asked_more part i line asked lt here is =
     ∙ ap (λ (l : LiveLine). lines_in (take i part) ++ cons_option (asked_by l) []) (sym here)
     ∙ ap (λ (o : Option Line). lines_in (take i part) ++ cons_option o []) (sym is)
 
--- what a list gives at a place is what its image gives there
+-- an item of a mapped list
 pub at_map : {A B : Type 0} (f : A → B) (xs : List A) (i : ℕ) (x : A) → i < length xs → x ≡ get_or xs i x → f x ≡ get_or (map f xs) i (f x)
 at_map f xs i x lt here = ap f here ∙ sym (get_or-map f xs i x (f x) lt)
 
@@ -22,7 +22,7 @@ at_map f xs i x lt here = ap f here ∙ sym (get_or-map f xs i x (f x) lt)
 pub as_many : (phases : List Phase) (parts : List (List LiveLine)) → AsksAs phases parts → length phases ≡ length parts
 as_many phases parts asks = sym (length-map phases (λ (p : Phase). p.lines.items)) ∙ ap length asks ∙ length-map parts lines_in
 
--- the phase at a place asks what the lines of the part at this place say
+-- the phase at a place has the callers' lines of its part
 pub asks_at : (phases : List Phase) (parts : List (List LiveLine)) (i : ℕ) (phase : Phase) (part : List LiveLine) → AsksAs phases parts → i < length phases → phase ≡ get_or phases i phase → part ≡ get_or parts i part → phase.lines.items ≡ lines_in part
 asks_at phases parts i phase part asks lt phase_is part_is =
     at_map (λ (p : Phase). p.lines.items) phases i phase lt phase_is

@@ -1,4 +1,4 @@
--- How `distac live` and `distac record` end, from what was read, run and printed.
+-- The endings of `distac live` and `distac record`, from the input, the run and the output.
 use Rattle.std.proofs.Common.{◌≡◌, ℕ, List, Option, Some, None, sym, subst}
 use Rattle.std.specs.Prelude.{IfSome}
 use Rattle.std.specs.Io.KnownBytes.{Appends}
@@ -17,13 +17,13 @@ use Rattle.dac_live_play.specs.Runs.{IsFaultOf}
 use Rattle.dac_live_play.specs.Lives.{IsPlayed, EndsLive}
 use Rattle.dac_live_play.specs.Records.{IsKept, IsUnkept, EndsRecord}
 
--- the script that the input says was run, and its text was printed
+-- the input's script was run and its output printed
 pub lived : (had old new : Option (List ℕ)) (table : Table) (script : List LiveLine) (text : List ℕ) → IfSome had (λ bytes. SaysLiveScript bytes table script) → IsPlayed table script text → Appends old new text
     → IfSome had (λ bytes. EndsLive bytes ending.Done old new)
 lived None old new table script text says played printed = tt
 lived (Some bytes) old new table script text says played printed = record { table = table; script = script; says = says; text = text; played = played; printed = printed }
 
--- the input was refused, and the line of its failure was printed
+-- the input was refused and the line of its failure printed
 pub refused_ends : (had old new : Option (List ℕ)) (why : Failure) (how : LiveEnding) → IfSome had (λ bytes. IsLiveFailureOf bytes why) → IsRefusal why how old new → IfSome had (λ bytes. EndsLive bytes how old new)
 refused_ends None old new why how fails refusal = tt
 refused_ends (Some bytes) old new why ending.Done fails refusal = absurd refusal
@@ -32,7 +32,7 @@ refused_ends (Some bytes) old new why (ending.Refused found) fails refusal =
 refused_ends (Some bytes) old new why (ending.Faulted found) fails refusal = absurd refusal
 refused_ends (Some bytes) old new why ending.Stopped fails refusal = tt
 
--- the script wasn't run to its end, and the line of the fault was printed
+-- the script didn't run to its end, and the fault's line was printed
 pub given_up_ends : (had old new : Option (List ℕ)) (table : Table) (script : List LiveLine) (why : PlayFault) (how : LiveEnding) → IfSome had (λ bytes. SaysLiveScript bytes table script) → IsFaultOf table script why → IsGivenUp table why how old new
     → IfSome had (λ bytes. EndsLive bytes how old new)
 given_up_ends None old new table script why how says fault_is given_up = tt
@@ -47,7 +47,7 @@ given_up_ends (Some bytes) old new table script why (ending.Faulted found) says 
 }
 given_up_ends (Some bytes) old new table script why ending.Stopped says fault_is given_up = tt
 
--- the source is left as the failure tells
+-- the failure determines how the source is left
 pub refused_left : (old new : Option (List ℕ)) (source : Sourced) (why : Failure) (how : LiveEnding) → IsLeftBy why source → IsRefusal why how old new → IsLeftAt how source
 refused_left old new source why ending.Done left refusal = absurd refusal
 refused_left old new source why (ending.Refused found) left refusal = subst (λ (f : Failure). IsLeftBy f source) (sym refusal.0) left
@@ -61,7 +61,7 @@ given_up_left old new source table why (ending.Refused found) left given_up = ab
 given_up_left old new source table why (ending.Faulted found) left given_up = left
 given_up_left old new source table why ending.Stopped left given_up = tt
 
--- ---- the same of `distac record`
+-- ---- `distac record`
 
 pub recorded : (had old new : Option (List ℕ)) (table : Table) (script : List LiveLine) (text : List ℕ) → IfSome had (λ bytes. SaysLiveScript bytes table script) → IsKept table script text → Appends old new text
     → IfSome had (λ bytes. EndsRecord bytes ending.Done old new)

@@ -1,4 +1,4 @@
--- What a script's callers ask, in each phase.
+-- The callers' lines of a script, in each phase.
 use Rattle.std.proofs.Common.{◌≡◌, ℕ, ◌<◌, ◌≤◌, List, [], ◌∷◌, map, subst, arith}
 use Rattle.std.specs.Prelude.{All}
 use Rattle.std.specs.List.{onto_first}
@@ -13,7 +13,7 @@ use Rattle.dac_live.specs.Phase as run
 use Rattle.dac_live_play.specs.Phases.{parts_of, lines_in, AsksAs}
 
 module _ (nodes : ℕ) where
-  -- each line that a part asks is of a node that there is, and of a caller from 1 to 4
+  -- each caller's line of a part has a configured node and a caller from 1 to 4
   abbrev IsPart : List LiveLine → Type 0
   IsPart part = All (IsLineOf nodes) (lines_in part)
 
@@ -37,7 +37,7 @@ module _ (nodes : ℕ) where
       onto_parts (Feed bytes) (parts_of script) (All-head (HasActors nodes) (Feed bytes) script all) (parts_owe script (All-tail (HasActors nodes) (Feed bytes) script all))
   parts_owe (Phase ∷ script) all = All-cons IsPart [] (parts_of script) (All-nil (IsLineOf nodes)) (parts_owe script (All-tail (HasActors nodes) Phase script all))
 
-  -- so phases that ask what a script says have such lines alone
+  -- phases with the callers' lines of the script satisfy this, too
   pub phases_owe : (script : List LiveLine) (phases : List run.Phase) → All (HasActors nodes) script → AsksAs phases (parts_of script) → All (HasLines nodes) phases
   phases_owe script phases all asks = λ k d lt.
       let asked : List (List Line) = map (λ (p : run.Phase). p.lines.items) phases in

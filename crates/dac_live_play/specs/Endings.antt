@@ -1,4 +1,4 @@
--- How `distac live` ends.
+-- The endings of `distac live`, and the lines of its faults.
 use Rattle.std.specs.Prelude.{◌≡◌, ℕ, List, [], ◌++◌, Option, IfSome, codes}
 use Rattle.std.specs.Fmt.{decimal}
 use Rattle.std.specs.Io.KnownBytes.{Appends}
@@ -23,41 +23,41 @@ use Rattle.dac_live_play.specs.declared.fault.PlayFault.TheVariants as fault
 use Rattle.dac_live_play.specs.declared.ending.LiveEnding.{LiveEnding}
 use Rattle.dac_live_play.specs.declared.ending.LiveEnding.TheVariants as ending
 
--- a run that wasn't ended: the number and the name of its fault
+-- a fault of the run: its number and name
 abbrev pub run_fault_text : RunFault → List ℕ
 run_fault_text why = codes "live fault " ++ (decimal (number_of why) ++ (codes " " ++ (name_of why ++ codes "\n")))
 
--- journals that no run of the world has: the node and the place at which each run ends
+-- journals that no run of the world reproduces: the node and record at which every run stops
 abbrev pub weave_fault_text : Table → NodeId → ℕ → List ℕ
 weave_fault_text table node place =
     codes "weave fault 1 Unwoven " ++ (node_text table node ++ (codes " " ++ (decimal place ++ codes "\n")))
 
--- a cause at a node
+-- a cause and its node
 abbrev pub cause_text : Table → List ℕ → NodeId → List ℕ
 cause_text table cause node = cause ++ (codes " at " ++ node_text table node)
 
--- why a site isn't opened
+-- the name of a fault of opening a site
 abbrev pub opening_name : OpenFault → List ℕ
 opening_name opening.NoReader = codes "NoReader"
 opening_name opening.NoMemory = codes "NoMemory"
 
--- why a call of a site isn't recorded
+-- the name of a fault of a site's call
 abbrev pub call_name : LiveFault → List ℕ
 call_name call.JournalFull = codes "JournalFull"
 call_name (call.Refused place why) = codes "Refused"
 call_name call.NoMemory = codes "NoMemory"
 
--- a record of this node's site is another one
+-- a record of the node's journal differs from its seats' calls
 abbrev pub mismatch_text : Table → NodeId → ℕ → List ℕ
 mismatch_text table node place = cause_text table (codes "Mismatch") node ++ (codes ", record " ++ decimal place)
 
--- why a site isn't closed at this node
+-- why a node's site can't be closed
 abbrev pub closing_text : Table → NodeId → CloseFault → List ℕ
 closing_text table node closing.SeatMissing = cause_text table (codes "SeatMissing") node
 closing_text table node (closing.Mismatch place) = mismatch_text table node place
 
--- What the standard error says of a run that wasn't ended: the cause, and the node or the link. It says nothing of a
--- fault that has no more than its name.
+-- The standard error after a fault of the run: its cause, and the node or the link. Faults without details print
+-- nothing.
 abbrev pub where_text : Table → RunFault → List ℕ
 where_text table run.TooManyNodes = []
 where_text table run.NoThread = []
@@ -84,29 +84,29 @@ status_of (ending.Refused why) = 1
 status_of (ending.Faulted why) = 1
 status_of ending.Stopped = 1
 
--- nothing was run, and the line of this failure was printed, unless memory was refused or the output took no more
+-- the line of this failure was printed and nothing was run, unless an allocation or a write failed
 abbrev pub IsRefusal : Failure → LiveEnding → Option (List ℕ) → Option (List ℕ) → Type 0
 IsRefusal failure ending.Done old new = ⊥
 IsRefusal failure (ending.Refused why) old new = (why ≡ failure) × Appends old new (failure_text failure)
 IsRefusal failure (ending.Faulted why) old new = ⊥
 IsRefusal failure ending.Stopped old new = Unit {0}
 
--- the line of this fault was printed, unless memory was refused or the output took no more
+-- the line of this fault was printed, unless an allocation or a write failed
 abbrev pub IsGivenUp : Table → PlayFault → LiveEnding → Option (List ℕ) → Option (List ℕ) → Type 0
 IsGivenUp table found ending.Done old new = ⊥
 IsGivenUp table found (ending.Refused why) old new = ⊥
 IsGivenUp table found (ending.Faulted why) old new = (why ≡ found) × Appends old new (fault_text table found)
 IsGivenUp table found ending.Stopped old new = Unit {0}
 
--- How `distac live` leaves its source: as the failure tells where the input was refused, and else read to its end
--- wherever anything is said of what was printed.
+-- The source after each ending: as the failure determines after `Refused`, and read to its end after `Done` and
+-- `Faulted`.
 abbrev pub IsLeftAt : LiveEnding → Sourced → Type 0
 IsLeftAt ending.Done source = source.progress ≡ Ended
 IsLeftAt (ending.Refused why) source = IsLeftBy why source
 IsLeftAt (ending.Faulted why) source = source.progress ≡ Ended
 IsLeftAt ending.Stopped source = Unit {0}
 
--- what the program answers is the status of such an ending, where the reader tells its bytes
+-- status is that of an ending which is correct for the input's bytes, if they are known
 pub record EndsLiveWith (Ending_of : List ℕ → LiveEnding → Type 0) (had : Option (List ℕ)) (status : ℕ) : Type 0 where
   pub ending : LiveEnding
   pub status_is : status ≡ status_of ending

@@ -1,4 +1,4 @@
--- Faults of the run and of the weave, as faults of `distac live`.
+-- Faults of the run and of the weave as faults of `distac live`.
 use Rattle.dac_weave.specs.declared.fault.WeaveFault.{WeaveFault}
 use Rattle.dac_weave.specs.declared.fault.WeaveFault.TheVariants as weave
 use Rattle.dac_live.specs.RunFault.{RunFault}
@@ -6,7 +6,7 @@ use Rattle.dac_live.specs.RunFault.TheVariants as run
 use Rattle.dac_live_play.specs.declared.fault.PlayFault.{PlayFault}
 use Rattle.dac_live_play.specs.declared.fault.PlayFault.TheVariants as fault
 
--- want of memory is no fault of a run
+-- a failed allocation isn't a fault of the run
 abbrev pub play_fault_of : RunFault → PlayFault
 play_fault_of run.NoMemory = fault.NoMemory
 play_fault_of run.TooManyNodes = fault.Run run.TooManyNodes
@@ -17,12 +17,12 @@ play_fault_of (run.Site node why) = fault.Run (run.Site node why)
 play_fault_of (run.Close node why) = fault.Run (run.Close node why)
 play_fault_of (run.NoPage node) = fault.Run (run.NoPage node)
 
--- nor one of the weave
+-- a failed allocation isn't a fault of the weave
 abbrev pub unwoven_fault_of : WeaveFault → PlayFault
 unwoven_fault_of (weave.Unwoven node place) = fault.Unwoven node place
 unwoven_fault_of weave.NoMemory = fault.NoMemory
 
--- no input of `distac sim` says a run, or memory was refused
+-- the faults of recording a run
 abbrev pub IsRecordFault : PlayFault → Type 0
 IsRecordFault (fault.Run why) = ⊥
 IsRecordFault (fault.Unwoven node place) = ⊥

@@ -1,4 +1,4 @@
--- What `distac live` prints of an input.
+-- The output of `distac live`.
 use Rattle.std.specs.Prelude.{◌≡◌, ℕ, List, Option}
 use Rattle.std.specs.Io.KnownBytes.{Appends}
 use Rattle.dac_config.specs.Table.{Table}
@@ -14,15 +14,15 @@ use Rattle.dac_live_play.specs.Endings.{fault_text}
 use Rattle.dac_live_play.specs.Runs.{IsReportOf, IsWoven, IsFaultOf}
 use Rattle.dac_live_play.specs.Texts.{live_text}
 
--- this text is that of a run of the script, whose journals are woven
+-- text is the output of a run of the script whose journals can be woven
 pub record IsPlayed (table : Table) (script : List LiveLine) (text : List ℕ) : Type 0 where
   pub report : LiveReport
   pub reported : IsReportOf table script report
   pub woven : IsWoven table report
   pub text_is : text ≡ live_text table script report
 
--- This text is that of a run of the script, whose journals are woven into these events. So they are one run of the
--- world, with all that every run leaves.
+-- text is the output of a run of the script, and its journals are woven into these events, so the guarantees of every
+-- run hold.
 pub record IsRunOf (table : Table) (script : List LiveLine) (text : List ℕ) (events : List WorldEvent) : Type 0 where
   pub report : LiveReport
   pub reported : IsReportOf table script report
@@ -30,7 +30,7 @@ pub record IsRunOf (table : Table) (script : List LiveLine) (text : List ℕ) (e
   pub events_are : events ≡ woven.events
   pub text_is : text ≡ live_text table script report
 
--- what is printed is that of a run of the script that the input says
+-- the output of a run of the input's script was printed
 pub record IsLived (bytes : List ℕ) (old new : Option (List ℕ)) : Type 0 where
   pub table : Table
   pub script : List LiveLine
@@ -39,7 +39,7 @@ pub record IsLived (bytes : List ℕ) (old new : Option (List ℕ)) : Type 0 whe
   pub played : IsPlayed table script text
   pub printed : Appends old new text
 
--- the script that the input says wasn't run to its end, and the line of this fault is all that is printed
+-- the input's script didn't run to its end, and only this fault's line was printed
 pub record IsFaulted (bytes : List ℕ) (why : PlayFault) (old new : Option (List ℕ)) : Type 0 where
   pub table : Table
   pub script : List LiveLine
@@ -47,8 +47,8 @@ pub record IsFaulted (bytes : List ℕ) (why : PlayFault) (old new : Option (Lis
   pub fault_is : IsFaultOf table script why
   pub printed : Appends old new (fault_text table why)
 
--- How `distac live` ends, where these are the bytes of its input. Where it stopped because memory was refused or the
--- output took no more, nothing is said.
+-- How `distac live` ends on an input with these bytes. After `Stopped`, by a failed allocation or write, nothing is
+-- guaranteed.
 abbrev pub EndsLive : List ℕ → LiveEnding → Option (List ℕ) → Option (List ℕ) → Type 0
 EndsLive bytes ending.Done old new = IsLived bytes old new
 EndsLive bytes (ending.Refused why) old new = IsLiveFailureOf bytes why × Appends old new (failure_text why)

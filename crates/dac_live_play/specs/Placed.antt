@@ -1,7 +1,7 @@
--- Texts of what stands at one place of two lists.
+-- Concatenated texts of two lists, place by place.
 use Rattle.std.specs.Prelude.{ℕ, ◌+◌, List, [], ◌∷◌, ◌++◌}
 
--- for each place of both lists a text, in order; the places are counted from this one
+-- the texts of each place that both lists have, in order; places count from place
 abbrev pub placed_text : {A B : Type 0} → (ℕ → A → B → List ℕ) → ℕ → List A → List B → List ℕ
 placed_text text place [] ys = []
 placed_text text place (x ∷ xs) [] = []

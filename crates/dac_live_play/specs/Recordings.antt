@@ -18,109 +18,109 @@ use Rattle.dac_script.specs.Script.{lines_of}
 
 -- ---- words
 
--- the word for a node; one that the configuration hasn't has a name that is strange to it
+-- a node's name, or placeholder if it isn't configured
 abbrev pub node_word : Table → List ℕ → NodeId → List ℕ
-node_word table strange node =
-    if nat_lt node.0 (node_count table) then name_text (node_name table node) else strange
+node_word table placeholder node =
+    if nat_lt node.0 (node_count table) then name_text (node_name table node) else placeholder
 
--- the same of an application
+-- an application's name, or placeholder if it isn't configured
 abbrev pub app_word : Table → List ℕ → AppId → List ℕ
-app_word table strange app =
-    if nat_lt app.0 (app_count table) then name_text (app_name table app) else strange
+app_word table placeholder app =
+    if nat_lt app.0 (app_count table) then name_text (app_name table app) else placeholder
 
--- yes or no, behind a space
+-- a flag, after a space
 abbrev pub flag_text : Bool → List ℕ
 flag_text true = codes " true"
 flag_text false = codes " false"
 
 -- ---- lines, without the line feed
 
--- a verb, and the node where it happens
+-- a verb and the acting node
 abbrev pub at_text : Table → List ℕ → List ℕ → NodeId → List ℕ
-at_text table strange verb node = verb ++ (codes " " ++ node_word table strange node)
+at_text table placeholder verb node = verb ++ (codes " " ++ node_word table placeholder node)
 
--- and the node that it is about
+-- a verb, the acting node, and the node concerned
 abbrev pub about_text : Table → List ℕ → List ℕ → NodeId → NodeId → List ℕ
-about_text table strange verb node about =
-    at_text table strange verb node ++ (codes " " ++ node_word table strange about)
+about_text table placeholder verb node about =
+    at_text table placeholder verb node ++ (codes " " ++ node_word table placeholder about)
 
--- a verb, the node where it happens, and a number
+-- a verb, the acting node, and a number
 abbrev pub numbered_text : Table → List ℕ → List ℕ → NodeId → ℕ → List ℕ
-numbered_text table strange verb node number = at_text table strange verb node ++ (codes " " ++ decimal number)
+numbered_text table placeholder verb node number = at_text table placeholder verb node ++ (codes " " ++ decimal number)
 
--- a verb, the node where it happens, the application, and the node that it is about
+-- a verb, the acting node, and the application and node concerned
 abbrev pub app_about_text : Table → List ℕ → List ℕ → NodeId → AppId → NodeId → List ℕ
-app_about_text table strange verb node app about =
-    at_text table strange verb node
-    ++ (codes " " ++ (app_word table strange app ++ (codes " " ++ node_word table strange about)))
+app_about_text table placeholder verb node app about =
+    at_text table placeholder verb node
+    ++ (codes " " ++ (app_word table placeholder app ++ (codes " " ++ node_word table placeholder about)))
 
--- a command that is given at a node
+-- a command to a node
 abbrev pub given_text : Table → List ℕ → NodeId → Command → List ℕ
-given_text table strange node (command.Down about) = about_text table strange (codes "down") node about
-given_text table strange node (command.Permit app about value) =
-    app_about_text table strange (codes "permit") node app about ++ flag_text value
-given_text table strange node (command.Start app about) =
-    app_about_text table strange (codes "start") node app about
-given_text table strange node (command.Stop app about) = app_about_text table strange (codes "stop") node app about
-given_text table strange node (command.Drain about value) =
-    about_text table strange (codes "drain") node about ++ flag_text value
-given_text table strange node (command.Takeover app) =
-    at_text table strange (codes "takeover") node ++ (codes " " ++ app_word table strange app)
+given_text table placeholder node (command.Down about) = about_text table placeholder (codes "down") node about
+given_text table placeholder node (command.Permit app about value) =
+    app_about_text table placeholder (codes "permit") node app about ++ flag_text value
+given_text table placeholder node (command.Start app about) =
+    app_about_text table placeholder (codes "start") node app about
+given_text table placeholder node (command.Stop app about) = app_about_text table placeholder (codes "stop") node app about
+given_text table placeholder node (command.Drain about value) =
+    about_text table placeholder (codes "drain") node about ++ flag_text value
+given_text table placeholder node (command.Takeover app) =
+    at_text table placeholder (codes "takeover") node ++ (codes " " ++ app_word table placeholder app)
 
--- what happens at a node
+-- an event at a node
 abbrev pub what_text : Table → List ℕ → NodeId → What → List ℕ
-what_text table strange node (what.Boot now) = numbered_text table strange (codes "boot") node now
-what_text table strange node what.Crash = at_text table strange (codes "crash") node
-what_text table strange node (what.Command given) = given_text table strange node given
-what_text table strange node (what.Tick now) = numbered_text table strange (codes "tick") node now
-what_text table strange node (what.Ship to) = about_text table strange (codes "ship") node to
-what_text table strange node (what.Deliver message) = numbered_text table strange (codes "hear") node message
-what_text table strange node (what.Hand operation) = numbered_text table strange (codes "hand") node operation
+what_text table placeholder node (what.Boot now) = numbered_text table placeholder (codes "boot") node now
+what_text table placeholder node what.Crash = at_text table placeholder (codes "crash") node
+what_text table placeholder node (what.Command given) = given_text table placeholder node given
+what_text table placeholder node (what.Tick now) = numbered_text table placeholder (codes "tick") node now
+what_text table placeholder node (what.Ship to) = about_text table placeholder (codes "ship") node to
+what_text table placeholder node (what.Deliver message) = numbered_text table placeholder (codes "hear") node message
+what_text table placeholder node (what.Hand operation) = numbered_text table placeholder (codes "hand") node operation
 
 abbrev pub event_line : Table → List ℕ → WorldEvent → List ℕ
-event_line table strange event = what_text table strange event.node event.what
+event_line table placeholder event = what_text table placeholder event.node event.what
 
 -- ---- a script
 
--- a line with the line feed that ends it
+-- a line with its line feed
 abbrev pub fed : List ℕ → List ℕ
 fed line = line ++ codes "\n"
 
 abbrev pub event_text : Table → List ℕ → WorldEvent → List ℕ
-event_text table strange event = fed (event_line table strange event)
+event_text table placeholder event = fed (event_line table placeholder event)
 
--- a line for the page of a node
+-- the line that prints a node's page
 abbrev pub page_line : Table → List ℕ → NodeId → List ℕ
-page_line table strange node = fed (at_text table strange (codes "page") node)
+page_line table placeholder node = fed (at_text table placeholder (codes "page") node)
 
--- those of all nodes, by their names
+-- the lines that print all nodes' pages, by name
 abbrev pub page_lines : Table → List ℕ → List ℕ
-page_lines table strange = flat_map (page_line table strange) (nodes_of table)
+page_lines table placeholder = flat_map (page_line table placeholder) (nodes_of table)
 
--- a line as a comment; an empty one is left out
-abbrev pub remark : List ℕ → List ℕ
-remark [] = []
-remark (b ∷ bs) = codes "% " ++ fed (b ∷ bs)
+-- a line as a comment, unless it's empty
+abbrev pub comment : List ℕ → List ℕ
+comment [] = []
+comment (b ∷ bs) = codes "% " ++ fed (b ∷ bs)
 
 -- the lines of a text as comments
 abbrev pub remarks_text : List ℕ → List ℕ
-remarks_text printed = flat_map remark (lines_of printed)
+remarks_text printed = flat_map comment (lines_of printed)
 
--- the script: what was printed of the run as comments, its events, and the page of each node
+-- the script: the printed output as comments, the events, and each node's page
 abbrev pub script_text : Table → List ℕ → List ℕ → List WorldEvent → List ℕ
-script_text table strange printed events =
-    remarks_text printed ++ (flat_map (event_text table strange) events ++ page_lines table strange)
+script_text table placeholder printed events =
+    remarks_text printed ++ (flat_map (event_text table placeholder) events ++ page_lines table placeholder)
 
--- the configuration, and behind a line that parts them the script
+-- the configuration, the divider, and the script
 abbrev pub record_text : Table → List ℕ → List ℕ → List WorldEvent → List ℕ
-record_text table strange printed events =
-    canonical_text table ++ (codes "--\n" ++ script_text table strange printed events)
+record_text table placeholder printed events =
+    canonical_text table ++ (codes "--\n" ++ script_text table placeholder printed events)
 
--- what such a script says: the events, and then the page of each node
+-- the lines of this script: the events, then each node's page
 abbrev pub run_lines : Table → List WorldEvent → List ScriptLine
 run_lines table events = map says.Event events ++ map says.Page (nodes_of table)
 
--- this text is that of a run, with some name for what the configuration hasn't
+-- text expresses the run, with some name for unconfigured nodes and applications
 pub record IsRecordText (table : Table) (printed : List ℕ) (events : List WorldEvent) (text : List ℕ) : Type 0 where
-  pub strange : List ℕ
-  pub text_is : text ≡ record_text table strange printed events
+  pub placeholder : List ℕ
+  pub text_is : text ≡ record_text table placeholder printed events

@@ -1,4 +1,4 @@
--- What `distac record` prints of an input.
+-- The output of `distac record`.
 use Rattle.std.specs.Prelude.{◌⊎◌, ℕ, List, Option}
 use Rattle.std.specs.Io.KnownBytes.{Appends}
 use Rattle.dac_config.specs.Table.{Table}
@@ -16,8 +16,8 @@ use Rattle.dac_live_play.specs.Runs.{IsFaultOf}
 use Rattle.dac_live_play.specs.Faults.{IsRecordFault}
 use Rattle.dac_live_play.specs.declared.fault.PlayFault.{PlayFault}
 
--- This text is an input of `distac sim` that says a run of the script: its configuration, its events, and then the page of
--- each node. As comments it has what `distac live` prints of that run.
+-- text is an input of `distac sim` that expresses a run of the script: its configuration, its events, then each node's
+-- page. Its comments are the output of `distac live` for that run.
 pub record IsKept (table : Table) (script : List LiveLine) (text : List ℕ) : Type 0 where
   pub printed : List ℕ
   pub events : List WorldEvent
@@ -25,7 +25,7 @@ pub record IsKept (table : Table) (script : List LiveLine) (text : List ℕ) : T
   pub says : SaysScript text table (run_lines table events)
   pub text_is : IsRecordText table printed events text
 
--- what is printed is that of a run of the script that the input says
+-- a run of the input's script was printed as an input of `distac sim`
 pub record IsRecorded (bytes : List ℕ) (old new : Option (List ℕ)) : Type 0 where
   pub table : Table
   pub script : List LiveLine
@@ -34,11 +34,11 @@ pub record IsRecorded (bytes : List ℕ) (old new : Option (List ℕ)) : Type 0 
   pub kept : IsKept table script text
   pub printed : Appends old new text
 
--- why no run of the script is kept: it wasn't run to its end, or no input of `distac sim` says what was run
+-- why no run is recorded: the script didn't run to its end, or no input of `distac sim` expresses the run
 abbrev pub IsUnkept : Table → List LiveLine → PlayFault → Type 0
 IsUnkept table script why = IsFaultOf table script why ⊎ IsRecordFault why
 
--- no run of the script that the input says is kept, and the line of this fault is all that is printed
+-- no run of the input's script is recorded, and only this fault's line was printed
 pub record IsGivenUpOn (bytes : List ℕ) (why : PlayFault) (old new : Option (List ℕ)) : Type 0 where
   pub table : Table
   pub script : List LiveLine
@@ -46,8 +46,8 @@ pub record IsGivenUpOn (bytes : List ℕ) (why : PlayFault) (old new : Option (L
   pub fault_is : IsUnkept table script why
   pub printed : Appends old new (fault_text table why)
 
--- How `distac record` ends, where these are the bytes of its input. Where it stopped because memory was refused or the
--- output took no more, nothing is said.
+-- How `distac record` ends on an input with these bytes. After `Stopped`, by a failed allocation or write, nothing is
+-- guaranteed.
 abbrev pub EndsRecord : List ℕ → LiveEnding → Option (List ℕ) → Option (List ℕ) → Type 0
 EndsRecord bytes ending.Done old new = IsRecorded bytes old new
 EndsRecord bytes (ending.Refused why) old new = IsLiveFailureOf bytes why × Appends old new (failure_text why)

@@ -1,4 +1,4 @@
--- What `distac live` prints.
+-- The output of `distac live`.
 use Rattle.std.specs.Prelude.{ℕ, ◌+◌, ◌==◌, List, [], ◌∷◌, ◌++◌, map, Option, Ok, Err, codes, slice_get, if◌then◌else◌}
 use Rattle.std.specs.List.{flat_map}
 use Rattle.std.specs.Option.{option_map_or}
@@ -23,47 +23,47 @@ use Rattle.dac_wire.specs.Decoding.{packet_at}
 use Rattle.dac_live_play.specs.Phases.{parts_of, lines_in}
 use Rattle.dac_live_play.specs.Placed.{placed_text}
 
--- ---- a line of a caller
+-- ---- a caller's line
 
--- what a caller was answered: that its node did it or refused it, or whether the page that it read was fresh
+-- the result of a caller's line: its node accepted or refused the request, or the page read was fresh or stale
 abbrev pub outcome_text : LineAnswer → List ℕ
 outcome_text (Done (Ok reply)) = codes "ok\n"
 outcome_text (Done (Err why)) = refused_text (number_of why) (name_of why)
 outcome_text Fresh = codes "fresh\n"
 outcome_text Stale = codes "stale\n"
 
--- a line of a caller: the node, the caller's number, and what it was answered
+-- a caller's line: node, caller and result
 abbrev pub line_text : Table → Line → LineAnswer → List ℕ
 line_text table line answer =
     name_text (node_name table line.node) ++ (codes " " ++ (decimal line.caller ++ (codes " " ++ outcome_text answer)))
 
--- it is printed where the line is this caller's of this node
+-- the line is printed with those of its node and caller
 abbrev pub own_text : Table → NodeId → ℕ → Line → LineAnswer → List ℕ
 own_text table node caller line answer = if is_of node.0 caller line then line_text table line answer else []
 
 -- ---- a phase
 
--- the lines of a caller of a node, in the order of the script
+-- the lines of one caller, in the order of the script
 abbrev pub caller_text : Table → List Line → List LineAnswer → NodeId → ℕ → List ℕ
 caller_text table lines answers node caller =
     placed_text (λ place line answer. own_text table node caller line answer) 0 lines answers
 
--- those of a node's four callers, by their numbers
+-- the lines of a node's four callers
 abbrev pub callers_text : Table → List Line → List LineAnswer → NodeId → List ℕ
 callers_text table lines answers node = flat_map (caller_text table lines answers node) (1 ∷ 2 ∷ 3 ∷ 4 ∷ [])
 
--- those of all nodes, by their names
+-- the lines of all nodes' callers, by name
 abbrev pub asked_text : Table → List Line → List LineAnswer → List ℕ
 asked_text table lines answers = flat_map (callers_text table lines answers) (nodes_of table)
 
--- bytes that are fed are read as a message or an operation; no other line is a feed
+-- the result of parsing fed bytes; other lines print nothing here
 abbrev pub feed_text : Table → LiveLine → List ℕ
 feed_text table (says.Do node caller d) = []
 feed_text table (says.Read node caller) = []
 feed_text table (says.Feed bytes) = fed_text (packet_at table bytes)
 feed_text table says.Phase = []
 
--- the phase of this number: its callers' lines, and then its feeds in their order
+-- a phase: its callers' lines, then its feeds in order
 abbrev pub phase_text : Table → ℕ → List LiveLine → List LineAnswer → List ℕ
 phase_text table number part answers =
     codes "phase " ++ (decimal number ++ (codes "\n" ++ (asked_text table (lines_in part) answers ++ flat_map (feed_text table) part)))
@@ -75,26 +75,26 @@ phases_text table parts answers =
 
 -- ---- the pages
 
--- as what a node runs, and its page; a node that is off has none
+-- a node's incarnation and page; a node that is off has no page
 abbrev pub shown_text : Table → NodeId → Page → List ℕ
 shown_text table node page = header_text (node_name table node) page.origin
     ++ option_map_or (λ origin. page_text table page.summary) page.origin []
 
--- the page of a node, of these by their numbers
+-- the last page of a node
 abbrev pub last_text : Table → List Page → NodeId → List ℕ
 last_text table pages node = option_map_or (shown_text table node) (slice_get pages node.0) []
 
--- the pages of all nodes, by their names
+-- the last pages of all nodes, by name
 abbrev pub pages_text : Table → List Page → List ℕ
 pages_text table pages = flat_map (last_text table pages) (nodes_of table)
 
--- ---- all
+-- ---- the whole output
 
--- what is printed of a run in these phases
+-- the output of a run in these phases
 abbrev pub run_text : Table → List (List LiveLine) → LiveReport → List ℕ
 run_text table parts report =
     phases_text table parts report.answers ++ (pages_text table report.pages ++ codes "close ok\nweave ok\n")
 
--- what is printed of a script, by a report of its run
+-- the output of a script, given the report of its run
 abbrev pub live_text : Table → List LiveLine → LiveReport → List ℕ
 live_text table script report = run_text table (parts_of script) report

@@ -1,4 +1,4 @@
-//! How `distac live` ends, and the lines of its faults.
+//! The endings of `distac live` and `distac record`, and the lines of their faults.
 
 ghost use Rattle.std.specs.Prelude.{◌≡◌, ◌++◌, IfOk, OnOk};
 ghost use Rattle.dac_live_play.specs.Endings.{status_of, run_fault_text, weave_fault_text, fault_text, cause_text, opening_name, call_name, mismatch_text, closing_text, where_text, IsRefusal, IsGivenUp};
@@ -13,22 +13,21 @@ use dac_status::put_node;
 use std::alloc::Global;
 use std::io::{Eprint, Write};
 
-/// How `distac live` ended.
+/// How `distac live` or `distac record` ended.
 #[derive(Clone, Copy, Debug, PartialEq, Eq)]
 pub enum LiveEnding {
-    /// The script was run to its end, and all that it prints was printed.
+    /// The script ran to its end, and the whole output was written.
     Done,
-    /// Nothing was run, since the input has this failure, or memory was refused before it was read. The failure's line was
-    /// printed.
+    /// The input failed, so nothing was run, and only the failure's line was printed.
     Refused(Failure),
-    /// The script wasn't run to its end. The line of the fault is all that was printed.
+    /// The script didn't run to its end, and only the fault's line was printed.
     Faulted(PlayFault),
-    /// Memory was refused, or the output took no more. Nothing is said then of what was printed.
+    /// An allocation or a write failed, so the output can be anything.
     Stopped,
 }
 
 impl LiveEnding {
-    /// The status that the program answers: 0 where all was done, else 1.
+    /// The program's exit status: 0 if it succeeded, else 1.
     pub fn status(self) -> u8
         ensures { result ≡ status_of self }
     {
@@ -39,7 +38,7 @@ impl LiveEnding {
     }
 }
 
-/// The line of a run that wasn't ended.
+/// The line for a fault of the run: its number and name.
 fn run_fault_line(alloc: Global, why: RunFault) -> Result<Vec<u8>, NoMemory>
     ensures { IfOk result (λ line. line.items ≡ run_fault_text why) }
 {
@@ -49,7 +48,7 @@ fn run_fault_line(alloc: Global, why: RunFault) -> Result<Vec<u8>, NoMemory>
     Ok(line.into_bytes())
 }
 
-/// The line of journals that no run of the world has.
+/// The line for journals that no run of the world reproduces: the node and record at which every run stops.
 fn weave_fault_line(
     alloc: Global,
     config: &Config,
@@ -65,7 +64,7 @@ fn weave_fault_line(
     Ok(line)
 }
 
-/// Puts behind a text a cause at a node.
+/// Appends a cause and its node.
 fn put_cause(
     alloc: Global,
     text: &mut Vec<u8>,
@@ -81,7 +80,7 @@ fn put_cause(
     put_node(alloc, text, config, node)
 }
 
-/// The name of why a site isn't opened.
+/// The name of a fault of opening a site.
 fn opening_name(why: OpenFault) -> &'static str
     ensures { result.now ≡ opening_name why }
 {
@@ -91,7 +90,7 @@ fn opening_name(why: OpenFault) -> &'static str
     }
 }
 
-/// The name of why a call of a site isn't recorded.
+/// The name of a fault of a site's call.
 fn call_name(why: LiveFault) -> &'static str
     ensures { result.now ≡ call_name why }
 {
@@ -102,7 +101,7 @@ fn call_name(why: LiveFault) -> &'static str
     }
 }
 
-/// Puts behind a text that a record of a node's site is another one.
+/// Appends the first record of a node's journal that differs from its seats' calls.
 fn put_mismatch(
     alloc: Global,
     text: &mut Vec<u8>,
@@ -119,7 +118,7 @@ fn put_mismatch(
     Ok(())
 }
 
-/// Puts behind a text why the site of a node isn't closed.
+/// Appends why a node's site can't be closed.
 fn put_closing(
     alloc: Global,
     text: &mut Vec<u8>,
@@ -135,7 +134,7 @@ fn put_closing(
     }
 }
 
-/// The cause of a fault of a run, and its node or its link. It is empty if the fault has no more than its name.
+/// The details of a run's fault: its cause, and the node or the link. Empty for a fault without details.
 pub fn where_of(alloc: Global, config: &Config, why: RunFault) -> Result<Vec<u8>, NoMemory>
     ensures { IfOk result (λ text. text.items ≡ where_text config.now why) }
 {
@@ -158,7 +157,8 @@ pub fn where_of(alloc: Global, config: &Config, why: RunFault) -> Result<Vec<u8>
     Ok(text)
 }
 
-/// Says on the standard error where a run had its fault. A name that isn't UTF-8 can't be said there, and then nothing is.
+/// Prints the details of a run's fault to the standard error. Prints nothing if they can't be allocated or aren't
+/// UTF-8, because the fault's line is already printed.
 fn say_where<T: Eprint>(rt: &T, alloc: Global, config: &Config, fault: PlayFault) {
     let PlayFault::Run(why) = fault else {
         return;
@@ -173,7 +173,7 @@ fn say_where<T: Eprint>(rt: &T, alloc: Global, config: &Config, fault: PlayFault
     }
 }
 
-/// The line of a fault.
+/// The line for a fault.
 fn fault_line(alloc: Global, config: &Config, fault: PlayFault) -> Result<Vec<u8>, NoMemory>
     ensures { IfOk result (λ line. line.items ≡ fault_text config.now fault) }
 {
@@ -195,7 +195,7 @@ fn fault_line(alloc: Global, config: &Config, fault: PlayFault) -> Result<Vec<u8
     }
 }
 
-/// Prints why nothing is run.
+/// Prints the line of a failure of the input.
 pub(crate) fn refuse_live<W: Write>(alloc: Global, failure: Failure, output: &mut W) -> LiveEnding
     ensures { IsRefusal failure result (W.contents output.old) (W.contents output.new) }
 {
@@ -205,7 +205,7 @@ pub(crate) fn refuse_live<W: Write>(alloc: Global, failure: Failure, output: &mu
     }
 }
 
-/// Prints why the script isn't run to its end, and says on the standard error where a run had its fault.
+/// Prints the line of a fault, and its details to the standard error.
 pub(crate) fn given_up<T: Eprint, W: Write>(
     rt: &T,
     alloc: Global,

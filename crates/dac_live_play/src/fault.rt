@@ -1,4 +1,4 @@
-//! Why a script isn't run to its end.
+//! Faults of running and recording a live script.
 
 ghost use Rattle.std.specs.Prelude.{◌≡◌};
 
@@ -6,23 +6,23 @@ use dac_base::{NoMemory, NodeId};
 use dac_live::RunFault;
 use dac_weave::WeaveFault;
 
-/// Why a script isn't run to its end.
+/// Why a live script isn't run to its end, or its run isn't recorded.
 #[derive(Clone, Copy, Debug, PartialEq, Eq)]
 pub enum PlayFault {
-    /// The sites weren't run to the end.
+    /// The run failed.
     Run(RunFault),
-    /// No run of the world has the journals of the sites. Each run ends at this place of this node's journal.
+    /// No run of the world reproduces the journals. Every run stops at this record of this node.
     Unwoven {
-        /// The node.
+        /// The node whose journal isn't reproduced.
         node: NodeId,
-        /// The place, from 1. At place 0 the journal is no whole history.
+        /// The record, from 1; 0 if the journal isn't the node's whole history.
         place: u64,
     },
-    /// The run as an input of `distac sim` has more bytes than an input may have.
+    /// The recorded run has more bytes than an input of `distac sim` can have.
     TooLong,
-    /// No input of `distac sim` says the run.
+    /// No input of `distac sim` expresses the run.
     Unspelled,
-    /// Memory was refused.
+    /// An allocation failed.
     NoMemory,
 }
 

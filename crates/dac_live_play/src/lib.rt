@@ -1,12 +1,12 @@
-//! What `distac live` and `distac record` do with an input. They run the script at sites in threads. One prints what comes of its
-//! lines, and the other the run itself, as a script of `distac sim`.
+//! Runs `distac live` and `distac record`. Both run a script at sites in threads and merge the journals into one run of
+//! the world. The first prints the results of the script's lines, the second prints the run as a script of `distac
+//! sim`.
 //!
-//! The promises are on [`live_source`] and [`record_source`]. Where it is done, what it wrote is the text of a report of a run of the script that
-//! the input says. By that report, each link carried what was shipped, each page is that of its node's whole journal, and
-//! each caller was answered as its records say. The journals were woven, so all that every run of the world leaves holds
-//! of what is printed. Nothing is printed before all that is known. Where the input, the run or the weave has a
-//! fault, a line that says so is all that is printed. Where memory or a write fails, nothing else is promised but the
-//! status 1.
+//! The guarantees are on [`live_source`] and [`record_source`]. After [`LiveEnding::Done`] the output is that of a
+//! report of the input's script: each link delivered what was shipped, each page is that of its node's whole journal,
+//! and each caller received the results in its records. The journals form one run, so the guarantees of every run hold.
+//! Nothing is printed before all of this is checked. A fault of the input, the run or the weave prints only its line.
+//! If an allocation or a write fails, only the status 1 is guaranteed.
 #![tactic(auto)]
 
 pub use dac_play;

@@ -1,4 +1,4 @@
-//! A script in phases, and what its callers are asked in each.
+//! Splits a script into phases, with the callers' lines of each.
 
 ghost use Rattle.std.specs.Prelude.{◌≡◌, IfOk, map};
 ghost use Rattle.dac_live_play.specs.Phases.{ends_phase, parts_of, event_of, asked_by, lines_in, AsksAs};
@@ -9,7 +9,7 @@ use dac_messages::Event;
 use dac_script::{LiveLine, Request};
 use std::alloc::Global;
 
-/// Whether a phase ends.
+/// Returns whether the line ends a phase.
 fn ends_phase(line: &LiveLine) -> bool
     ensures { result ≡ ends_phase line.now }
 {
@@ -19,7 +19,7 @@ fn ends_phase(line: &LiveLine) -> bool
     }
 }
 
-/// The lines of each phase of a script: one more phase than lines that end one. [`NoMemory`] is the only error.
+/// Splits a script into the lines of its phases, one more than there are `phase` lines.
 pub fn parts_of(alloc: Global, script: &[LiveLine]) -> Result<Vec<&[LiveLine]>, NoMemory>
     ensures { IfOk result (λ parts. map (λ part. part.now) parts.items ≡ parts_of script.now) }
 {
@@ -27,7 +27,7 @@ pub fn parts_of(alloc: Global, script: &[LiveLine]) -> Result<Vec<&[LiveLine]>, 
     Ok(parts)
 }
 
-/// What happens at a node of which this is asked.
+/// The request as an event of its node.
 fn event_of(request: Request) -> Event
     ensures { result ≡ event_of request }
 {
@@ -39,7 +39,7 @@ fn event_of(request: Request) -> Event
     }
 }
 
-/// What a caller is asked to do, if it is a caller's line.
+/// The caller's line for a script line, or `None` if it belongs to no caller.
 fn asked_by(line: &LiveLine) -> Option<Line>
     ensures { result ≡ asked_by line.now }
 {
@@ -62,7 +62,7 @@ fn asked_by(line: &LiveLine) -> Option<Line>
     }
 }
 
-/// A phase in which callers are asked what these lines say.
+/// The phase with the callers' lines among these.
 fn phase_of(alloc: Global, part: &[LiveLine]) -> Result<Phase, NoMemory>
     ensures { IfOk result (λ phase. phase.lines.items ≡ lines_in part.now) }
 {
@@ -75,7 +75,7 @@ fn phase_of(alloc: Global, part: &[LiveLine]) -> Result<Phase, NoMemory>
     Ok(Phase { lines })
 }
 
-/// Phases in which callers are asked what these lists of lines say, phase by phase. [`NoMemory`] is the only error.
+/// The phases with the callers' lines of each part, in order.
 pub fn phases_of(alloc: Global, parts: &[&[LiveLine]]) -> Result<Vec<Phase>, NoMemory>
     ensures { IfOk result (λ phases. AsksAs phases.items (map (λ part. part.now) parts.now)) }
 {

@@ -1,4 +1,4 @@
-//! A script run to its end.
+//! Runs a live script to its end.
 
 ghost use Rattle.std.specs.Prelude.{All, IfOk, IfErr};
 ghost use Rattle.dac_config.specs.Table.{node_count};
@@ -21,7 +21,7 @@ use std::alloc::Global;
 use std::sync::Wait;
 use std::thread::Threads;
 
-/// Holds nothing.
+/// A gate that never delays a message.
 struct Open;
 
 impl Gate for Open {
@@ -30,8 +30,8 @@ impl Gate for Open {
     fn after(&self, _from: NodeId, _to: NodeId, _k: u64) {}
 }
 
-/// Runs a script at sites in threads, and weaves their journals into one run of the world. It gives what is printed of the run, and
-/// the run.
+/// Runs a script at sites in threads, and merges the journals into one run of the world. Returns the output and the
+/// run.
 fn run_script<T: Threads + Wait + Sync>(
     rt: &T,
     alloc: Global,
@@ -51,9 +51,9 @@ fn run_script<T: Threads + Wait + Sync>(
     Ok((text, events))
 }
 
-/// Runs a script at sites in threads, weaves their journals, and gives what is printed of it.
+/// Runs a script at sites in threads, merges the journals, and returns the output.
 ///
-/// [`PlayFault::NoMemory`] is answered wherever memory is refused before another fault is met.
+/// Fails with [`PlayFault::NoMemory`] if an allocation fails before another fault occurs.
 pub fn play_live<T: Threads + Wait + Sync>(
     rt: &T,
     alloc: Global,
@@ -68,8 +68,8 @@ pub fn play_live<T: Threads + Wait + Sync>(
     Ok(text)
 }
 
-/// Runs a script at sites in threads, weaves their journals, and gives the run as an input of `distac sim`. Its faults are those of
-/// [`play_live`] and of [`record_lines`].
+/// Runs a script at sites in threads, merges the journals, and returns the run as an input of `distac sim`. Its faults
+/// are those of [`play_live`] and [`record_lines`].
 pub fn record_live<T: Threads + Wait + Sync>(
     rt: &T,
     alloc: Global,

@@ -1,4 +1,4 @@
-//! What is printed of a run.
+//! The output of a run.
 
 ghost use Rattle.std.specs.Prelude.{◌≡◌, ◌+◌, ◌<◌, ◌++◌, IfOk, OnOk, map};
 ghost use Rattle.std.specs.List.{flat_map};
@@ -14,7 +14,7 @@ use dac_script::LiveLine;
 use dac_status::{header, page};
 use std::alloc::Global;
 
-/// The lines of a caller of a node in a phase.
+/// Appends the result lines of one caller in a phase.
 fn put_caller(
     alloc: Global,
     text: &mut Vec<u8>,
@@ -42,7 +42,7 @@ fn put_caller(
     Ok(())
 }
 
-/// The lines of a node's callers in a phase.
+/// Appends the result lines of a node's callers in a phase.
 fn put_node(
     alloc: Global,
     text: &mut Vec<u8>,
@@ -61,7 +61,7 @@ fn put_node(
     Ok(())
 }
 
-/// The lines of all callers in a phase.
+/// Appends the result lines of all callers in a phase, by node.
 fn put_asked(
     alloc: Global,
     text: &mut Vec<u8>,
@@ -78,7 +78,7 @@ fn put_asked(
     Ok(())
 }
 
-/// The feeds of a phase.
+/// Appends the result lines of a phase's feeds.
 fn put_feeds(
     alloc: Global,
     text: &mut Vec<u8>,
@@ -94,7 +94,7 @@ fn put_feeds(
     Ok(())
 }
 
-/// The lines of a phase, which has these lines of the script and this place among the phases.
+/// The output of phase `place + 1`.
 fn phase_lines(
     alloc: Global,
     config: &Config,
@@ -115,7 +115,7 @@ fn phase_lines(
     Ok(text)
 }
 
-/// The lines of all phases.
+/// Appends the output of all phases.
 fn put_phases(
     alloc: Global,
     text: &mut Vec<u8>,
@@ -138,7 +138,7 @@ fn put_phases(
     Ok(())
 }
 
-/// As what a node runs, and its page. A node that is off has none.
+/// A node's incarnation and page. A node that is off has no page.
 fn shown_lines(
     alloc: Global,
     config: &Config,
@@ -156,7 +156,7 @@ fn shown_lines(
     Ok(lines)
 }
 
-/// The page of a node, of these by their numbers.
+/// Appends the output for one node's last page.
 fn put_last(
     alloc: Global,
     text: &mut Vec<u8>,
@@ -174,7 +174,7 @@ fn put_last(
     Ok(())
 }
 
-/// The pages of all nodes.
+/// Appends the output for all nodes' last pages.
 fn put_pages(
     alloc: Global,
     text: &mut Vec<u8>,
@@ -189,7 +189,7 @@ fn put_pages(
     Ok(())
 }
 
-/// All that is printed of a run in these phases, which ask what these lists of lines say. [`NoMemory`] is the only error.
+/// The whole output of a run. `phases` must have the callers' lines of `parts`.
 pub fn live_lines(
     alloc: Global,
     config: &Config,

@@ -1,8 +1,8 @@
-//! A run of the world as a script of `distac sim`.
+//! Expresses a run of the world as a script of `distac sim`.
 
 ghost use Rattle.std.specs.Prelude.{◌≡◌, ◌++◌, ◌==◌, map, IfOk, IfErr, OnOk};
 ghost use Rattle.std.specs.List.{flat_map};
-ghost use Rattle.dac_live_play.specs.Recordings.{node_word, app_word, flag_text, at_text, about_text, numbered_text, app_about_text, given_text, event_line, event_text, page_lines, remark, run_lines, IsRecordText};
+ghost use Rattle.dac_live_play.specs.Recordings.{node_word, app_word, flag_text, at_text, about_text, numbered_text, app_about_text, given_text, event_line, event_text, page_lines, comment, run_lines, IsRecordText};
 ghost use Rattle.dac_config.specs.Canonical.{canonical_text};
 ghost use Rattle.dac_script.specs.Inputs.{SaysScript};
 ghost use Rattle.dac_script.specs.Script.{lines_of};
@@ -16,8 +16,9 @@ use dac_events::{Command, What, WorldEvent};
 use dac_script::MAX_INPUT;
 use std::alloc::Global;
 
-/// A name that neither a node nor an application has, unless more have such names than there may be of both.
-fn strange_name(alloc: Global, config: &Config) -> Result<Vec<u8>, NoMemory> {
+/// A name for unconfigured nodes and applications, which the configuration doesn't use. The tries suffice, because a
+/// configuration has fewer names.
+fn placeholder_name(alloc: Global, config: &Config) -> Result<Vec<u8>, NoMemory> {
     let mut name = Vec::from_slice(alloc, b"unknown")?;
     for _time in 0..MOST_TRIES {
         if config.node_named(&name).is_none() && config.app_named(&name).is_none() {
@@ -28,228 +29,227 @@ fn strange_name(alloc: Global, config: &Config) -> Result<Vec<u8>, NoMemory> {
     Ok(name)
 }
 
-/// More names than a configuration has.
+/// More tries than a configuration has names.
 const MOST_TRIES: u32 = 200;
 
-/// Puts behind a text the word for a node. One that the configuration hasn't is called by the strange name.
+/// Appends a node's name, or `placeholder` if it isn't configured.
 fn put_node_word(
     text: &mut Vec<u8>,
     config: &Config,
-    strange: &[u8],
+    placeholder: &[u8],
     node: NodeId,
 ) -> Result<(), NoMemory>
     ensures { OnOk result
-        (text.new.items ≡ text.old.items ++ node_word config.now strange.now node) }
+        (text.new.items ≡ text.old.items ++ node_word config.now placeholder.now node) }
 {
     if node.0 < config.nodes() {
         return put_printed_name(text, config.node_name(node));
     }
-    text.extend_from_slice(strange)?;
+    text.extend_from_slice(placeholder)?;
     Ok(())
 }
 
-/// The same of an application.
+/// Appends an application's name, or `placeholder` if it isn't configured.
 fn put_app_word(
     text: &mut Vec<u8>,
     config: &Config,
-    strange: &[u8],
+    placeholder: &[u8],
     app: AppId,
 ) -> Result<(), NoMemory>
     ensures { OnOk result
-        (text.new.items ≡ text.old.items ++ app_word config.now strange.now app) }
+        (text.new.items ≡ text.old.items ++ app_word config.now placeholder.now app) }
 {
     if app.0 < config.apps() {
         return put_printed_name(text, config.app_name(app));
     }
-    text.extend_from_slice(strange)?;
+    text.extend_from_slice(placeholder)?;
     Ok(())
 }
 
-/// Puts a verb behind a text, and the node where it happens.
+/// Appends a verb and the acting node.
 fn put_at(
     text: &mut Vec<u8>,
     config: &Config,
-    strange: &[u8],
+    placeholder: &[u8],
     verb: &str,
     node: NodeId,
 ) -> Result<(), NoMemory>
     ensures { OnOk result
-        (text.new.items ≡ text.old.items ++ at_text config.now strange.now verb.now node) }
+        (text.new.items ≡ text.old.items ++ at_text config.now placeholder.now verb.now node) }
 {
     text.extend_from_slice(verb.as_bytes())?;
     text.push(b' ')?;
-    put_node_word(text, config, strange, node)
+    put_node_word(text, config, placeholder, node)
 }
 
-/// And the node that it is about.
+/// Appends a verb, the acting node, and the node concerned.
 fn put_about(
     text: &mut Vec<u8>,
     config: &Config,
-    strange: &[u8],
+    placeholder: &[u8],
     verb: &str,
     node: NodeId,
     about: NodeId,
 ) -> Result<(), NoMemory>
     ensures { OnOk result (text.new.items
-        ≡ text.old.items ++ about_text config.now strange.now verb.now node about) }
+        ≡ text.old.items ++ about_text config.now placeholder.now verb.now node about) }
 {
-    put_at(text, config, strange, verb, node)?;
+    put_at(text, config, placeholder, verb, node)?;
     text.push(b' ')?;
-    put_node_word(text, config, strange, about)
+    put_node_word(text, config, placeholder, about)
 }
 
-/// A verb, the node where it happens, and a number.
+/// Appends a verb, the acting node, and a number.
 fn put_numbered(
     alloc: Global,
     text: &mut Vec<u8>,
     config: &Config,
-    strange: &[u8],
+    placeholder: &[u8],
     verb: &str,
     node: NodeId,
     number: u64,
 ) -> Result<(), NoMemory>
     ensures { OnOk result (text.new.items
-        ≡ text.old.items ++ numbered_text config.now strange.now verb.now node number) }
+        ≡ text.old.items ++ numbered_text config.now placeholder.now verb.now node number) }
 {
-    put_at(text, config, strange, verb, node)?;
+    put_at(text, config, placeholder, verb, node)?;
     let word = format!(in alloc; " {number}")?;
     text.extend_from_slice(word.as_bytes())?;
     Ok(())
 }
 
-/// A verb, the node where it happens, the application, and the node that it is about.
+/// Appends a verb, the acting node, and the application and node concerned.
 fn put_app_about(
     text: &mut Vec<u8>,
     config: &Config,
-    strange: &[u8],
+    placeholder: &[u8],
     verb: &str,
     node: NodeId,
     app: AppId,
     about: NodeId,
 ) -> Result<(), NoMemory>
     ensures { OnOk result (text.new.items
-        ≡ text.old.items ++ app_about_text config.now strange.now verb.now node app about) }
+        ≡ text.old.items ++ app_about_text config.now placeholder.now verb.now node app about) }
 {
-    put_at(text, config, strange, verb, node)?;
+    put_at(text, config, placeholder, verb, node)?;
     text.push(b' ')?;
-    put_app_word(text, config, strange, app)?;
+    put_app_word(text, config, placeholder, app)?;
     text.push(b' ')?;
-    put_node_word(text, config, strange, about)
+    put_node_word(text, config, placeholder, about)
 }
 
-/// What stands behind a line that says yes or no.
+/// The last word of a line with a flag.
 fn flag_text(value: bool) -> &'static str
     ensures { result.now ≡ flag_text value }
 {
     if value { " true" } else { " false" }
 }
 
-/// Puts behind a text the line for a command, without the line feed.
+/// Appends a command, without the line feed.
 fn put_given(
     text: &mut Vec<u8>,
     config: &Config,
-    strange: &[u8],
+    placeholder: &[u8],
     node: NodeId,
     given: Command,
 ) -> Result<(), NoMemory>
     ensures { OnOk result (text.new.items
-        ≡ text.old.items ++ given_text config.now strange.now node given) }
+        ≡ text.old.items ++ given_text config.now placeholder.now node given) }
 {
     match given {
-        Command::Down { node: about } => put_about(text, config, strange, "down", node, about),
+        Command::Down { node: about } => put_about(text, config, placeholder, "down", node, about),
         Command::Permit {
             app,
             node: about,
             value,
         } => {
-            put_app_about(text, config, strange, "permit", node, app, about)?;
+            put_app_about(text, config, placeholder, "permit", node, app, about)?;
             text.extend_from_slice(flag_text(value).as_bytes())?;
             Ok(())
         }
         Command::Start { app, node: about } => {
-            put_app_about(text, config, strange, "start", node, app, about)
+            put_app_about(text, config, placeholder, "start", node, app, about)
         }
         Command::Stop { app, node: about } => {
-            put_app_about(text, config, strange, "stop", node, app, about)
+            put_app_about(text, config, placeholder, "stop", node, app, about)
         }
         Command::Drain { node: about, value } => {
-            put_about(text, config, strange, "drain", node, about)?;
+            put_about(text, config, placeholder, "drain", node, about)?;
             text.extend_from_slice(flag_text(value).as_bytes())?;
             Ok(())
         }
         Command::Takeover { app } => {
-            put_at(text, config, strange, "takeover", node)?;
+            put_at(text, config, placeholder, "takeover", node)?;
             text.push(b' ')?;
-            put_app_word(text, config, strange, app)
+            put_app_word(text, config, placeholder, app)
         }
     }
 }
 
-/// Puts behind a text the line for an event, without the line feed.
+/// Appends an event, without the line feed.
 fn put_line(
     alloc: Global,
     text: &mut Vec<u8>,
     config: &Config,
-    strange: &[u8],
+    placeholder: &[u8],
     event: WorldEvent,
 ) -> Result<(), NoMemory>
     ensures { OnOk result
-        (text.new.items ≡ text.old.items ++ event_line config.now strange.now event) }
+        (text.new.items ≡ text.old.items ++ event_line config.now placeholder.now event) }
 {
     let node = event.node;
     match event.what {
-        What::Boot { now } => put_numbered(alloc, text, config, strange, "boot", node, now),
-        What::Crash => put_at(text, config, strange, "crash", node),
-        What::Command(given) => put_given(text, config, strange, node, given),
-        What::Tick { now } => put_numbered(alloc, text, config, strange, "tick", node, now),
-        What::Ship { to } => put_about(text, config, strange, "ship", node, to),
+        What::Boot { now } => put_numbered(alloc, text, config, placeholder, "boot", node, now),
+        What::Crash => put_at(text, config, placeholder, "crash", node),
+        What::Command(given) => put_given(text, config, placeholder, node, given),
+        What::Tick { now } => put_numbered(alloc, text, config, placeholder, "tick", node, now),
+        What::Ship { to } => put_about(text, config, placeholder, "ship", node, to),
         What::Deliver(message) => {
-            put_numbered(alloc, text, config, strange, "hear", node, message)
+            put_numbered(alloc, text, config, placeholder, "hear", node, message)
         }
         What::Hand(operation) => {
-            put_numbered(alloc, text, config, strange, "hand", node, operation)
+            put_numbered(alloc, text, config, placeholder, "hand", node, operation)
         }
     }
 }
 
-/// Puts behind a text the lines for these events.
+/// Appends the lines of all events.
 fn put_events(
     alloc: Global,
     text: &mut Vec<u8>,
     config: &Config,
-    strange: &[u8],
+    placeholder: &[u8],
     events: &[WorldEvent],
 ) -> Result<(), NoMemory>
     ensures { OnOk result (text.new.items
-        ≡ text.old.items ++ flat_map (event_text config.now strange.now) events.now) }
+        ≡ text.old.items ++ flat_map (event_text config.now placeholder.now) events.now) }
 {
     for event in events {
-        put_line(alloc, text, config, strange, *event)?;
+        put_line(alloc, text, config, placeholder, *event)?;
         text.push(b'\n')?;
     }
     Ok(())
 }
 
-/// And a line for the page of each node.
-fn put_page_lines(text: &mut Vec<u8>, config: &Config, strange: &[u8]) -> Result<(), NoMemory>
+/// Appends a `page` line for each node.
+fn put_page_lines(text: &mut Vec<u8>, config: &Config, placeholder: &[u8]) -> Result<(), NoMemory>
     ensures { OnOk result
-        (text.new.items ≡ text.old.items ++ page_lines config.now strange.now) }
+        (text.new.items ≡ text.old.items ++ page_lines config.now placeholder.now) }
 {
     for number in 0..config.nodes() {
-        put_at(text, config, strange, "page", NodeId(number))?;
+        put_at(text, config, placeholder, "page", NodeId(number))?;
         text.push(b'\n')?;
     }
     Ok(())
 }
 
-/// Whether the byte ends a line.
 fn is_feed(byte: &u8) -> bool
     ensures { result ≡ (byte.now == 10) }
 {
     *byte == b'\n'
 }
 
-/// The lines of a text.
+/// The lines of a text, without their line feeds.
 fn lines_of(alloc: Global, text: &[u8]) -> Result<Vec<&[u8]>, NoMemory>
     ensures { IfOk result (λ lines. map (λ line. line.now) lines.items ≡ lines_of text.now) }
 {
@@ -257,9 +257,9 @@ fn lines_of(alloc: Global, text: &[u8]) -> Result<Vec<&[u8]>, NoMemory>
     Ok(lines)
 }
 
-/// Puts behind a text a line as a comment. An empty one is left out.
-fn put_remark(text: &mut Vec<u8>, line: &[u8]) -> Result<(), NoMemory>
-    ensures { OnOk result (text.new.items ≡ text.old.items ++ remark line.now) }
+/// Appends a line as a comment, unless it's empty.
+fn put_comment(text: &mut Vec<u8>, line: &[u8]) -> Result<(), NoMemory>
+    ensures { OnOk result (text.new.items ≡ text.old.items ++ comment line.now) }
 {
     match line {
         [] => Ok(()),
@@ -272,18 +272,18 @@ fn put_remark(text: &mut Vec<u8>, line: &[u8]) -> Result<(), NoMemory>
     }
 }
 
-/// Puts behind a text these lines as comments.
-fn put_remarks(text: &mut Vec<u8>, lines: &[&[u8]]) -> Result<(), NoMemory>
+/// Appends lines as comments.
+fn put_comments(text: &mut Vec<u8>, lines: &[&[u8]]) -> Result<(), NoMemory>
     ensures { OnOk result (text.new.items
-        ≡ text.old.items ++ flat_map remark (map (λ line. line.now) lines.now)) }
+        ≡ text.old.items ++ flat_map comment (map (λ line. line.now) lines.now)) }
 {
     for line in lines {
-        put_remark(text, line)?;
+        put_comment(text, line)?;
     }
     Ok(())
 }
 
-/// The script behind the canonical text of the configuration.
+/// The whole input, unchecked: the canonical configuration, the divider, and the script.
 fn spelled(
     alloc: Global,
     config: &Config,
@@ -294,21 +294,21 @@ fn spelled(
     requires { canonical.now ≡ canonical_text config.now }
     ensures { IfOk result (λ text. IsRecordText config.now printed.now events.now text.items) }
 {
-    let strange = strange_name(alloc, config)?;
+    let placeholder = placeholder_name(alloc, config)?;
     let lines = lines_of(alloc, printed)?;
     let mut text = Vec::from_slice(alloc, canonical)?;
     text.extend_from_slice(b"--\n")?;
-    put_remarks(&mut text, &lines)?;
-    put_events(alloc, &mut text, config, &strange, events)?;
-    put_page_lines(&mut text, config, &strange)?;
+    put_comments(&mut text, &lines)?;
+    put_events(alloc, &mut text, config, &placeholder, events)?;
+    put_page_lines(&mut text, config, &placeholder)?;
     Ok(text)
 }
 
-/// A run as an input of `distac sim`: the configuration, what was printed of the run as comments, its events, and the page of each
-/// node. What it gives is read again first, and says just that.
+/// Expresses a run as an input of `distac sim`: the configuration, the printed output as comments, the events, and each
+/// node's page. The text is parsed again, so that it's known to express exactly that.
 ///
-/// [`PlayFault::TooLong`] comes where the input has more bytes than one may have, and [`PlayFault::Unspelled`] where it doesn't say
-/// the run: no line of a script has a name with a space.
+/// Fails with [`PlayFault::TooLong`] if the text exceeds the size of an input, and with [`PlayFault::Unspelled`] if it
+/// doesn't parse as the run, because a script line can't contain a name with a space.
 pub fn record_lines(
     alloc: Global,
     config: &Config,

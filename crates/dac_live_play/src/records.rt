@@ -1,4 +1,4 @@
-//! A script run in threads, with the run printed as an input of `distac sim`.
+//! `distac record`: runs a script in threads and prints the run as an input of `distac sim`.
 
 ghost use Rattle.std.specs.Prelude.{◌≡◌, IfSome};
 ghost use Rattle.dac_script.specs.Input.{IsReadWithinBound};
@@ -14,8 +14,8 @@ use std::io::{Eprint, Read, Write};
 use std::sync::Wait;
 use std::thread::Threads;
 
-/// Reads a configuration and a script, runs the script at sites in threads, and prints the run as a script of `distac sim`. Where
-/// there is a fault, it ends as [`live_source`](crate::live_source).
+/// Reads a configuration and a script, runs the script at sites in threads, and prints the run as an input of `distac
+/// sim`. Faults are printed as by [`live_source`](crate::live_source).
 #[tactic(auto, using(crate::proofs::Ends::recorded, crate::proofs::Ends::refused_records, crate::proofs::Ends::given_up_records, crate::proofs::Ends::refused_left, crate::proofs::Ends::given_up_left))]
 pub fn record_source<R: Read, W: Write, T: Eprint + Threads + Wait + Sync>(
     rt: &T,
@@ -26,7 +26,7 @@ pub fn record_source<R: Read, W: Write, T: Eprint + Threads + Wait + Sync>(
     ensures ends { IfSome source.old.left
         (λ bytes. EndsRecord bytes result (W.contents output.old) (W.contents output.new)) }
     ensures reads { IsLeftAt result source.new }
-    // However it ends, no more was read than the bound and one byte.
+    // Whatever the result, at most one byte beyond the bound was read.
     ensures bound { IsReadWithinBound source.old.left source.new.left }
     ensures same_reader { source.new.reader ≡ source.old.reader }
 {
@@ -44,7 +44,7 @@ pub fn record_source<R: Read, W: Write, T: Eprint + Threads + Wait + Sync>(
     LiveEnding::Done
 }
 
-/// As [`record_source`], of a reader of which nothing was read.
+/// Like [`record_source`], with an unread reader.
 pub fn record_reader<R: Read, W: Write, T: Eprint + Threads + Wait + Sync>(
     rt: &T,
     alloc: Global,

@@ -1,4 +1,4 @@
-//! A script run in threads, with what is printed of it.
+//! `distac live`: runs a script in threads and prints its results.
 
 ghost use Rattle.std.specs.Prelude.{◌≡◌, IfSome};
 ghost use Rattle.dac_script.specs.Input.{IsReadWithinBound};
@@ -14,9 +14,8 @@ use std::io::{Eprint, Read, Write};
 use std::sync::Wait;
 use std::thread::Threads;
 
-/// Reads a configuration and a script, runs the script at sites in threads, and prints what comes of it. The whole input
-/// is read and checked before anything is run. All is known to be good before anything is printed. Where there is a fault
-/// of the input, of the run or of the weave, a line that says so is all that is printed.
+/// Reads a configuration and a script, runs the script at sites in threads, and prints the results. The whole input is
+/// checked before anything runs, and the whole run before anything is printed, so that a fault prints only its line.
 #[tactic(auto, using(crate::proofs::Ends::lived, crate::proofs::Ends::refused_ends, crate::proofs::Ends::given_up_ends, crate::proofs::Ends::refused_left, crate::proofs::Ends::given_up_left))]
 pub fn live_source<R: Read, W: Write, T: Eprint + Threads + Wait + Sync>(
     rt: &T,
@@ -27,7 +26,7 @@ pub fn live_source<R: Read, W: Write, T: Eprint + Threads + Wait + Sync>(
     ensures ends { IfSome source.old.left
         (λ bytes. EndsLive bytes result (W.contents output.old) (W.contents output.new)) }
     ensures reads { IsLeftAt result source.new }
-    // However it ends, no more was read than the bound and one byte.
+    // Whatever the result, at most one byte beyond the bound was read.
     ensures bound { IsReadWithinBound source.old.left source.new.left }
     ensures same_reader { source.new.reader ≡ source.old.reader }
 {
@@ -45,7 +44,7 @@ pub fn live_source<R: Read, W: Write, T: Eprint + Threads + Wait + Sync>(
     LiveEnding::Done
 }
 
-/// As [`live_source`], of a reader of which nothing was read.
+/// Like [`live_source`], with an unread reader.
 pub fn live<R: Read, W: Write, T: Eprint + Threads + Wait + Sync>(
     rt: &T,
     alloc: Global,

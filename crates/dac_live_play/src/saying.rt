@@ -1,4 +1,4 @@
-//! Whether an input of `distac sim` says a run.
+//! Checks that an input of `distac sim` expresses a run.
 
 ghost use Rattle.std.specs.Prelude.{◌≡◌, ◌≤◌, true, length, map, IfOk};
 ghost use Rattle.dac_config.specs.Says.{IsConfigOf};
@@ -16,7 +16,7 @@ use dac_script::{Failure, MAX_INPUT, ScriptLine, read_script, split_input};
 use dac_shapes::MAX_TEXT;
 use std::alloc::Global;
 
-/// Whether the line says the event.
+/// Returns whether the line is this event.
 fn says_event(line: &ScriptLine, event: WorldEvent) -> bool
     ensures { result ≡ true → line.now ≡ Happens event }
 {
@@ -26,7 +26,7 @@ fn says_event(line: &ScriptLine, event: WorldEvent) -> bool
     }
 }
 
-/// Whether the line asks for the page of the node.
+/// Returns whether the line prints this node's page.
 fn says_page(line: &ScriptLine, node: NodeId) -> bool
     ensures { result ≡ true → line.now ≡ Shows node }
 {
@@ -36,7 +36,7 @@ fn says_page(line: &ScriptLine, node: NodeId) -> bool
     }
 }
 
-/// Whether as many lines say the events, one after another.
+/// Returns whether the lines are these events, in order.
 fn say_events(lines: &[ScriptLine], events: &[WorldEvent]) -> bool
     requires { length lines.now ≡ length events.now }
     ensures { result ≡ true → lines.now ≡ map Happens events.now }
@@ -49,7 +49,7 @@ fn say_events(lines: &[ScriptLine], events: &[WorldEvent]) -> bool
     true
 }
 
-/// Whether as many lines ask for the page of each node, by their names.
+/// Returns whether the lines print each node's page, in order.
 fn say_pages(config: &Config, lines: &[ScriptLine]) -> bool
     requires { length lines.now ≡ node_count config.now }
     ensures { result ≡ true → lines.now ≡ map Shows (nodes_of config.now) }
@@ -62,7 +62,7 @@ fn say_pages(config: &Config, lines: &[ScriptLine]) -> bool
     true
 }
 
-/// Whether the lines are those of the run.
+/// Returns whether the lines are the run's events, then each node's page.
 fn say_run(config: &Config, lines: &[ScriptLine], events: &[WorldEvent]) -> bool
     ensures { result ≡ true → lines.now ≡ run_lines config.now events.now }
 {
@@ -74,7 +74,8 @@ fn say_run(config: &Config, lines: &[ScriptLine], events: &[WorldEvent]) -> bool
     say_events(front, events) && say_pages(config, back)
 }
 
-/// Whether an input says the configuration, whose canonical text this is, and the run. [`NoMemory`] is the only error.
+/// Returns whether an input has this configuration, given in canonical form, and expresses the run. False if it's too
+/// long or faulty.
 pub(crate) fn is_said(
     alloc: Global,
     config: &Config,

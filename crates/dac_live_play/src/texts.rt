@@ -1,4 +1,4 @@
-//! The line that is printed for a line of a caller.
+//! The line printed for a caller's line.
 
 ghost use Rattle.std.specs.Prelude.{◌≡◌, ◌<◌, ◌++◌, IfOk, OnOk};
 ghost use Rattle.dac_config.specs.Table.{node_count};
@@ -12,10 +12,10 @@ use dac_play::{fed_line, refused_line};
 use dac_script::LiveLine;
 use std::alloc::Global;
 
-/// The callers of a node, by their numbers.
+/// The numbers of a node's callers.
 pub const CALLER_NUMBERS: [u8; 4] = [1, 2, 3, 4];
 
-/// What a caller was answered.
+/// The result of a caller's line.
 fn outcome_line(alloc: Global, answer: &LineAnswer) -> Result<Vec<u8>, NoMemory>
     ensures { IfOk result (λ line. line.items ≡ outcome_text answer.now) }
 {
@@ -29,7 +29,7 @@ fn outcome_line(alloc: Global, answer: &LineAnswer) -> Result<Vec<u8>, NoMemory>
     Ok(line)
 }
 
-/// The line for a line of a caller: the node, the caller's number, and what it was answered.
+/// The line for a caller's line: node, caller and result.
 fn line_of(
     alloc: Global,
     config: &Config,
@@ -48,7 +48,7 @@ fn line_of(
     Ok(text)
 }
 
-/// Puts behind a text the line for a line of a caller, where it is this caller's of this node.
+/// Appends the line for a caller's line if it belongs to this caller of this node.
 pub(crate) fn put_own(
     alloc: Global,
     text: &mut Vec<u8>,
@@ -70,7 +70,7 @@ pub(crate) fn put_own(
     Ok(())
 }
 
-/// Puts behind a text the line for bytes that are fed, where a line does that.
+/// Appends the line for a feed. Appends nothing for other lines.
 pub(crate) fn put_feed(
     alloc: Global,
     text: &mut Vec<u8>,

@@ -1,4 +1,4 @@
--- The delta of one operation is what it means alone.
+-- The delta of one operation is its meaning alone.
 use Rattle.std.proofs.Common.{◌≡◌, Bool, true, false, not, cond, ◌&&◌, ◌||◌, List, [], ◌∷◌, Option, None, Some, refl, sym, ap, ◌∙◌}
 use Rattle.std.specs.declared.cmp.Ordering.{Ordering}
 use Rattle.std.specs.Ordering.{eq_by_cmp}
@@ -43,7 +43,7 @@ use Rattle.dac_operations.specs.declared.act.Act.TheVariants.{Up, Down, Permit, 
 use Rattle.dac_operations.specs.Operations.{Operation, over_list, replaces_itself}
 use Rattle.dac_operations.specs.Seen.{wish_in, permit_in, drain_in, without, seen_by, seen_wish}
 use Rattle.dac_meaning.specs.StateValue.{permissions_of, wishes_of, drains_of}
-use Rattle.dac_meaning.specs.Meaning.{meaning_of, has_dot, replaces, names, wishes, is_start, is_same, flag_said, vote_says, vote_at, permit_vote, drain_vote, life_said, claim_said}
+use Rattle.dac_meaning.specs.Meaning.{meaning_of, has_dot, replaces, names, wishes, is_start, is_same, flag_written, vote_says, vote_at, permit_vote, drain_vote, life_said, claim_said}
 use Rattle.dac_meaning.specs.laws.Chained.{greatest-one}
 use Rattle.dac_meaning.specs.laws.Readers.{or-false, heard-meaning, known-meaning, starts-meaning, permits-meaning, lives-meaning, claims-meaning, drains-meaning}
 use Rattle.dac_meaning.specs.DeltaLaws.{OneIsHeard, PermitDeltaIsMeaning, DrainDeltaIsMeaning, WishDeltaIsMeaning, LifeDeltaIsMeaning, ClaimDeltaIsMeaning}
@@ -64,7 +64,7 @@ or_twice : (s a b : Bool) → (s || a) ≡ (s || b) → (s || a) ≡ (s || (s ||
 or_twice true a b h = refl
 or_twice false a b h = h
 
--- beside a dot, a list names the same without it
+-- with a dot, a list names the same dots as without it
 without_names : (d x : Dot) (over : List Dot) → (same_dot x d || has_key dot_cmp (without d over) x) ≡ (same_dot x d || has_key dot_cmp over x)
 without_names d x [] = refl
 without_names d x (e ∷ over) =
@@ -93,7 +93,7 @@ permit_over (Stop k over) = refl
 permit_over (Drain n i v over) = refl
 permit_over (Claim app term how from) = refl
 
--- what a piece sees of an act names what the act does
+-- a piece's part of an act names the dots that the act names
 seen_names : {A : Type 0} (over_of : A → List Dot) (nothing : List Dot → A) (sees : Act → A) → ((ds : List Dot) → over_of (nothing ds) ≡ ds) → ((a : Act) → over_of (sees a) ≡ over_list a) → (d x : Dot) (a : Act)
     → (same_dot x d || has_key dot_cmp (over_of (seen_by nothing sees d a)) x) ≡ (same_dot x d || has_key dot_cmp (over_list a) x)
 seen_names over_of nothing sees of_nothing of_seen d x a =
@@ -117,7 +117,7 @@ wish_wishes key (Stop k over) = refl
 wish_wishes key (Drain n i v over) = refl
 wish_wishes key (Claim app term how from) = refl
 
--- b: the act replaces its own dot; k: it wishes the key; e: it has the dot; r: it replaces the dot
+-- b: the act replaces its own dot; k: it starts the key; e: it has the dot; r: it replaces the dot
 start_alone : (b k e r : Bool) → (e ≡ true → r ≡ b) → cond b false (k && e) ≡ ((k && e) && not r)
 start_alone true true true r h = sym (ap not (h refl))
 start_alone true true false r h = refl
@@ -127,7 +127,7 @@ start_alone false true false r h = refl
 start_alone false false e r h = refl
 
 module _ (o : Operation) (w : Write) where
-  -- an operation that has the dot replaces it exactly if it replaces itself
+  -- an operation with the dot replaces it exactly if it replaces itself
   own : has_dot w.dot o ≡ true → replaces w.dot o ≡ replaces_itself o.dot o.act
   own e = ap (λ d. replaces d o) (same_dot_is w.dot o.dot e)
 
@@ -151,27 +151,27 @@ wish_delta_is_meaning o = same_wishes (wish.wish_delta o.dot (seen_wish o.dot o.
 
 -- ---- votes
 
--- b: the act replaces its own dot; n, y: it says what is Down or what is Up of the key. e: it has the dot; r: it
+-- b: the act replaces its own dot; n, y: it writes the value for Down, for Up, at the key; e: it has the dot; r: it
 -- replaces the dot
-vote_alone : (b n y e r : Bool) → (e ≡ true → r ≡ b) → cond e (cond b None (flag_said n y)) None ≡ cond (r || false) None (flag_said ((n && e) || false) ((y && e) || false))
-vote_alone b n y true r h = (λ i. cond (sym (h refl) i) None (flag_said n y)) ∙ sides n y r
+vote_alone : (b n y e r : Bool) → (e ≡ true → r ≡ b) → cond e (cond b None (flag_written n y)) None ≡ cond (r || false) None (flag_written ((n && e) || false) ((y && e) || false))
+vote_alone b n y true r h = (λ i. cond (sym (h refl) i) None (flag_written n y)) ∙ sides n y r
   where
-    sides : (n y r : Bool) → cond r None (flag_said n y) ≡ cond (r || false) None (flag_said ((n && true) || false) ((y && true) || false))
+    sides : (n y r : Bool) → cond r None (flag_written n y) ≡ cond (r || false) None (flag_written ((n && true) || false) ((y && true) || false))
     sides n y true = refl
     sides true y false = refl
     sides false true false = refl
     sides false false false = refl
 vote_alone b n y false r h = nothing n y r
   where
-    nothing : (n y r : Bool) → ◌≡◌ {A = Option Flag} None (cond (r || false) None (flag_said ((n && false) || false) ((y && false) || false)))
+    nothing : (n y r : Bool) → ◌≡◌ {A = Option Flag} None (cond (r || false) None (flag_written ((n && false) || false) ((y && false) || false)))
     nothing n y true = refl
     nothing true true false = refl
     nothing true false false = refl
     nothing false true false = refl
     nothing false false false = refl
 
--- what is said of a key, from what a vote says
-one_said : (down : Bool) (flag : Bool → Flag) → flag down ≡ IsDown → flag (not down) ≡ IsUp → (k v : Bool) → cond k (Some (flag v)) None ≡ flag_said (k && is_same v down) (k && is_same v (not down))
+-- the flag at a key, from a vote's value
+one_said : (down : Bool) (flag : Bool → Flag) → flag down ≡ IsDown → flag (not down) ≡ IsUp → (k v : Bool) → cond k (Some (flag v)) None ≡ flag_written (k && is_same v down) (k && is_same v (not down))
 one_said true flag p q true true = ap (λ f. Some f) p
 one_said true flag p q true false = ap (λ f. Some f) q
 one_said false flag p q true true = ap (λ f. Some f) q
@@ -183,17 +183,17 @@ abbrev pub as_flag : {K : Type 0} → (Bool → Flag) → Option (K × Bool) →
 as_flag flag None = None
 as_flag flag (Some u) = Some (u.0, flag u.1)
 
--- A piece sees the votes of acts: `vote` is what an act says, `down` the value that is Down, `votes` what the piece sees
+-- A piece's part of votes: `vote` is the vote of an act, `down` the value for Down, `votes` the piece's part
 module _ {K : Type 0} {R : K → K → Ordering} (total : IsTotalOrder R) (exact : CmpEqualImpliesEq R) (vote : Act → Option (K × Bool)) (down : Bool) (flag : Bool → Flag) (is_down : flag down ≡ IsDown) (is_up : flag (not down) ≡ IsUp)
     {A : Type 0} (over_of : A → List Dot) (votes : A → Option (K × Flag)) (nothing : List Dot → A) (sees : Act → A)
     (of_nothing : (ds : List Dot) → over_of (nothing ds) ≡ ds) (of_seen : (a : Act) → over_of (sees a) ≡ over_list a)
     (no_vote : (ds : List Dot) → votes (nothing ds) ≡ None) (same_vote : (a : Act) → votes (sees a) ≡ as_flag flag (vote a)) where
-  one_told : (key : K) (u : Option (K × Bool)) → says_of R key (as_flag flag u) ≡ flag_said (vote_says R key down u) (vote_says R key (not down) u)
+  one_told : (key : K) (u : Option (K × Bool)) → says_of R key (as_flag flag u) ≡ flag_written (vote_says R key down u) (vote_says R key (not down) u)
   one_told key None = refl
   one_told key (Some u) = one_said down flag is_down is_up (eq_by_cmp R key u.0) u.1
 
-  seen_says : (o : Operation) (key : K) → says_of R key (votes (seen_by nothing sees o.dot o.act)) ≡ cond (replaces_itself o.dot o.act) None (flag_said (vote_says R key down (vote o.act)) (vote_says R key (not down) (vote o.act)))
-  seen_says o key = elim (replaces_itself o.dot o.act) as (λ b. says_of R key (votes (cond b (nothing (without o.dot (over_list o.act))) (sees o.act))) ≡ cond b None (flag_said (vote_says R key down (vote o.act)) (vote_says R key (not down) (vote o.act)))) [
+  seen_says : (o : Operation) (key : K) → says_of R key (votes (seen_by nothing sees o.dot o.act)) ≡ cond (replaces_itself o.dot o.act) None (flag_written (vote_says R key down (vote o.act)) (vote_says R key (not down) (vote o.act)))
+  seen_says o key = elim (replaces_itself o.dot o.act) as (λ b. says_of R key (votes (cond b (nothing (without o.dot (over_list o.act))) (sees o.act))) ≡ cond b None (flag_written (vote_says R key down (vote o.act)) (vote_says R key (not down) (vote o.act)))) [
     | true ↦ ap (says_of R key) (no_vote (without o.dot (over_list o.act)))
     | false ↦ ap (says_of R key) (same_vote o.act) ∙ one_told key (vote o.act)
   ]
@@ -204,7 +204,7 @@ module _ {K : Type 0} {R : K → K → Ordering} (total : IsTotalOrder R) (exact
       ∙ vote_alone (replaces_itself o.dot o.act) (vote_says R w.key down (vote o.act)) (vote_says R w.key (not down) (vote o.act)) (has_dot w.dot o) (replaces w.dot o)
       (λ e. ap (λ d. replaces d o) (same_dot_is w.dot o.dot e))
 
-  -- the delta of an operation is what it means alone
+  -- the delta of an operation is its meaning alone
   pub delta_alone : (o : Operation) (z : VotesValue R) → z.known ≡ (meaning_of (o ∷ [])).known → ((w : KeyedWrite K) → map.get z.standing w ≡ vote_at R vote down (o ∷ []) w)
       → vote_delta R over_of votes o.dot (seen_by nothing sees o.dot o.act) ≡ z
   delta_alone o z known standing = same_votes total exact (vote_delta R over_of votes o.dot (seen_by nothing sees o.dot o.act)) z

@@ -1,4 +1,4 @@
--- Meanings in terms of the operations.
+-- Meanings, in terms of the operations.
 use Rattle.std.proofs.Common.{◌≡◌, ◌≤◌, ◌<◌, ℕ, Bool, true, false, not, cond, List, Option, Some, None, is_some, unwrap_or, refl, sym, ap, subst, ◌∙◌, inl, inr, arith}
 use Rattle.std.specs.List.{list_any}
 use Rattle.std.specs.declared.cmp.Ordering.{Ordering}
@@ -30,13 +30,13 @@ use Rattle.dac_wishes.specs.laws.Keys.{same_key_is, same_key_itself, keys_total,
 use Rattle.dac_wishes.specs.KeyedWrites.{KeyedWrite}
 use Rattle.dac_wishes.specs.laws.KeyedWrites.{tied_is, same_dot_is, same_dot_itself}
 use Rattle.dac_wishes.specs.Writes.{Write, same_dot}
-use Rattle.dac_wishes.specs.PermissionsValue.{says_true}
+use Rattle.dac_wishes.specs.PermissionsValue.{is_permitting}
 use Rattle.dac_wishes.specs.DrainsValue.{origin, says_drained}
 use Rattle.dac_origins.specs.laws.Dots.{origins_total, exact_origins}
 use Rattle.dac_operations.specs.declared.act.Act.{Act}
 use Rattle.dac_operations.specs.declared.act.Act.TheVariants.{Up, Down, Permit, Start, Stop, Drain, Claim}
 use Rattle.dac_operations.specs.Operations.{Operation}
-use Rattle.dac_meaning.specs.Meaning.{meaning_of, has_dot, replaces, is_replaced, names, wishes, is_start, is_same, flag_said, vote_says, value_of, is_vote, vote_said, vote_at, permit_vote, drain_vote, pairs, life_said, claim_said, IsOperationOf, DotsDetermine, Stands}
+use Rattle.dac_meaning.specs.Meaning.{meaning_of, has_dot, replaces, is_replaced, names, wishes, is_start, is_same, flag_written, vote_says, value_of, is_vote, vote_flag, vote_at, permit_vote, drain_vote, pairs, life_said, claim_said, IsOperationOf, DotsDetermine, Stands}
 use Rattle.dac_meaning.specs.MeaningLaws.{HeardAreDots, KnownAreNamed, Names, IsStart, StartsAreUnreplaced, IsVote, PermitsAreUnreplaced, DrainsAreUnreplaced, SaysLife, LivesAreGreatest, DownStaysDown, IsClaim, ClaimsAreGreatest}
 use Rattle.dac_meaning.specs.laws.Members.{found, finds}
 use Rattle.dac_meaning.specs.laws.Chained.{of_said, is_said}
@@ -69,9 +69,9 @@ known_are_named os d = (
   λ f. known-meaning os d ∙ finds (names d) os f.0 f.1.0 (names_if d f.0 f.1.1),
 )
 
--- ---- what stands
+-- ---- standing dots
 
--- what isn't replaced stands
+-- a dot that isn't replaced stands
 stands_of : (d : Dot) (os : List Operation) → is_replaced d os ≡ false → Stands d os
 stands_of d os n o h = false_from_ne_true (replaces d o) (λ t. false≢true (sym n ∙ finds (replaces d) os o h t))
 
@@ -142,16 +142,16 @@ module _ {K : Type 0} {R : K → K → Ordering} (total : IsTotalOrder R) (exact
   of_vote : (w : KeyedWrite K) (v : Bool) (o : Operation) → is_vote R vote w v o ≡ true → IsVote vote w v o
   of_vote w v o t = let parts = and_parts (vote_says R w.key v (vote o.act)) (has_dot w.dot o) t in (dot_of w.dot o parts.1, told_is w.key v (vote o.act) parts.0)
 
-  -- what is said is said by an operation
-  said_there : (w : KeyedWrite K) (os : List Operation) (f : Flag) → vote_said R vote down w os ≡ Some f → list_any (is_vote R vote w (value_of down f)) os ≡ true
+  -- if there is a flag, an operation wrote it
+  said_there : (w : KeyedWrite K) (os : List Operation) (f : Flag) → vote_flag R vote down w os ≡ Some f → list_any (is_vote R vote w (value_of down f)) os ≡ true
   said_there w os f h = there (list_any (is_vote R vote w down) os) (list_any (is_vote R vote w (not down)) os) refl refl f h
     where
-      there : (a b : Bool) → list_any (is_vote R vote w down) os ≡ a → list_any (is_vote R vote w (not down)) os ≡ b → (f : Flag) → flag_said a b ≡ Some f → list_any (is_vote R vote w (value_of down f)) os ≡ true
+      there : (a b : Bool) → list_any (is_vote R vote w down) os ≡ a → list_any (is_vote R vote w (not down)) os ≡ b → (f : Flag) → flag_written a b ≡ Some f → list_any (is_vote R vote w (value_of down f)) os ≡ true
       there true b p q f h = ap (λ (o : Option Flag). list_any (is_vote R vote w (value_of down (unwrap_or o IsUp))) os) (sym h) ∙ p
       there false true p q f h = ap (λ (o : Option Flag). list_any (is_vote R vote w (value_of down (unwrap_or o IsUp))) os) (sym h) ∙ q
       there false false p q f h = absurd (false≢true (ap is_some h))
 
-  -- operations that have their dots alone don't say both
+  -- operations with distinct dots don't write both values
   not_both : (w : KeyedWrite K) (os : List Operation) → DotsDetermine os → list_any (is_vote R vote w (not down)) os ≡ true → list_any (is_vote R vote w down) os ≡ false
   not_both w os agree t = false_from_ne_true (list_any (is_vote R vote w down) os) (λ n.
       let p = found (is_vote R vote w (not down)) os t in
@@ -165,21 +165,21 @@ module _ {K : Type 0} {R : K → K → Ordering} (total : IsTotalOrder R) (exact
       value_in None = false
       value_in (Some u) = u.1
 
-  -- what an operation says is said
-  there_said : (w : KeyedWrite K) (os : List Operation) → DotsDetermine os → (f : Flag) → list_any (is_vote R vote w (value_of down f)) os ≡ true → vote_said R vote down w os ≡ Some f
-  there_said w os agree IsDown t = ap (λ b. flag_said b (list_any (is_vote R vote w (not down)) os)) t
-  there_said w os agree IsUp t = λ i. flag_said (not_both w os agree t i) (t i)
+  -- the flag of a vote is that of an operation that writes it
+  there_said : (w : KeyedWrite K) (os : List Operation) → DotsDetermine os → (f : Flag) → list_any (is_vote R vote w (value_of down f)) os ≡ true → vote_flag R vote down w os ≡ Some f
+  there_said w os agree IsDown t = ap (λ b. flag_written b (list_any (is_vote R vote w (not down)) os)) t
+  there_said w os agree IsUp t = λ i. flag_written (not_both w os agree t i) (t i)
 
-  -- a vote stands with a value exactly if an operation is it with this value and none replaces it
+  -- a vote stands with a value exactly if an operation writes it with this value and none replaces it
   pub votes_are_unreplaced : (os : List Operation) → DotsDetermine os → (w : KeyedWrite K) (f : Flag) → (vote_at R vote down os w ≡ Some f) ↔ (((o : Operation) × (IsOperationOf o os × IsVote vote w (value_of down f) o)) × Stands w.dot os)
   votes_are_unreplaced os agree w f = (
     λ h.
-        let parts = stands_some (is_replaced w.dot os) (vote_said R vote down w os) f h in
+        let parts = stands_some (is_replaced w.dot os) (vote_flag R vote down w os) f h in
         let o = found (is_vote R vote w (value_of down f)) os (said_there w os f parts.1) in
         ((o.0, (o.1.0, of_vote w (value_of down f) o.0 o.1.1)), stands_of w.dot os parts.0),
     λ p.
         let o = p.0 in
-        ap (λ b. cond b None (vote_said R vote down w os)) (of_stands w.dot os p.1)
+        ap (λ b. cond b None (vote_flag R vote down w os)) (of_stands w.dot os p.1)
         ∙ there_said w os agree f (finds (is_vote R vote w (value_of down f)) os o.0 o.1.0 (vote_of w (value_of down f) o.0 o.1.1)),
   )
 
@@ -194,7 +194,7 @@ permit_act key v (Stop k over) t = absurd (false≢true (ap is_some t))
 permit_act key v (Drain n i u over) t = absurd (false≢true (ap is_some t))
 permit_act key v (Claim app term how from) t = absurd (false≢true (ap is_some t))
 
-permit_value : (f : Flag) → value_of false f ≡ says_true f
+permit_value : (f : Flag) → value_of false f ≡ is_permitting f
 permit_value IsUp = refl
 permit_value IsDown = refl
 
@@ -203,7 +203,7 @@ permits_are_unreplaced os agree w f =
     let stand = votes_are_unreplaced keys_total exact_keys permit_vote false os agree w f in (
       λ h.
           let p = stand.0 (sym (permits-meaning os w) ∙ h) in
-          ((p.0.0, (p.0.1.0, (p.0.1.1.0, permit_act w.key (says_true f) p.0.0.act (p.0.1.1.1 ∙ ap (λ v. Some (w.key, v)) (permit_value f))))), p.1),
+          ((p.0.0, (p.0.1.0, (p.0.1.1.0, permit_act w.key (is_permitting f) p.0.0.act (p.0.1.1.1 ∙ ap (λ v. Some (w.key, v)) (permit_value f))))), p.1),
       λ p.
           permits-meaning os w
           ∙ stand.1 ((p.0.0, (p.0.1.0, (p.0.1.1.0, ap permit_vote p.0.1.1.1.1 ∙ ap (λ v. Some (w.key, v)) (sym (permit_value f))))), p.1),

@@ -1,4 +1,4 @@
--- In the order of states the vote that drains outweighs, and the one that forbids.
+-- In the order of states a vote to drain, or to forbid, prevails.
 use Rattle.std.specs.Prelude.{◌≡◌, Bool, true, false, cond, T, [], ◌∷◌, Option, None, Some, is_some, refl}
 use Rattle.std.proofs.Common.{sym, ap, subst, ◌∙◌, inl, inr, true≢false}
 use Rattle.std.specs.Ordering.{is_eq}
@@ -22,12 +22,12 @@ use Rattle.dac_wishes.specs.laws.Permitted.{if_permitted, is_permitted-is}
 use Rattle.dac_meaning.specs.StateValue.{permissions_of, drains_of}
 use Rattle.dac_meaning.specs.Outweighed.{DrainedStays, ForbiddenStays}
 
--- what stands, with its value
+-- a standing vote has a value
 stands : (o : Option Flag) → is_some o ≡ true → (f : Flag) × (o ≡ Some f)
 stands None h = absurd (true≢false (sym h))
 stands (Some f) h = (f, refl)
 
--- above Down is Down alone
+-- only Down is above Down
 above_down : (a b : Option Flag) → StandsBelow IsFlagBelow a b → a ≡ Some Down → is_some b ≡ true → b ≡ Some Down
 above_down a None h e there = absurd (true≢false (sym there))
 above_down None (Some g) h e there = absurd h
@@ -47,7 +47,7 @@ drained_stays x y state below at keeps drained =
     (is_drained-is at (drains_of y)).1
     (d.0, above_down (map.get x.drains (keyed_write at d.0)) (map.get y.drains (keyed_write at d.0)) (below.drains.standing (keyed_write at d.0) (state.drains (keyed_write at d.0) there)) d.1 (keeps d.0 there))
 
--- below Up is Up alone
+-- only Up is below Up
 below_up : (f g : Flag) → IsFlagBelow f g → g ≡ Up → f ≡ Up
 below_up Up g h e = refl
 below_up Down Up h e = absurd h
@@ -56,7 +56,7 @@ below_up Down Down h e = e
 none_some : {X : Type 0} {v : X} {Y : Type 0} → ◌≡◌ {A = Option X} None (Some v) → Y
 none_some e = cc
 
--- where each permit says true, the key is permitted by a default that is true
+-- if each permit is true, the key is permitted with the default true
 permitted_by_all : (ps : DotFlags) → T (is_sorted dot_cmp ps) → ((d : Dot) (f : Flag) → find dot_cmp d ps ≡ Some f → f ≡ Up) → is_permitted_by true ps ≡ true
 permitted_by_all [] s h = refl
 permitted_by_all (p ∷ ps) s h = if_permitted true (p ∷ ps) s (inr ((p, ap (λ r. cond (is_eq r) (Some p.1) (find dot_cmp p.0 ps)) (tied_itself dots_total p.0)), h))

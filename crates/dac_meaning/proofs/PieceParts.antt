@@ -1,12 +1,12 @@
--- The joined deltas of a piece are a part of the meaning. This goes operation by operation, since the join of
--- meanings is the meaning of both.
+-- The joined deltas of a piece are a part of the meaning: by induction over the operations, since the join of meanings
+-- is the meaning of all.
 use Rattle.std.proofs.Common.{◌≡◌, List, [], ◌∷◌, ◌++◌, inl, inr, refl, sym, ap, subst, ◌∙◌}
 use Rattle.std.specs.FinMap as map
 use Rattle.dac_origins.specs.declared.dot.Dot.{Dot}
 use Rattle.dac_lattice.specs.Pieces.{joined}
 use Rattle.dac_chains.specs.Greatest.{alone, greater}
-use Rattle.dac_chains.specs.Lives.{life_cmp, said_life}
-use Rattle.dac_chains.specs.Claims.{claim_cmp, said_claim}
+use Rattle.dac_chains.specs.Lives.{life_cmp, life_report}
+use Rattle.dac_chains.specs.Claims.{claim_cmp, claim_report}
 use Rattle.dac_wishes.specs.WishesValue.{join_wishes, no_wishes}
 use Rattle.dac_wishes.specs.WishMeaning.{wish_delta}
 use Rattle.dac_wishes.specs.PermissionsValue.{join_permissions, no_permissions}
@@ -24,7 +24,7 @@ use Rattle.dac_meaning.specs.PieceParts.{as_seen, PermitsAreJoined, WishesAreJoi
 use Rattle.dac_meaning.proofs.Alone.{permit_delta_is_meaning, drain_delta_is_meaning, wish_delta_is_meaning, life_delta_is_meaning, claim_delta_is_meaning}
 use Rattle.dac_meaning.proofs.Nothing.{nothing_means_bottom}
 
--- an operation put last is among those where it was put first
+-- an operation at the end of a list can be moved to its front
 last_is_first : (o : Operation) (os : List Operation) → AreOperationsOf (os ++ o ∷ []) (o ∷ os)
 last_is_first o [] p h = h
 last_is_first o (q ∷ os) p (inl is) = inr (inl is)
@@ -69,7 +69,7 @@ pub drains_are_joined : DrainsAreJoined
 drains_are_joined = are_joined join_drains no_drains drain_delta drains_of seen_drain refl drains-join drain_delta_is_meaning
 
 pub lives_are_joined : LivesAreJoined
-lives_are_joined = are_joined (greater life_cmp) map.empty (λ d a. alone (said_life d a)) (λ s. s.lives) (λ _ a. seen_life a) refl lives-join life_delta_is_meaning
+lives_are_joined = are_joined (greater life_cmp) map.empty (λ d a. alone (life_report d a)) (λ s. s.lives) (λ _ a. seen_life a) refl lives-join life_delta_is_meaning
 
 pub claims_are_joined : ClaimsAreJoined
-claims_are_joined = are_joined (greater claim_cmp) map.empty (λ d a. alone (said_claim d a)) (λ s. s.claims) (λ _ a. seen_claim a) refl claims-join claim_delta_is_meaning
+claims_are_joined = are_joined (greater claim_cmp) map.empty (λ d a. alone (claim_report d a)) (λ s. s.claims) (λ _ a. seen_claim a) refl claims-join claim_delta_is_meaning

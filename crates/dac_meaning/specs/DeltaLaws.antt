@@ -1,9 +1,9 @@
--- The delta of one operation, part by part: what the operation means alone.
+-- The delta of one operation, part by part: it is the meaning of the operation alone.
 use Rattle.std.specs.Prelude.{◌≡◌, [], ◌∷◌}
 use Rattle.std.specs.FinSet as set
 use Rattle.dac_chains.specs.Greatest.{alone}
-use Rattle.dac_chains.specs.Lives.{said_life}
-use Rattle.dac_chains.specs.Claims.{said_claim}
+use Rattle.dac_chains.specs.Lives.{life_report}
+use Rattle.dac_chains.specs.Claims.{claim_report}
 use Rattle.dac_wishes.specs.WishMeaning.{wish_delta}
 use Rattle.dac_wishes.specs.PermitMeaning.{permit_delta}
 use Rattle.dac_wishes.specs.DrainMeaning.{drain_delta}
@@ -12,7 +12,7 @@ use Rattle.dac_operations.specs.Seen.{seen_wish, seen_permit, seen_drain, seen_l
 use Rattle.dac_meaning.specs.StateValue.{permissions_of, wishes_of, drains_of}
 use Rattle.dac_meaning.specs.Meaning.{meaning_of}
 
--- its dot alone is heard
+-- only the operation's dot is heard
 abbrev pub OneIsHeard : Type 0
 OneIsHeard = (o : Operation) → set.insert set.empty o.dot ≡ (meaning_of (o ∷ [])).heard
 
@@ -27,7 +27,7 @@ abbrev pub DrainDeltaIsMeaning : Type 0
 DrainDeltaIsMeaning = (o : Operation) → drain_delta o.dot (seen_drain o.dot o.act) ≡ drains_of (meaning_of (o ∷ []))
 
 abbrev pub LifeDeltaIsMeaning : Type 0
-LifeDeltaIsMeaning = (o : Operation) → alone (said_life o.dot (seen_life o.act)) ≡ (meaning_of (o ∷ [])).lives
+LifeDeltaIsMeaning = (o : Operation) → alone (life_report o.dot (seen_life o.act)) ≡ (meaning_of (o ∷ [])).lives
 
 abbrev pub ClaimDeltaIsMeaning : Type 0
-ClaimDeltaIsMeaning = (o : Operation) → alone (said_claim o.dot (seen_claim o.act)) ≡ (meaning_of (o ∷ [])).claims
+ClaimDeltaIsMeaning = (o : Operation) → alone (claim_report o.dot (seen_claim o.act)) ≡ (meaning_of (o ∷ [])).claims

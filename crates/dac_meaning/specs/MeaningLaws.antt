@@ -16,7 +16,7 @@ use Rattle.dac_wishes.specs.declared.key.Key.{Key}
 use Rattle.dac_wishes.specs.KeyedWrites.{KeyedWrite}
 use Rattle.dac_wishes.specs.Writes.{Write}
 use Rattle.dac_wishes.specs.WishesValue.{SomeStands}
-use Rattle.dac_wishes.specs.PermissionsValue.{says_true, IsPermitted}
+use Rattle.dac_wishes.specs.PermissionsValue.{is_permitting, IsPermitted}
 use Rattle.dac_wishes.specs.DrainsValue.{DrainWrite, origin, says_drained, IsDrained}
 use Rattle.dac_operations.specs.declared.act.Act.{Act}
 use Rattle.dac_operations.specs.declared.act.Act.TheVariants.{Up, Down, Permit, Start, Drain, Claim}
@@ -24,7 +24,7 @@ use Rattle.dac_operations.specs.Operations.{Operation}
 use Rattle.dac_meaning.specs.StateValue.{IsState, permissions_of, wishes_of, drains_of, bottom, join}
 use Rattle.dac_meaning.specs.Meaning.{meaning_of, replaces, IsOperationOf, AreOperationsOf, DotsDetermine, Stands}
 
--- a dot is heard exactly if it is an operation's
+-- a dot is heard exactly if it is an operation's own
 abbrev pub HeardAreDots : Type 0
 HeardAreDots = (os : List Operation) (d : Dot)
     → (set.contains (meaning_of os).heard d ≡ true) ↔ ((o : Operation) × (IsOperationOf o os × (o.dot ≡ d)))
@@ -42,16 +42,16 @@ KnownAreNamed = (os : List Operation) (d : Dot)
 abbrev pub Starts : Key → Operation → Type 0
 Starts key o = (over : List Dot) × (o.act ≡ Start key over)
 
--- the operation is the start wish
+-- the operation writes the start wish
 abbrev pub IsStart : Write → Operation → Type 0
 IsStart w o = (o.dot ≡ w.dot) × Starts w.key o
 
--- a start wish stands exactly if an operation is it and none replaces it
+-- a start wish stands exactly if an operation writes it and none replaces it
 abbrev pub StartsAreUnreplaced : Type 0
 StartsAreUnreplaced = (os : List Operation) (w : Write)
     → (set.contains (meaning_of os).starts w ≡ true) ↔ (((o : Operation) × (IsOperationOf o os × IsStart w o)) × Stands w.dot os)
 
--- the operation is the vote, with this value
+-- the operation writes the vote, with this value
 abbrev pub IsVote : {K : Type 0} → (Act → Option (K × Bool)) → KeyedWrite K → Bool → Operation → Type 0
 IsVote vote w v o = (o.dot ≡ w.dot) × (vote o.act ≡ Some (w.key, v))
 
@@ -59,49 +59,49 @@ IsVote vote w v o = (o.dot ≡ w.dot) × (vote o.act ≡ Some (w.key, v))
 abbrev pub Permits : Key → Bool → Operation → Type 0
 Permits key value o = (over : List Dot) × (o.act ≡ Permit key value over)
 
--- the operation is the permit, with this value
+-- the operation writes the permit, with this value
 abbrev pub IsPermit : Write → Flag → Operation → Type 0
-IsPermit w f o = (o.dot ≡ w.dot) × Permits w.key (says_true f) o
+IsPermit w f o = (o.dot ≡ w.dot) × Permits w.key (is_permitting f) o
 
--- a permit stands with a value exactly if an operation is it with this value and none replaces it. This asks that no
--- two different operations have one dot
+-- a permit stands with a value exactly if an operation writes it with this value and none replaces it, provided that no
+-- two different operations have the same dot
 abbrev pub PermitsAreUnreplaced : Type 0
 PermitsAreUnreplaced = (os : List Operation) → DotsDetermine os → (w : Write) (f : Flag)
     → (map.get (meaning_of os).permits w ≡ Some f) ↔ (((o : Operation) × (IsOperationOf o os × IsPermit w f o)) × Stands w.dot os)
 
--- the operation drains the incarnation of the node, or ends that
+-- the operation drains the incarnation of the node, or undrains it
 abbrev pub DrainsSo : NodeId → ℕ → Bool → Operation → Type 0
 DrainsSo n i value o = (over : List Dot) × (o.act ≡ Drain n i value over)
 
--- the operation is the drain, with this value
+-- the operation writes the drain, with this value
 abbrev pub IsDrain : DrainWrite → Flag → Operation → Type 0
 IsDrain w f o = (o.dot ≡ w.dot) × DrainsSo w.key.node w.key.inc (says_drained f) o
 
--- a drain stands with a value exactly if an operation is it with this value and none replaces it. This asks that no
--- two different operations have one dot
+-- a drain stands with a value exactly if an operation writes it with this value and none replaces it, provided that no
+-- two different operations have the same dot
 abbrev pub DrainsAreUnreplaced : Type 0
 DrainsAreUnreplaced = (os : List Operation) → DotsDetermine os → (w : DrainWrite) (f : Flag)
     → (map.get (meaning_of os).drains w ≡ Some f) ↔ (((o : Operation) × (IsOperationOf o os × IsDrain w f o)) × Stands w.dot os)
 
--- an incarnation of the node came up by the operation
+-- the operation is the coming up of this incarnation of the node
 abbrev pub IsUpOf : NodeId → ℕ → Operation → Type 0
 IsUpOf n i o = (o.act ≡ Up) × (o.dot.origin ≡ record { node = n; inc = i })
 
--- the operation says this of the node's life: an Up of the node says up, a Down about it says down
+-- the operation reports this life of the node: an Up of the node that it is up, a Down about it that it is down
 abbrev pub SaysLife : NodeId → Life → Operation → Type 0
 SaysLife n l o = ((l.flag ≡ IsUp) × IsUpOf n l.inc o) ⊎ ((l.flag ≡ IsDown) × (o.act ≡ Down n l.inc))
 
--- the life of a node is the greatest that the operations say of it
+-- the life of a node is the greatest that the operations report
 abbrev pub LivesAreGreatest : Type 0
 LivesAreGreatest = (os : List Operation) (n : NodeId)
     → IsGreatest life_cmp (λ l. (o : Operation) × (IsOperationOf o os × SaysLife n l o)) (map.get (meaning_of os).lives n)
 
--- an incarnation that a Down names isn't live, and no earlier one of the node is, whatever else the operations say
+-- neither the incarnation that a Down names nor an earlier one of the node is live, whatever the other operations
 abbrev pub DownStaysDown : Type 0
 DownStaysDown = (os : List Operation) (n : NodeId) (i j : ℕ) → ((o : Operation) × (IsOperationOf o os × (o.act ≡ Down n i)))
     → j ≤ i → ¬ (IsLive (meaning_of os).lives n j)
 
--- the operation is this claim of the application
+-- the operation makes this claim of the application
 abbrev pub IsClaim : AppId → ClaimValue → Operation → Type 0
 IsClaim app c o = (o.dot.origin ≡ c.origin) × (o.act ≡ Claim app c.term c.how c.from)
 
@@ -110,7 +110,7 @@ abbrev pub ClaimsAreGreatest : Type 0
 ClaimsAreGreatest = (os : List Operation) (app : AppId)
     → IsGreatest claim_cmp (λ c. (o : Operation) × (IsOperationOf o os × IsClaim app c o)) (map.get (meaning_of os).claims app)
 
--- what is heard and what stands in a meaning is known in it
+-- heard dots and the dots of standing writes are known
 abbrev pub MeaningsAreStates : Type 0
 MeaningsAreStates = (os : List Operation) → IsState (meaning_of os)
 
@@ -118,36 +118,37 @@ MeaningsAreStates = (os : List Operation) → IsState (meaning_of os)
 abbrev pub NothingMeansBottom : Type 0
 NothingMeansBottom = meaning_of [] ≡ bottom
 
--- lists of the same operations mean the same, whatever their order and repeats
+-- lists of the same operations have the same meaning, whatever the order and repetition
 abbrev pub OrderAndRepeatsAreNothing : Type 0
 OrderAndRepeatsAreNothing = (os ps : List Operation) → AreOperationsOf os ps → AreOperationsOf ps os → meaning_of os ≡ meaning_of ps
 
--- two meanings joined are the meaning of both together
+-- the join of two meanings is the meaning of all the operations
 abbrev pub JoinsAreTogether : Type 0
 JoinsAreTogether =
     (os ps : List Operation) → DotsDetermine (os ++ ps) → join (meaning_of os) (meaning_of ps) ≡ meaning_of (os ++ ps)
 
--- some start of a key stands exactly if an operation starts it that none replaces
+-- a start of a key stands exactly if an operation that none replaces starts it
 abbrev pub WishedHaveStarts : Type 0
 WishedHaveStarts = (os : List Operation) (key : Key)
     → SomeStands key (wishes_of (meaning_of os)) ↔ ((o : Operation) × (IsOperationOf o os × (Starts key o × Stands o.dot os)))
 
--- an operation permits the key, or forbids it, and none replaces that operation
-abbrev pub StandsSaying : Key → Bool → List Operation → Type 0
-StandsSaying key value os = (o : Operation) × (IsOperationOf o os × (Permits key value o × Stands o.dot os))
+-- an operation that none replaces permits the key, or forbids it
+abbrev pub StandingPermit : Key → Bool → List Operation → Type 0
+StandingPermit key value os = (o : Operation) × (IsOperationOf o os × (Permits key value o × Stands o.dot os))
 
--- no permit of the key stands and the default is true, or one stands that says true and none that says false
+-- no permit of the key stands and the default is true, or one that is true stands and none that is false
 abbrev pub IsPermittedBy : Key → Bool → List Operation → Type 0
-IsPermittedBy key default os = (((value : Bool) → ¬ (StandsSaying key value os)) × (default ≡ true))
-    ⊎ (StandsSaying key true os × ¬ (StandsSaying key false os))
+IsPermittedBy key default os = (((value : Bool) → ¬ (StandingPermit key value os)) × (default ≡ true))
+    ⊎ (StandingPermit key true os × ¬ (StandingPermit key false os))
 
--- a key is permitted in a meaning exactly if the operations permit it, where no two different ones have one dot
+-- a key is permitted in a meaning exactly if the operations permit it, provided that no two different ones have the
+-- same dot
 abbrev pub PermittedAreSaid : Type 0
 PermittedAreSaid = (os : List Operation) → DotsDetermine os → (key : Key) (default : Bool)
     → IsPermitted key default (permissions_of (meaning_of os)) ↔ IsPermittedBy key default os
 
--- an incarnation of a node is drained in a meaning exactly if an operation drains it that none replaces, where no two
--- different ones have one dot
+-- an incarnation of a node is drained in a meaning exactly if an operation that none replaces drains it, provided that
+-- no two different ones have the same dot
 abbrev pub DrainedAreSaid : Type 0
 DrainedAreSaid = (os : List Operation) → DotsDetermine os → (n : NodeId) (i : ℕ)
     → IsDrained (origin n i) (drains_of (meaning_of os))

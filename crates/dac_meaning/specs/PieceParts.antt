@@ -1,12 +1,12 @@
--- The parts of a meaning are what its pieces make of the operations: the joined deltas of each piece. So a piece's
--- own definition of what operations mean is that part of their meaning.
+-- The parts of a meaning are the joined deltas of its pieces. Therefore a piece's own definition of the meaning of
+-- operations agrees with the meaning's part.
 use Rattle.std.specs.Prelude.{◌≡◌, List, map as list_map}
 use Rattle.std.specs.FinMap as map
 use Rattle.dac_origins.specs.declared.dot.Dot.{Dot}
 use Rattle.dac_lattice.specs.Pieces.{joined}
 use Rattle.dac_chains.specs.Greatest.{alone, greater}
-use Rattle.dac_chains.specs.Lives.{life_cmp, said_life}
-use Rattle.dac_chains.specs.Claims.{claim_cmp, said_claim}
+use Rattle.dac_chains.specs.Lives.{life_cmp, life_report}
+use Rattle.dac_chains.specs.Claims.{claim_cmp, claim_report}
 use Rattle.dac_wishes.specs.WishesValue.{join_wishes, no_wishes}
 use Rattle.dac_wishes.specs.WishMeaning.{wish_delta}
 use Rattle.dac_wishes.specs.PermissionsValue.{join_permissions, no_permissions}
@@ -19,7 +19,7 @@ use Rattle.dac_operations.specs.Seen.{seen_wish, seen_permit, seen_drain, seen_l
 use Rattle.dac_meaning.specs.StateValue.{permissions_of, wishes_of, drains_of}
 use Rattle.dac_meaning.specs.Meaning.{DotsDetermine, meaning_of}
 
--- what a piece sees of the operations
+-- the operations, with the part of each act that a piece depends on
 abbrev pub as_seen : {A : Type 0} → (Dot → Act → A) → List Operation → List (Dot × A)
 as_seen sees os = list_map (λ (o : Operation). (o.dot, sees o.dot o.act)) os
 
@@ -37,10 +37,10 @@ DrainsAreJoined = (os : List Operation) → DotsDetermine os
 
 abbrev pub LivesAreJoined : Type 0
 LivesAreJoined = (os : List Operation) → DotsDetermine os
-    → joined (greater life_cmp) map.empty (λ d a. alone (said_life d a)) (as_seen (λ _ a. seen_life a) os)
+    → joined (greater life_cmp) map.empty (λ d a. alone (life_report d a)) (as_seen (λ _ a. seen_life a) os)
     ≡ (meaning_of os).lives
 
 abbrev pub ClaimsAreJoined : Type 0
 ClaimsAreJoined = (os : List Operation) → DotsDetermine os
-    → joined (greater claim_cmp) map.empty (λ d a. alone (said_claim d a)) (as_seen (λ _ a. seen_claim a) os)
+    → joined (greater claim_cmp) map.empty (λ d a. alone (claim_report d a)) (as_seen (λ _ a. seen_claim a) os)
     ≡ (meaning_of os).claims

@@ -1,4 +1,4 @@
--- What a state holds, as sets and maps: equal parts are equal values.
+-- The value of a state, as sets and maps: equal parts make equal values.
 use Rattle.std.specs.Prelude.{refl}
 use Rattle.std.specs.Coded.{Coded, code_by, coded×}
 use Rattle.std.specs.FinSet as set
@@ -15,22 +15,22 @@ use Rattle.dac_wishes.specs.DrainsValue.{Drains, DrainsValue, AreDrains, AreDrai
 use Rattle.dac_wishes.specs.WishesValue.{WishesValue, AreWishes, AreWishesBelow, join_wishes}
 use Rattle.dac_wishes.specs.PermissionsValue.{Permits, PermissionsValue, ArePermissions, IsPermissionsBelow, join_permissions}
 
--- What a controller keeps of the operations that it has heard. (`heard` and what stands are after dot stores and
--- causal contexts of delta-state replicated data types. The rest is this project's own.)
+-- The state that a controller stores for the operations that it has received. (`heard` and the standing writes are the
+-- causal contexts and dot stores of delta-state CRDTs. The rest is this project's own.)
 pub record StateValue : Type 0 where
   -- the dots of the operations
   pub heard : Dots
-  -- these, and each dot that one of them replaces
+  -- the dots of the operations, and those that they replace
   pub known : Dots
-  -- the permits that none of them replaces, with their values
+  -- the permits that no operation replaces, with their values
   pub permits : Permits
-  -- the start wishes that none of them replaces
+  -- the start wishes that no operation replaces
   pub starts : Writes
-  -- the life of each node of which they speak
+  -- the life of each node with a report
   pub lives : Lives
-  -- the greatest claim of each application of which they speak
+  -- the greatest claim of each application that was claimed
   pub claims : Claims
-  -- the drains that none of them replaces, with their values
+  -- the drains that no operation replaces, with their values
   pub drains : Drains
 
 abbrev Parts : Type 0
@@ -44,29 +44,29 @@ coded_state =
     (λ p. record { heard = p.0.0; known = p.0.1; permits = p.1.0.0.0; starts = p.1.0.0.1; lives = p.1.0.1.0; claims = p.1.0.1.1; drains = p.1.1 })
     (λ _. refl)
 
--- the permits of a state, beside the dots that it knows
+-- the permits of a state, paired with its known dots
 abbrev pub permissions_of : StateValue → PermissionsValue
 permissions_of s = record { known = s.known; standing = s.permits }
 
--- the start wishes of a state, beside the dots that it knows
+-- the start wishes of a state, paired with its known dots
 abbrev pub wishes_of : StateValue → WishesValue
 wishes_of s = record { known = s.known; standing = s.starts }
 
--- the drains of a state, beside the dots that it knows
+-- the drains of a state, paired with its known dots
 abbrev pub drains_of : StateValue → DrainsValue
 drains_of s = record { known = s.known; standing = s.drains }
 
--- what each value of the type `State` keeps, forged ones too
+-- the invariant of the type `State`, for forged values too
 pub record IsState (s : StateValue) : Type 0 where
-  -- what is heard is known
+  -- heard dots are known
   pub heard : IsSubset s.heard s.known
-  -- what stands is known
+  -- the dots of standing writes are known
   pub permits : ArePermissions (permissions_of s)
   pub starts : AreWishes (wishes_of s)
   pub drains : AreDrains (drains_of s)
 
--- x is below y: y has heard all that x has and knows all that x knows, and no life and no claim is greater in x. What
--- stands in y and is known to x stands in x too, with a value that isn't above. This is written without join.
+-- x is below y: y has heard and knows all that x has, and no life and no claim is greater in x. Each write that stands
+-- in y and is known to x stands in x too, with a value that isn't greater. Stated without join.
 pub record IsBelow (x y : StateValue) : Type 0 where
   pub heard : IsSubset x.heard y.heard
   pub permits : IsPermissionsBelow (permissions_of x) (permissions_of y)
@@ -75,7 +75,7 @@ pub record IsBelow (x y : StateValue) : Type 0 where
   pub claims : AreNotAbove claim_cmp x.claims y.claims
   pub drains : AreDrainsBelow (drains_of x) (drains_of y)
 
--- nothing heard
+-- the empty state
 abbrev pub bottom : StateValue
 bottom = record {
   heard = set.empty;
@@ -87,7 +87,7 @@ bottom = record {
   drains = map.empty;
 }
 
--- two states together, part by part
+-- the join of two states, part by part
 unfoldable pub join : StateValue → StateValue → StateValue
 join s t = record {
   heard = set.union s.heard t.heard;

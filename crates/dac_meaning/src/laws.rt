@@ -1,6 +1,6 @@
-//! The laws of meanings, each as the contract of a function that does nothing.
+//! The laws of meanings, each as the contract of an empty function.
 //!
-//! A proof that needs a law calls its function. The functions take nothing and answer nothing.
+//! A proof that needs a law calls its function.
 ghost use Rattle.dac_lattice.specs.Lattices.{IsLattice};
 ghost use Rattle.dac_meaning.specs.StateValue.{StateValue, IsState, IsBelow, bottom, join};
 ghost use Rattle.dac_meaning.specs.MeaningLaws.{HeardAreDots, KnownAreNamed, PermitsAreUnreplaced, StartsAreUnreplaced, LivesAreGreatest, DownStaysDown, ClaimsAreGreatest, DrainsAreUnreplaced, WishedHaveStarts, PermittedAreSaid, DrainedAreSaid, MeaningsAreStates, NothingMeansBottom, OrderAndRepeatsAreNothing, JoinsAreTogether};
@@ -8,11 +8,11 @@ ghost use Rattle.dac_meaning.specs.Outweighed.{DrainedStays, ForbiddenStays};
 ghost use Rattle.dac_meaning.specs.PieceParts.{PermitsAreJoined, WishesAreJoined, DrainsAreJoined, LivesAreJoined, ClaimsAreJoined};
 ghost use Rattle.dac_meaning.specs.DeltaLaws.{OneIsHeard, PermitDeltaIsMeaning, DrainDeltaIsMeaning, WishDeltaIsMeaning, LifeDeltaIsMeaning, ClaimDeltaIsMeaning};
 
-/// What the parts of a meaning are, in terms of its operations. Heard are their dots, known these and the dots that
-/// they replace. Standing are the permits, start wishes and drains that none of them replaces. The life of a node is the
-/// greatest that an Up of the node or a Down about it says. Who went down stays down: the incarnation that a Down
-/// names isn't live, and no earlier one is. The claim of an application is the greatest of its claims. So a meaning is
-/// always a state, and nothing means the least one.
+/// The parts of a meaning, in terms of its operations. The heard dots are their own, the known dots also those that
+/// they replace. The standing permits, start wishes and drains are those that none of them replaces. The life of a node
+/// is the greatest reported by an Up of the node or a Down about it. A node that went down stays down: neither the
+/// incarnation that a Down names nor an earlier one is live. The claim of an application is the greatest of its claims.
+/// Therefore a meaning is always a state, and no operations mean the least one.
 pub fn parts_of_meaning()
     ensures heard { HeardAreDots }
     ensures known { KnownAreNamed }
@@ -26,28 +26,28 @@ pub fn parts_of_meaning()
     ensures nothing { NothingMeansBottom }
 {}
 
-/// What is wished and permitted in a meaning. A key is wished exactly if an operation starts it that none replaces.
-/// It is permitted in two cases alone. No permit of it stands and the default is true, or one stands that says true
-/// and none that says false. An incarnation is drained exactly if an operation drains it that none replaces.
+/// The wished and permitted keys and the drained incarnations of a meaning. A key is wished exactly if an operation
+/// that none replaces starts it. It is permitted if no permit of it stands and the default is true, or if one that is
+/// true stands and none that is false. An incarnation is drained exactly if an operation that none replaces drains it.
 pub fn keys_of_meaning()
     ensures wished { WishedHaveStarts }
     ensures permitted { PermittedAreSaid }
     ensures drained { DrainedAreSaid }
 {}
 
-/// A meaning is that of a set: the order of the operations and their repeats make no difference.
+/// The meaning depends on the set of operations only: their order and repetition make no difference.
 pub fn order_and_repeats()
     ensures { OrderAndRepeatsAreNothing }
 {}
 
-/// The join of what two sets of operations mean is what all of them mean together, where no two different
-/// operations have one dot.
+/// The join of the meanings of two sets of operations is the meaning of their union, unless two different operations
+/// have the same dot.
 pub fn join_of_meanings()
     ensures { JoinsAreTogether }
 {}
 
-/// The delta that each part of a state takes of an operation is that part of what the operation means alone. Its dot
-/// alone is heard.
+/// The delta of an operation for each piece is that part of the meaning of the operation alone. Only its own dot is
+/// heard.
 pub fn delta_is_meaning()
     ensures heard { OneIsHeard }
     ensures permits { PermitDeltaIsMeaning }
@@ -57,8 +57,8 @@ pub fn delta_is_meaning()
     ensures drains { DrainDeltaIsMeaning }
 {}
 
-/// What each piece makes of the operations that it sees, its joined deltas, is that part of what they mean. It is so
-/// where no two different operations have one dot. So the definitions of the pieces and of meanings are one.
+/// For each piece, the joined deltas of operations are that part of their meaning, unless two different operations have
+/// the same dot. Therefore the definitions of the pieces and of meanings agree.
 pub fn pieces_are_parts()
     ensures permits { PermitsAreJoined }
     ensures starts { WishesAreJoined }
@@ -67,9 +67,9 @@ pub fn pieces_are_parts()
     ensures drains { DrainsAreJoined }
 {}
 
-/// The order of states is a partial order, and the join is the least upper bound of two states. This
-/// holds for every value of the type, whether or not a set of operations means it. The greater state is the one that
-/// drains or forbids: what is drained or forbidden stays so above, as long as none of the votes is replaced.
+/// The order of states is a partial order, and the join is the least upper bound of two states. This holds for every
+/// value of the type, whether or not a set of operations means it. Draining and forbidding are the greater values: a
+/// greater state keeps them, unless one of the votes is replaced.
 pub fn order_of_states()
     ensures lattice { IsLattice IsState IsBelow join }
     ensures least { (s : StateValue) → IsState s → IsBelow bottom s }

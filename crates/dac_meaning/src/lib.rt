@@ -1,9 +1,9 @@
-//! What a set of operations means: the state that controllers keep in place of it.
+//! The meaning of a set of operations: the state that controllers store in its place.
 //!
-//! A set of operations means the dots heard, the dots known, and the permits and start wishes that stand. It also
-//! means the life of each node and the greatest claim of each application. States have an order in which their join
-//! is the least upper bound. The join of what two sets mean is what both mean together. Here are the definitions and
-//! these laws alone, in [`laws`]; they take nothing from how a state is kept.
+//! The meaning of a set of operations consists of the heard dots, the known dots, the standing permits, start wishes
+//! and drains, the life of each node, and the greatest claim of each application. States have an order in which their
+//! join is the least upper bound. The join of the meanings of two sets is the meaning of their union. This crate
+//! contains only the definitions and these [`laws`], independent of the storage of a state.
 #![tactic(auto)]
 
 pub use dac_operations::{Act, Op, OpFault};

@@ -1,4 +1,4 @@
--- What `==` answers at applications.
+-- The derived `==` of applications compares their numbers.
 use Rattle.std.proofs.Common.{◌≡◌, Bool, true, ◌==◌, refl, subst}
 use Rattle.std.proofs.lemmas.Bool.{eqb-true, eq-eqb}
 use Rattle.dac_base.specs.declared.AppId.{AppId}

@@ -1,4 +1,4 @@
-//! What happens at a node.
+//! Events of a node.
 
 ghost use Rattle.std.specs.Prelude.{◌≡◌, ◌↔◌, IfOk, IsTrue};
 
@@ -7,7 +7,7 @@ use dac_base::{NoMemory, NodeId};
 use dac_events::Command;
 use dac_state::Op;
 
-/// What happens at a node.
+/// An event of a node.
 #[derive(Drop)]
 pub enum Event {
     /// The node comes up, under the next incarnation number.
@@ -15,28 +15,28 @@ pub enum Event {
         /// The present moment, in milliseconds.
         now: u64,
     },
-    /// The node goes down and loses all but the number of its incarnation.
+    /// The node goes down and loses everything but its incarnation number.
     Crash,
-    /// An operator's command.
+    /// The node receives an operator's command.
     Command(Command),
-    /// The node looks after its applications.
+    /// The node re-evaluates placement and claims the applications that it should run.
     Tick {
         /// The present moment, in milliseconds.
         now: u64,
     },
-    /// Another node is to be shipped what it hasn't acknowledged, or the whole state.
+    /// The node sends another node the deltas which that one hasn't acknowledged, or the whole state.
     Ship {
-        /// The node that it is shipped to.
+        /// The receiver.
         to: NodeId,
     },
-    /// A message comes.
+    /// The node receives this message.
     Hear(Message),
-    /// One operation comes by itself, whether or not those came that its issuer had heard.
+    /// The node receives this single operation, even if those that its issuer had heard are missing.
     HearOp(Op),
 }
 
 impl Event {
-    /// Whether the two are one event. It takes no memory.
+    /// Whether both are the same event.
     pub fn equal(&self, other: &Self) -> bool
         ensures { IsTrue result ↔ (self.now ≡ other.now) }
     {
@@ -54,7 +54,7 @@ impl Event {
         }
     }
 
-    /// An equal event. [`NoMemory`] is the only error.
+    /// An equal event.
     pub fn copy(&self) -> Result<Self, NoMemory>
         ensures { IfOk result (λ event. event ≡ self.now) }
     {

@@ -1,10 +1,11 @@
-//! What comes to a controller and what it answers, as values.
+//! Messages between controllers, and a controller's events and replies, as values.
 //!
-//! A [`Message`] goes from one controller to another. It brings the sender's whole state, what that state got since
-//! an acknowledgement, or nothing. It acknowledges what the sender got of the receiver. An [`Event`] is anything that
-//! happens at a node. It is a boot, a crash, a command, a tick, a shipment, or a message or a single operation that
-//! comes. A [`Reply`] is the answer to an event that is accepted. Nothing here does anything: each value can be
-//! copied, and a copy is equal. Two values can be compared, and the answer is true exactly where they are equal.
+//! A [`Message`] carries the sender's whole state, a delta interval since an acknowledgement, or nothing, and
+//! acknowledges the receiver's deltas. An [`Event`] is anything that happens at a node: a boot, a crash, a command, a
+//! tick, a ship, or an incoming message or single operation. A [`Reply`] is the result of an accepted event.
+//!
+//! Each type has `equal`, which returns true exactly when both values are equal, and `copy`, which returns an equal
+//! value. Only `copy` allocates. Its only error is `NoMemory`, and its argument stays as it is.
 #![tactic(auto)]
 
 pub use dac_state::State;

@@ -1,16 +1,16 @@
-//! Lists in replies.
+//! Lists in replies, whose contracts see a list instead of a vector.
 ghost use Rattle.std.specs.Prelude.{◌≡◌, ◌↔◌, IfOk, IsTrue};
 
 use dac_base::{AppId, NoMemory};
 use dac_state::Op;
 use std::marker::Model;
 
-/// A list of operations in some order. Contracts see it as the list.
+/// A list of operations, in the order of their vector. Contracts see it as the list.
 pub struct OpList {
     operations: Vec<Op>,
 }
 
-/// Written out: a drop is one call for a proof, wherever it stands.
+/// Written out so that a drop is one call in every proof.
 impl Drop for OpList {
     fn drop(self) {
         let OpList {
@@ -33,14 +33,14 @@ impl Model for OpList {
 }
 
 impl OpList {
-    /// The operations of a vector, in its order. It takes no memory.
+    /// The operations of a vector, in its order.
     pub fn new(operations: Vec<Op>) -> Self
         ensures { result ≡ operations.items }
     {
         OpList { operations }
     }
 
-    /// The vector of the operations. It takes no memory.
+    /// The vector of the operations, in their order.
     pub fn into_vec(self) -> Vec<Op>
         ensures { result.items ≡ self }
     {
@@ -48,14 +48,14 @@ impl OpList {
         operations
     }
 
-    /// The operations in their order.
+    /// The operations, in their order.
     pub fn as_slice(&self) -> &[Op]
         ensures { result.now ≡ self.now }
     {
         self.operations.as_slice()
     }
 
-    /// Whether the two are one list. It takes no memory.
+    /// Whether both lists have equal operations in the same order.
     pub fn equal(&self, other: &Self) -> bool
         ensures { IsTrue result ↔ (self.now ≡ other.now) }
     {
@@ -70,7 +70,7 @@ impl OpList {
         true
     }
 
-    /// An equal list. [`NoMemory`] is the only error.
+    /// An equal list.
     pub fn copy(&self) -> Result<Self, NoMemory>
         ensures { IfOk result (λ copied. copied ≡ self.now) }
     {
@@ -85,12 +85,12 @@ impl OpList {
     }
 }
 
-/// A list of applications in some order. Contracts see it as the list.
+/// A list of applications, in the order of their vector. Contracts see it as the list.
 pub struct AppList {
     apps: Vec<AppId>,
 }
 
-/// Written out: a drop is one call for a proof, wherever it stands.
+/// Written out so that a drop is one call in every proof.
 impl Drop for AppList {
     fn drop(self) {
         let AppList { apps: _apps } = self;
@@ -107,14 +107,14 @@ impl Model for AppList {
 }
 
 impl AppList {
-    /// The applications of a vector, in its order. It takes no memory.
+    /// The applications of a vector, in its order.
     pub fn new(apps: Vec<AppId>) -> Self
         ensures { result ≡ apps.items }
     {
         AppList { apps }
     }
 
-    /// The vector of the applications. It takes no memory.
+    /// The vector of the applications, in their order.
     pub fn into_vec(self) -> Vec<AppId>
         ensures { result.items ≡ self }
     {
@@ -122,21 +122,21 @@ impl AppList {
         apps
     }
 
-    /// The applications in their order.
+    /// The applications, in their order.
     pub fn as_slice(&self) -> &[AppId]
         ensures { result.now ≡ self.now }
     {
         self.apps.as_slice()
     }
 
-    /// Whether the two are one list. It takes no memory.
+    /// Whether both lists have the same applications in the same order.
     pub fn equal(&self, other: &Self) -> bool
         ensures { IsTrue result ↔ (self.now ≡ other.now) }
     {
         self.apps.as_slice() == other.apps.as_slice()
     }
 
-    /// An equal list. [`NoMemory`] is the only error.
+    /// An equal list.
     pub fn copy(&self) -> Result<Self, NoMemory>
         ensures { IfOk result (λ copied. copied ≡ self.now) }
     {

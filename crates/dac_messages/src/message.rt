@@ -1,4 +1,4 @@
-//! What one controller ships to another.
+//! Messages between controllers.
 
 ghost use Rattle.std.specs.Prelude.{◌≡◌, ◌↔◌, IfOk, IsTrue};
 
@@ -7,14 +7,15 @@ use dac_lattice::Lattice;
 use dac_origins::Origin;
 use dac_state::State;
 
-/// What a message brings.
+/// The content of a message.
 #[derive(Drop)]
 pub enum Body {
     /// The sender's whole state.
     Whole(State),
-    /// All that the sender's state got since it had as many deltas as the receiver acknowledged.
+    /// A delta interval: the join of the sender's deltas after those that the receiver acknowledged.
     Interval(State),
-    /// Nothing: the receiver acknowledged all that the sender has. It is shipped for its acknowledgement.
+    /// Nothing, because the receiver acknowledged all deltas of the sender. The message is sent for its
+    /// acknowledgement.
     Nothing,
 }
 
@@ -22,7 +23,7 @@ impl Body {
     ghost use Rattle.std.specs.Option.{option_copied};
     ghost use Rattle.dac_messages.specs.Bodies.{state_in};
 
-    /// The state that it brings, if any. It takes no memory.
+    /// The state that the body carries, if any.
     pub fn state(&self) -> Option<&State>
         ensures { option_copied result ≡ state_in self.now }
     {
@@ -32,7 +33,7 @@ impl Body {
         }
     }
 
-    /// Whether the two are one body. It takes no memory.
+    /// Whether both are the same body.
     pub fn equal(&self, other: &Self) -> bool
         ensures { IsTrue result ↔ (self.now ≡ other.now) }
     {
@@ -44,7 +45,7 @@ impl Body {
         }
     }
 
-    /// An equal body. [`NoMemory`] is the only error.
+    /// An equal body.
     pub fn copy(&self) -> Result<Self, NoMemory>
         ensures { IfOk result (λ body. body ≡ self.now) }
     {
@@ -62,27 +63,27 @@ impl Body {
     }
 }
 
-/// What is on its way from one controller to another. (After the anti-entropy algorithm of Almeida, Shoker and Baquero:
-/// a delta interval or the whole state, with what the sender got from the receiver.)
+/// A message from one controller to another. (After the anti-entropy algorithm of Almeida, Shoker and Baquero: a delta
+/// interval or the whole state, with an acknowledgement.)
 #[derive(Drop)]
 pub struct Message {
-    /// The incarnation that shipped it.
+    /// The sender, an incarnation of a node.
     pub from: Origin,
-    /// The node that it is for.
+    /// The receiving node.
     pub to: NodeId,
-    /// The incarnation of that node that it is for, where it is for one alone. A whole state is for any.
+    /// The receiver's incarnation, if only that one can use the message. A whole state is for any incarnation.
     pub only: Option<u64>,
-    /// How many deltas the sender had when it was shipped.
+    /// How many deltas the sender had when it sent the message.
     pub up_to: u64,
-    /// What it brings.
+    /// The content.
     pub body: Body,
-    /// What the sender acknowledges. It is the latest incarnation of the receiver from which it got anything. With it
-    /// go the most deltas that this one had in a message that was got.
+    /// The sender's cumulative acknowledgement: the receiver's latest incarnation from which it received a state, with
+    /// the greatest delta count of those messages.
     pub ack: Option<(Origin, u64)>,
 }
 
 impl Message {
-    /// Whether the two are one message. It takes no memory.
+    /// Whether both are the same message.
     pub fn equal(&self, other: &Self) -> bool
         ensures { IsTrue result ↔ (self.now ≡ other.now) }
     {
@@ -94,7 +95,7 @@ impl Message {
             && self.body.equal(&other.body)
     }
 
-    /// An equal message. [`NoMemory`] is the only error.
+    /// An equal message.
     pub fn copy(&self) -> Result<Self, NoMemory>
         ensures { IfOk result (λ message. message ≡ self.now) }
     {

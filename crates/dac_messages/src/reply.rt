@@ -1,4 +1,4 @@
-//! What a node answers.
+//! Replies of a node.
 
 ghost use Rattle.std.specs.Prelude.{◌≡◌, ◌↔◌, IfOk, IsTrue};
 
@@ -7,34 +7,34 @@ use crate::message::Message;
 use dac_base::NoMemory;
 use dac_state::Op;
 
-/// What a node answers to an event that it accepts.
+/// The result of an event that a node accepts.
 #[derive(Drop)]
 pub enum Reply {
-    /// The node came up: it issued this operation.
+    /// The node came up and issued this operation, its boot.
     Booted(Op),
     /// The node went down.
     Crashed,
-    /// The command was issued as this operation.
+    /// The node issued this operation for the command.
     Issued(Op),
-    /// The node looked after its applications.
+    /// The node made a pass over its applications.
     Ticked {
-        /// The claims that it issued, in the order of the applications.
+        /// The claims that it issued, in the order of the applications' numbers.
         ops: OpList,
-        /// The applications that it was to claim, but whose terms are used up.
+        /// The applications that it should have claimed, but whose terms are used up.
         passed: AppList,
     },
-    /// The node still waits for others, and does nothing.
+    /// The node still waits at its start gate, so that its tick claims nothing.
     Held,
-    /// The node waited in vain for a mandatory one, and went down.
+    /// A mandatory node wasn't up in time, so the node went down.
     GaveUp,
-    /// This message is on its way.
+    /// The node sends this message.
     Shipped(Message),
-    /// The message or the operation was heard; whether it added anything.
+    /// The node merged the message or the operation; true if it contained anything new.
     Heard(bool),
 }
 
 impl Reply {
-    /// Whether the two are one reply. It takes no memory.
+    /// Whether both are the same reply.
     pub fn equal(&self, other: &Self) -> bool
         ensures { IsTrue result ↔ (self.now ≡ other.now) }
     {
@@ -61,7 +61,7 @@ impl Reply {
         }
     }
 
-    /// An equal reply. [`NoMemory`] is the only error.
+    /// An equal reply.
     pub fn copy(&self) -> Result<Self, NoMemory>
         ensures { IfOk result (λ reply. reply ≡ self.now) }
     {

@@ -1,4 +1,4 @@
--- Which deltas a node keeps no longer.
+-- Which deltas a node drops.
 use Rattle.std.proofs.Common.{◌≡◌, ◌⊎◌, ◌↔◌, ℕ, ◌+◌, ◌-◌, ◌<◌, ◌≤◌, Bool, true, false, length, Option, Some, None, inl, inr, refl, sym, ap, subst, ◌∙◌, arith}
 use Rattle.std.specs.Prelude.{min, max, nat_eq, nat_lt}
 use Rattle.std.proofs.lemmas.Bool.{ltb-true, ltb-false, eqb-true, eqb-false}
@@ -21,7 +21,7 @@ use Rattle.dac_model_node.specs.Dropping.{AllHave, IsHadByAll, DropsSo, DropsInW
 
 -- ---- the base
 
--- what is below the base once so many deltas are there and so many are had by all
+-- the deltas below the base, given how many there are and how many all other nodes have
 below_base : (old had count k : ℕ) → k < count → (k < max (max old (count - MAX_DELTAS)) (min had count)) ↔ ((k < old) ⊎ ((k + MAX_DELTAS < count) ⊎ (k < had)))
 below_base old had count k there = (by_old (nat_lt k old) refl, from)
   where
@@ -38,7 +38,7 @@ below_base old had count k there = (by_old (nat_lt k old) refl, from)
     from (inr (inl h)) = omega (arith, h)
     from (inr (inr h)) = omega (arith, h, there)
 
--- ---- what all others have
+-- ---- deltas that all other nodes have
 
 abbrev zeroth : NodeId
 zeroth = record { 0 = 0 }
@@ -46,7 +46,7 @@ zeroth = record { 0 = 0 }
 abbrev next : NodeId
 next = record { 0 = 1 }
 
--- there is another node below the number, or there is none
+-- there is another node below the number, or none
 another_or_none : (nodes : ℕ) (own : NodeId) → ((node : NodeId) × IsOther nodes own node) ⊎ ((node : NodeId) → ¬ IsOther nodes own node)
 another_or_none nodes own = by_own (nat_eq own.0 0) refl
   where

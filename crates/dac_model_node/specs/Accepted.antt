@@ -1,4 +1,5 @@
--- The same rules on what a node holds: a state, the newest deltas and the waits, in place of the log and the notes.
+-- The rules for the program's node: a state, the newest deltas and the waits, in place of the model node's log and
+-- notes.
 use Rattle.std.specs.Prelude.{◌≡◌, ℕ, ◌+◌, ◌≤◌, true, false, cond, List, [], ◌∷◌, length, Option, Some, None, IfSome, fold}
 use Rattle.dac_base.specs.declared.NodeId.{NodeId}
 use Rattle.dac_origins.specs.declared.dot.Origin.{Origin}
@@ -18,7 +19,7 @@ use Rattle.dac_model_node.specs.Transitions.{Transition, transition_of, moment_o
 use Rattle.dac_model_node.specs.Step.{up}
 use Rattle.dac_deltas.specs.declared.buffer.TheConstants.{MAX_DELTAS}
 
--- what runs after a boot at this moment
+-- a running node after a boot at this moment
 abbrev pub booted : Table → Origin → ℕ → RunningValue
 booted t own now = record {
   origin = own;
@@ -30,7 +31,7 @@ booted t own now = record {
   peers = no_peers;
 }
 
--- what runs after a transition, where so much is noted by then
+-- a running node after a transition, whose waits are `noted` if the transition notes
 abbrev pub running_by : RunningValue → List (Option Noted) → Transition → Option RunningValue
 running_by r noted transition = cond transition.goes_off None (Some (record {
   origin = r.origin;
@@ -47,28 +48,28 @@ abbrev pub reply_by : Table → NodeId → ℕ → Option RunningValue → List 
 reply_by t me last None noted e = Booted (up (record { node = me; inc = last + 1 }))
 reply_by t me last (Some r) noted e = (transition_of t r noted e).reply
 
--- what an accepted event leaves
+-- the node after an accepted event
 abbrev pub left_by : Table → NodeId → ℕ → Option RunningValue → List (Option Noted) → Event → NodeValue
 left_by t me last None noted e =
     record { last = last + 1; running = Some (booted t (record { node = me; inc = last + 1 }) (moment_of e)) }
 left_by t me last (Some r) noted e = record { last = last; running = running_by r noted (transition_of t r noted e) }
 
--- where the event notes which claims are lost, this is noted by then: the notes before and one more
+-- if the event notes which claims are lost, these waits are those before with one more note
 abbrev pub IsNoting : Table → RunningValue → List (Option Noted) → Event → Type 0
 IsNoting t r noted e = (transition_of t r noted e).notes ≡ true → (notes : List Note) → r.waits ≡ waits_of t notes
     → noted ≡ waits_of t (note_of r.state e ∷ notes)
 
--- the same of a node that may be off; one that is off notes nothing
+-- `IsNoting` for a node that may be off, which notes nothing
 abbrev pub IsNotingBy : Table → Option RunningValue → List (Option Noted) → Event → Type 0
 IsNotingBy t None noted e = Unit {0}
 IsNotingBy t (Some r) noted e = IsNoting t r noted e
 
--- the deltas kept are the newest, at most 256
+-- the delta log has the newest deltas, at most 256
 pub record AreNewest (k : KeptDeltas StateValue) : Type 0 where
   pub numbered : k.base + length k.deltas ≡ k.count
   pub few : length k.deltas ≤ MAX_DELTAS
 
--- the event isn't refused, and the node goes on to this value with this reply
+-- the node accepts the event, with this reply, and becomes this value
 pub record AcceptedAs (t : Table) (me : NodeId) (old : NodeValue) (e : Event) (new : NodeValue)
     (answer : Reply) : Type 0 where
   pub accepted : refusal_of t old e ≡ None

@@ -18,14 +18,14 @@ use Rattle.dac_model_node.specs.Step.{model_step}
 abbrev pub HoldsState : ModelNode → Type 0
 HoldsState d = IfSome d.running (λ (r : ModelRunning). IsState (joined r.log))
 
--- Nothing is claimed, and no application is passed but some of these. Or the counters that a tick is taken to need
--- are left no more.
+-- The tick claims nothing, and passes over only some of these applications, or it is refused because too few counters
+-- are left.
 abbrev pub ClaimsNothing : List AppId → Result Reply Refusal → Type 0
 ClaimsNothing passed answer = (answer ≡ Err DotsUsedUp)
     ⊎ ((later : List AppId)
     × ((answer ≡ Ok (Ticked [] later)) × ((app : AppId) → IsAmong app later → IsAmong app passed)))
 
--- After a tick by which a node looked after its applications, a second one at the same moment claims nothing.
+-- After a tick by which a node made its pass, a second one at the same moment claims nothing.
 abbrev pub SecondTickClaimsNothing : Type 0
 SecondTickClaimsNothing =
     (t : Table) (me : NodeId) (d : ModelNode) (now : ℕ) (ops : List Operation) (passed : List AppId)

@@ -1,4 +1,4 @@
--- What an accepted event brings about at its node.
+-- The effect of an accepted event at its node.
 use Rattle.std.specs.Prelude.{List, [], ◌∷◌, IfSome}
 use Rattle.dac_base.specs.declared.NodeId.{NodeId}
 use Rattle.dac_operations.specs.Operations.{Operation}
@@ -19,8 +19,8 @@ issued_by (Issued o) = o ∷ []
 issued_by (Ticked ops passed) = ops
 issued_by _ = []
 
--- What is so once the event is over: a command has taken effect, and what a tick claimed is kept at the own node and
--- runs there.
+-- The effect after the event: a command has taken effect, and the applications that a tick claimed are kept at this
+-- node and run there.
 abbrev pub IsBroughtAbout : Table → Event → Reply → RunningValue → Type 0
 IsBroughtAbout t (Commanded c) reply r = TakesEffect t r.origin r.state c
 IsBroughtAbout t (Tick now) reply r = AreKeptAt t r.state r.origin.node (issued_by reply)
@@ -29,10 +29,10 @@ IsBroughtAbout t e reply r = Unit {0}
 -- the event takes effect at the node
 pub record HasEffect (t : Table) (old : NodeValue) (e : Event) (reply : Reply) (new : NodeValue) : Type 0 where
   pub left : IfSome new.running (IsBroughtAbout t e reply)
-  -- what is claimed is claimed under a later term than any claim of the application that the node had heard
+  -- each claim has a later term than any claim of its application that the node had heard
   pub later : IfSome old.running (λ (r : RunningValue). AreLaterClaims r.state (issued_by reply))
 
--- so each accepted event does
+-- each accepted event has its effect
 abbrev pub EventsTakeEffect : Type 0
 EventsTakeEffect = (t : Table) (me : NodeId) (old : NodeValue) (e : Event) (new : NodeValue) (reply : Reply)
     → AcceptedAs t me old e new reply → HasEffect t old e reply new

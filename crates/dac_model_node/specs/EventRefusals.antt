@@ -21,64 +21,64 @@ use Rattle.dac_commands.specs.Commands.{greatest_counter}
 use Rattle.dac_commands.specs.Causes.{first, no_node, declared_down, refusal_of_command}
 use Rattle.dac_model_node.specs.NodeValue.{NodeValue, RunningValue}
 
--- how many counters a tick is taken to need, whatever it does: one for each application, and one at least
+-- how many counters a tick counts as needing, whatever it claims: one for each application, and at least one
 abbrev pub needed : Table → ℕ
 needed t = max 1 (app_count t)
 
--- fewer counters of the origin are left
+-- fewer counters of the origin are left than a tick needs
 abbrev pub too_few_left : Table → StateValue → Origin → Bool
 too_few_left t s own = nat_lt MAX_COUNTER (greatest_counter own s.known + needed t)
 
--- so many deltas more would pass the last number
+-- the number of the last of so many more deltas would be too great
 abbrev pub too_many_deltas : RunningValue → ℕ → Bool
 too_many_deltas r more = nat_lt MAX_COUNTER (r.kept.count + more)
 
--- why a running node doesn't tick, if it doesn't
+-- causes to refuse a tick
 abbrev pub causes_to_tick : Table → RunningValue → ℕ → List (Bool × Refusal)
 causes_to_tick t r now = (declared_down r.origin r.state, DeclaredDown) ∷ (nat_lt now r.moments.last, MomentBack) ∷
     (too_few_left t r.state r.origin || too_many_deltas r (needed t), DotsUsedUp) ∷ []
 
--- the first of these causes that there is
+-- the refusal of a tick, if any
 abbrev pub refusal_to_tick : Table → RunningValue → ℕ → Option Refusal
 refusal_to_tick t r now = first (causes_to_tick t r now)
 
--- why a running node doesn't ship, if it doesn't
+-- the refusal of a ship, if any
 abbrev pub refusal_to_ship : Table → RunningValue → NodeId → Option Refusal
 refusal_to_ship t r to = first ((no_node t to, UnknownNode) ∷ (nat_eq to.0 r.origin.node.0, OnSelf) ∷
     (is_up_to_date r.peers r.state r.kept.base r.kept.count to, UpToDate) ∷ [])
 
--- the message is for this incarnation: for its node, and for no other incarnation alone
+-- the message is for this node, and isn't only for another incarnation
 abbrev pub is_for : Origin → Message → Bool
 is_for own m = nat_eq m.to.0 own.node.0 && option_map_or (λ inc. nat_eq inc own.inc) m.only true
 
--- a state would be added as one delta more than there can be
+-- the state would be one delta more than there are numbers for
 abbrev pub overflows : RunningValue → StateValue → Bool
 overflows r body = not (is_below body r.state) && too_many_deltas r 1
 
--- why a running node doesn't hear a message, if it doesn't
+-- causes to refuse an incoming message
 abbrev pub causes_to_hear : RunningValue → Message → List (Bool × Refusal)
 causes_to_hear r m = (nat_eq m.from.node.0 r.origin.node.0, OnSelf) ∷ (not (is_for r.origin m), NotForMe) ∷
     (overflows r (content_of m.body), DotsUsedUp) ∷ []
 
--- the first of these causes that there is
+-- the refusal of an incoming message, if any
 abbrev pub refusal_to_hear : RunningValue → Message → Option Refusal
 refusal_to_hear r m = first (causes_to_hear r m)
 
--- why a running node doesn't hear an operation that comes by itself, if it doesn't
+-- the refusal of an incoming single operation, if any
 abbrev pub refusal_to_hear_op : RunningValue → Operation → Option Refusal
 refusal_to_hear_op r o = first ((overflows r (meaning_of (o ∷ [])), DotsUsedUp) ∷ [])
 
--- the first of two causes that there is
+-- the first of two refusals, if any
 abbrev pub otherwise : Option Refusal → Option Refusal → Option Refusal
 otherwise None other = other
 otherwise (Some why) other = Some why
 
--- why a running node doesn't do what a command says, if it doesn't
+-- the refusal of a command at a running node, if any
 abbrev pub refusal_to_obey : Table → RunningValue → Command → Option Refusal
 refusal_to_obey t r c =
     otherwise (refusal_of_command t r.origin r.state c) (first ((too_many_deltas r 1, DotsUsedUp) ∷ []))
 
--- why a running node refuses an event, if it does
+-- the refusal of an event at a running node, if any
 abbrev pub refusal_on : Table → RunningValue → Event → Option Refusal
 refusal_on t r (Boot now) = Some AlreadyOn
 refusal_on t r Crash = None
@@ -88,7 +88,7 @@ refusal_on t r (Ship to) = refusal_to_ship t r to
 refusal_on t r (Hear m) = refusal_to_hear r m
 refusal_on t r (HearOp o) = refusal_to_hear_op r o
 
--- why a node that is off refuses an event, if it does
+-- the refusal of an event at a node that is off, if any
 abbrev pub refusal_off : ℕ → Event → Option Refusal
 refusal_off last (Boot now) = first ((nat_le MAX_INCARNATION last, IncarnationsUsedUp) ∷ [])
 refusal_off last Crash = Some Off
@@ -98,11 +98,11 @@ refusal_off last (Ship to) = Some Off
 refusal_off last (Hear m) = Some Off
 refusal_off last (HearOp o) = Some Off
 
--- why a node with this last incarnation refuses an event, if it does, by what it runs
+-- the refusal of an event at a node, given its last incarnation and its running part
 abbrev pub refusal_by : Table → ℕ → Option RunningValue → Event → Option Refusal
 refusal_by t last None e = refusal_off last e
 refusal_by t last (Some r) e = refusal_on t r e
 
--- why a node refuses an event, if it does.
+-- the refusal of an event at a node, if any
 abbrev pub refusal_of : Table → NodeValue → Event → Option Refusal
 refusal_of t v e = refusal_by t v.last v.running e

@@ -1,4 +1,4 @@
--- What a node hears by an event: the dots that it brings, and no more.
+-- The dots that a node hears by an event: those that the event carries, and no more.
 use Rattle.std.specs.Prelude.{◌≡◌, [], ◌∷◌, map, Some}
 use Rattle.std.specs.FinSet as set
 use Rattle.dac_origins.specs.Dots.{Dots}
@@ -18,13 +18,14 @@ dots_issued (Issued o) = set.from_list (o.dot ∷ [])
 dots_issued (Ticked ops passed) = set.from_list (map (λ (o : Operation). o.dot) ops)
 dots_issued _ = set.empty
 
--- the dots that an event with this reply brings: those of a message's body, of one operation, or those that are issued
+-- the dots that an event with this reply carries: those of a message's body, of a single operation, or of issued
+-- operations
 abbrev pub dots_brought : Event → Reply → Dots
 dots_brought (Hear m) reply = (content_of m.body).heard
 dots_brought (HearOp o) reply = set.from_list (o.dot ∷ [])
 dots_brought _ reply = dots_issued reply
 
--- where the node runs before and after, it has heard exactly what it had and what the event brought
+-- if the node runs before and after the event, it has heard exactly its dots before and those that the event carries
 pub record HearsExactly (old : NodeValue) (e : Event) (reply : Reply) (new : NodeValue) : Type 0 where
   pub each : (s t : StateValue) → state_of old ≡ Some s → state_of new ≡ Some t
       → t.heard ≡ set.union s.heard (dots_brought e reply)

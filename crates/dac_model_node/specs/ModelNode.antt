@@ -1,5 +1,5 @@
--- The model node: each state that it issued or heard since it booted, and each note that its ticks made. The program
--- keeps their join, the newest of them and the waits alone.
+-- The model node, with each state that it issued or heard since its boot, and each note of its ticks. The program
+-- stores only the join of the states, the newest of them, and the waits.
 use Rattle.std.specs.Prelude.{ℕ, ◌-◌, min, max, Bool, List, Option, fold}
 use Rattle.std.specs.Option.{option_map}
 use Rattle.dac_origins.specs.declared.dot.Origin.{Origin}
@@ -12,10 +12,9 @@ use Rattle.dac_decide.specs.declared.moments.Moments.{Moments}
 use Rattle.dac_model_node.specs.NodeValue.{NodeValue, RunningValue}
 use Rattle.dac_deltas.specs.declared.buffer.TheConstants.{MAX_DELTAS}
 
--- A node that runs: its present incarnation, when it was booted and ticked last, and whether its start gate is open.
--- It keeps the notes of its ticks, newest first, and each state that it issued or heard, oldest first. Neither list
--- is ever cut. The base is the number of the first state from which an interval may begin. Beside it stands what is
--- kept of peers.
+-- A running node: its incarnation, the moments of its boot and last tick, and whether its start gate is open. `notes`
+-- are those of its ticks, newest first, and `log` has each state that it issued or heard, oldest first. Neither list is
+-- ever cut. `base` is the number of the first state from which an interval can begin, and `peers` the peer table.
 pub record ModelRunning : Type 0 where
   pub origin : Origin
   pub moments : Moments
@@ -25,20 +24,20 @@ pub record ModelRunning : Type 0 where
   pub base : ℕ
   pub peers : PeersValue
 
--- the number of the last incarnation, and what runs under it
+-- the number of the last incarnation, and its running part
 pub record ModelNode : Type 0 where
   pub last : ℕ
   pub running : Option ModelRunning
 
--- the base after so many states, and a trim: the newest 256 are kept at most, and none below the trim
+-- the base after so many states and a trim: at most the newest 256 states, and none below the trim
 abbrev pub base_after : ℕ → ℕ → ℕ → ℕ
 base_after base count trim = max (max base (count - MAX_DELTAS)) (min trim count)
 
--- the states joined
+-- the join of these states
 abbrev pub joined : List StateValue → StateValue
 joined states = fold join bottom states
 
--- the program's node that it shows as, under a configuration
+-- the program's running node as which the model's shows, under a configuration
 abbrev pub running_shown : Table → ModelRunning → RunningValue
 running_shown t r = record {
   origin = r.origin;
@@ -50,6 +49,6 @@ running_shown t r = record {
   peers = r.peers;
 }
 
--- and so the whole node is shown: the number of its last incarnation is the same
+-- the program's node as which the model node shows
 abbrev pub shown : Table → ModelNode → NodeValue
 shown t d = record { last = d.last; running = option_map (running_shown t) d.running }

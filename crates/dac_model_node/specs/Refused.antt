@@ -1,5 +1,5 @@
--- Why an event is refused, in words. They say which causes an event can have, when each holds, and that the least of
--- those that hold is answered. (The causes and their order are this project's own.)
+-- Refusals in words: which causes an event can have, when each holds, and that the refusal is the least of those that
+-- hold. (The causes and their order are this project's own.)
 use Rattle.std.specs.Prelude.{◌≡◌, ◌⊎◌, ℕ, ◌+◌, ◌<◌, ◌≤◌, true, false, List, [], ◌∷◌, length, Option, None, Some, IfSome}
 use Rattle.std.specs.FinSet as set
 use Rattle.dac_base.specs.declared.limits.TheConstants.{MAX_INCARNATION, MAX_COUNTER, MAX_REPLACED}
@@ -29,7 +29,7 @@ use Rattle.dac_model_node.specs.NodeValue.{NodeValue, RunningValue}
 use Rattle.dac_model_node.specs.EventRefusals.{refusal_of}
 use Rattle.dac_model_node.specs.Shipping.{IsPosition}
 
--- ---- which causes an event can have, beside running out of memory
+-- ---- the causes that an event can have, other than failed allocations
 
 abbrev pub causes_of_command : Command → List Refusal
 causes_of_command (Down node) = Off ∷ DeclaredDown ∷ UnknownNode ∷ OnSelf ∷ NotLive ∷ DotsUsedUp ∷ []
@@ -52,20 +52,20 @@ causes_of_event (Ship to) = Off ∷ UnknownNode ∷ OnSelf ∷ UpToDate ∷ []
 causes_of_event (Hear m) = Off ∷ OnSelf ∷ NotForMe ∷ DotsUsedUp ∷ []
 causes_of_event (HearOp o) = Off ∷ DotsUsedUp ∷ []
 
--- ---- what an event is about
+-- ---- parts of an event
 
 -- the moment of a tick
 abbrev pub tick_in : Event → Option ℕ
 tick_in (Tick now) = Some now
 tick_in _ = None
 
--- the message is for this incarnation: for its node, and for no other incarnation alone
+-- the message is for this node, and isn't only for another incarnation
 abbrev pub IsFor : Origin → Message → Type 0
 IsFor own m = (m.to ≡ own.node) × IfSome m.only (λ inc. inc ≡ own.inc)
 
 -- ---- when a cause holds
 
--- there is one, and P holds of it
+-- the option has a value, and P holds of it
 abbrev pub Some! : {X : Type 0} → Option X → (X → Type 0) → Type 0
 Some! None P = ⊥
 Some! (Some x) P = P x
@@ -74,21 +74,20 @@ Some! (Some x) P = P x
 abbrev pub Running : NodeValue → (Origin → StateValue → Type 0) → Type 0
 Running v P = Some! v.running (λ (r : RunningValue). P r.origin r.state)
 
--- among the dots the origin has a counter, or none yet, after which there are fewer than so many up to the last
+-- after some counter of the origin in the dots, or after 0, fewer than `count` are left up to the last
 abbrev pub LeavesFewer : Dots → Origin → ℕ → Type 0
 LeavesFewer dots own count = (n : ℕ) × (((n ≡ 0) ⊎ (set.contains dots (dot own n) ≡ true)) × (MAX_COUNTER < n + count))
 
--- so many deltas more are too many for their numbers
+-- there are no numbers for so many more deltas
 abbrev pub LacksNumbers : RunningValue → ℕ → Type 0
 LacksNumbers r more = MAX_COUNTER < r.kept.count + more
 
--- fewer counters than so many are left, or fewer numbers of deltas
+-- fewer counters are left than this, or fewer numbers of deltas
 abbrev pub LacksFor : RunningValue → ℕ → Type 0
 LacksFor r count = LeavesFewer r.state.known r.origin count ⊎ LacksNumbers r count
 
--- The counters or the numbers of deltas that are left are too few. A tick is taken to need one for each application and
--- one at least, whatever it does. A command needs one. What a message brings, and an operation that comes by itself,
--- needs a number where it is new.
+-- Too few counters or numbers of deltas are left. A tick counts as needing one for each application, and at least one.
+-- A command needs one. An incoming message or single operation needs a number if it is new.
 abbrev pub Lacks : Table → RunningValue → Event → Type 0
 Lacks t r (Commanded c) = IsUsedUp r.state.known r.origin ⊎ LacksNumbers r 1
 Lacks t r (Tick now) = LacksFor r 1 ⊎ LacksFor r (app_count t)
@@ -96,7 +95,7 @@ Lacks t r (Hear m) = (¬ IsBelow (content_of m.body) r.state) × LacksNumbers r 
 Lacks t r (HearOp o) = (¬ IsBelow (meaning_of (o ∷ [])) r.state) × LacksNumbers r 1
 Lacks t r _ = ⊥
 
--- the node has acknowledged all deltas, and is owed no answer
+-- the receiver has acknowledged all deltas, and no reply to it is due
 abbrev pub IsUpToDate : RunningValue → NodeId → Type 0
 IsUpToDate r to =
     (p : Position) × (IsPosition r to p × ((r.kept.count ≤ p.number) × (set.contains r.peers.owed to ≡ false)))
@@ -105,11 +104,11 @@ IsUpToDate r to =
 abbrev pub IsNotLive : StateValue → NodeId → Type 0
 IsNotLive s node = (inc : ℕ) → ¬ IsLive s.lives node inc
 
--- what the command is to replace is too much
+-- the command would replace too many dots
 abbrev pub AreTooMany : List Dot → Type 0
 AreTooMany over = MAX_REPLACED < length over
 
--- the cause holds of the command where this incarnation runs with this state
+-- the cause holds for the command at this incarnation with this state
 abbrev pub HoldsOfCommand : Table → Origin → StateValue → Command → Refusal → Type 0
 HoldsOfCommand t own s (Down node) UnknownNode = node_count t ≤ node.0
 HoldsOfCommand t own s (Down node) OnSelf = node ≡ own.node
@@ -143,7 +142,7 @@ HoldsOfCommand t own s (Takeover app) LowerPriority =
 HoldsOfCommand t own s (Takeover app) TermsUsedUp = HasLastTerm s app
 HoldsOfCommand t own s c why = ⊥
 
--- the cause holds of the event at a node that runs
+-- the cause holds for the event at a running node
 abbrev pub HoldsRunning : Table → RunningValue → Event → Refusal → Type 0
 HoldsRunning t r (Commanded c) why = HoldsOfCommand t r.origin r.state c why
 HoldsRunning t r (Tick now) MomentBack = now < r.moments.last
@@ -154,7 +153,7 @@ HoldsRunning t r (Hear m) OnSelf = m.from.node ≡ r.origin.node
 HoldsRunning t r (Hear m) NotForMe = ¬ IsFor r.origin m
 HoldsRunning t r e why = ⊥
 
--- the cause holds of the event at the node
+-- the cause holds for the event at the node
 abbrev pub Holds : Table → NodeValue → Event → Refusal → Type 0
 Holds t v e Off = v.running ≡ None
 Holds t v e AlreadyOn = Running v (λ own s. Unit {0})
@@ -164,46 +163,46 @@ Holds t v e IncarnationsUsedUp = MAX_INCARNATION ≤ v.last
 Holds t v e NoMemory = ⊥
 Holds t v e why = Some! v.running (λ (r : RunningValue). HoldsRunning t r e why)
 
--- ---- what is answered
+-- ---- the refusal
 
--- it is one of these
+-- the list contains the cause
 abbrev pub IsOneOf : Refusal → List Refusal → Type 0
 IsOneOf why [] = ⊥
 IsOneOf why (r ∷ rs) = (why ≡ r) ⊎ IsOneOf why rs
 
--- none of these holds
+-- no cause of the list holds
 abbrev pub NoneHolds : (Refusal → Type 0) → List Refusal → Type 0
 NoneHolds Holding rs = (why : Refusal) → IsOneOf why rs → ¬ Holding why
 
--- one of these that holds, and none that holds has a lesser number
+-- the cause is in the list and holds, and none that holds has a smaller number
 pub record IsLeastOf (Holding : Refusal → Type 0) (rs : List Refusal) (why : Refusal) : Type 0 where
   pub can : IsOneOf why rs
   pub holds : Holding why
   pub least : (other : Refusal) → IsOneOf other rs → Holding other → number_of why ≤ number_of other
 
--- nothing refuses the event
+-- no cause to refuse the event holds
 abbrev pub IsFree : Table → NodeValue → Event → Type 0
 IsFree t v e = NoneHolds (Holds t v e) (causes_of_event e)
 
--- this is why the event is refused
+-- the event is refused for this cause
 abbrev pub IsRefused : Table → NodeValue → Event → Refusal → Type 0
 IsRefused t v e why = IsLeastOf (Holds t v e) (causes_of_event e) why
 
--- the least cause is answered where one holds, and `NoMemory` only where none does
+-- the refusal is the least cause, or `NoMemory` if no cause holds
 abbrev pub IsAnsweredBy : Table → NodeValue → Event → Refusal → Type 0
 IsAnsweredBy t v e why = IsRefused t v e why ⊎ ((why ≡ NoMemory) × IsFree t v e)
 
--- ---- the table of causes answers so
+-- ---- the laws of the table of causes
 
--- what refuses an event is the least of the causes that hold
-abbrev pub AnswersTheLeast : Type 0
-AnswersTheLeast =
+-- a refused event is refused for the least cause that holds
+abbrev pub RefusesForTheLeast : Type 0
+RefusesForTheLeast =
     (t : Table) (v : NodeValue) (e : Event) (why : Refusal) → refusal_of t v e ≡ Some why → IsRefused t v e why
 
--- where nothing refuses an event, no cause of it holds
+-- if an event is accepted, no cause to refuse it holds
 abbrev pub RefusesNoOther : Type 0
 RefusesNoOther = (t : Table) (v : NodeValue) (e : Event) → refusal_of t v e ≡ None → IsFree t v e
 
--- running out of memory is no cause of the table
-abbrev pub NeverWantsMemory : Type 0
-NeverWantsMemory = (t : Table) (v : NodeValue) (e : Event) → ¬ (refusal_of t v e ≡ Some NoMemory)
+-- the table never refuses because of memory
+abbrev pub NeverRefusesForMemory : Type 0
+NeverRefusesForMemory = (t : Table) (v : NodeValue) (e : Event) → ¬ (refusal_of t v e ≡ Some NoMemory)

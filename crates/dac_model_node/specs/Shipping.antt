@@ -1,4 +1,4 @@
--- What is shipped, in words and by the log of the model node.
+-- Shipped messages in words, by the log of the model node.
 use Rattle.std.specs.Prelude.{◌≡◌, ℕ, ◌<◌, ◌≤◌, drop, length, Option, None, Some, Ok}
 use Rattle.std.specs.FinMap as map
 use Rattle.dac_base.specs.declared.NodeId.{NodeId}
@@ -17,8 +17,8 @@ use Rattle.dac_model_node.specs.NodeValue.{NodeValue, RunningValue}
 use Rattle.dac_model_node.specs.Step.{model_step}
 use Rattle.dac_model_node.specs.ModelNode.{ModelNode, ModelRunning, joined, running_shown, shown}
 
--- The position is that from which an interval for a node may begin. The incarnation is that of the node's greatest
--- life, it acknowledged the number, and nothing from there on is dropped.
+-- The position from which an interval for a node can begin: its incarnation is that of the node's greatest life and
+-- acknowledged this number, and no later delta is dropped.
 pub record IsPosition (r : RunningValue) (to : NodeId) (p : Position) : Type 0 where
   pub life : Life
   pub lives : map.get r.state.lives to ≡ Some life
@@ -26,8 +26,8 @@ pub record IsPosition (r : RunningValue) (to : NodeId) (p : Position) : Type 0 w
   pub acked : map.get r.peers.acked (record { node = to; inc = p.inc }) ≡ Some p.number
   pub kept : r.kept.base ≤ p.number
 
--- The whole state, for any incarnation, exactly where there is no such position. Else the body is for the incarnation
--- of the position alone. It is what the log got from the position on, or nothing where the log ends there.
+-- Without such a position, the body is the whole state, for any incarnation. Otherwise it is for the position's
+-- incarnation only: the join of the log after the position, or nothing if the log ends there.
 abbrev pub IsBody : Table → ModelRunning → NodeId → Option ℕ → Body → Type 0
 IsBody t r to only (Whole s) =
     (only ≡ None) × ((s ≡ joined r.log) × ((p : Position) → ¬ IsPosition (running_shown t r) to p))
@@ -37,13 +37,13 @@ IsBody t r to only (Interval s) = (p : Position)
 IsBody t r to only Nothing =
     (p : Position) × (IsPosition (running_shown t r) to p × ((only ≡ Some p.inc) × (length r.log ≤ p.number)))
 
--- the position in its deltas up to which something was got from a node last, if anything was
+-- the acknowledgement is the latest position got from the node, if any
 abbrev pub IsAckShipped : ModelRunning → NodeId → Option (Origin × ℕ) → Type 0
 IsAckShipped r node None = map.get r.peers.got node ≡ None
 IsAckShipped r node (Some ack) =
     (ack.0.node ≡ node) × (map.get r.peers.got node ≡ Some (record { inc = ack.0.inc; number = ack.1 }))
 
--- what a running node ships to another
+-- the message that a running node ships to another
 pub record IsShipped (t : Table) (r : ModelRunning) (node : NodeId) (m : Message) : Type 0 where
   pub from : m.from ≡ r.origin
   pub to : m.to ≡ node
@@ -58,11 +58,11 @@ ShipsBy t (Some r) (Ship to) _ = ⊥
 ShipsBy t None (Ship to) reply = ⊥
 ShipsBy t running e reply = Unit {0}
 
--- so it is by each model node that shows as the value
+-- `ShipsBy` for each model node that shows as the value
 abbrev pub ShipsSo : Table → NodeValue → Event → Reply → Type 0
 ShipsSo t old e reply = (d : ModelNode) → shown t d ≡ old → ShipsBy t d.running e reply
 
--- whatever the model node answers to a ship that it accepts is such a message
+-- the model node's reply to an accepted ship is such a message
 abbrev pub ShipsInWords : Type 0
 ShipsInWords = (t : Table) (me : NodeId) (d : ModelNode) (e : Event) (reply : Reply)
     → (model_step t me d e).answer ≡ Ok reply → ShipsBy t d.running e reply

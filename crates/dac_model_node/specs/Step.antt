@@ -18,11 +18,11 @@ use Rattle.dac_model_node.specs.ModelNode.{ModelNode, ModelRunning, joined, base
 use Rattle.dac_model_node.specs.Transitions.{Transition, transition_of, moment_of, note_of}
 use Rattle.dac_model_node.specs.EventRefusals.{refusal_of}
 
--- the operation that a boot issues
+-- the operation of a boot
 abbrev pub up : Origin → Operation
 up own = operation (dot own 1) Up
 
--- a node that comes up as this incarnation at this moment
+-- a node that boots as this incarnation at this moment
 abbrev pub comes_up : Origin → ℕ → ModelRunning
 comes_up own now = record {
   origin = own;
@@ -34,7 +34,7 @@ comes_up own now = record {
   peers = no_peers;
 }
 
--- what runs after a transition, with this note if it notes
+-- a running node after a transition, with this note if the transition notes
 abbrev pub goes_on : ModelRunning → Note → Transition → Option ModelRunning
 goes_on r note transition = cond transition.goes_off None (Some (record {
   origin = r.origin;
@@ -46,16 +46,16 @@ goes_on r note transition = cond transition.goes_off None (Some (record {
   peers = transition.peers;
 }))
 
--- what an accepted event does at a running model node
+-- the transition of an accepted event at a running model node
 abbrev pub transition_on : Table → ModelRunning → Event → Transition
 transition_on t r e = transition_of t (running_shown t r) (waits_of t (note_of (joined r.log) e ∷ r.notes)) e
 
--- what a step gives: the node after it, and the answer
+-- the result of a step: the node after it, and a reply or a refusal
 pub record Stepped : Type 0 where
   pub node : ModelNode
   pub answer : Result Reply Refusal
 
--- an event that isn't refused
+-- the step of an accepted event
 abbrev pub accepted : Table → NodeId → ℕ → Option ModelRunning → Event → Stepped
 accepted t me last None e =
     let own : Origin = record { node = me; inc = last + 1 } in
@@ -65,21 +65,21 @@ accepted t me last (Some r) e = record {
   answer = Ok (transition_on t r e).reply;
 }
 
--- a step, where this refuses the event, if anything does
+-- a step, given the refusal, if any
 abbrev pub step_by : Option Refusal → Table → NodeId → ModelNode → Event → Stepped
 step_by (Some why) t me d e = record { node = d; answer = Err why }
 step_by None t me d e = accepted t me d.last d.running e
 
--- one event at a node, which boots as node me
+-- the step of one event at the node with number me
 abbrev pub model_step : Table → NodeId → ModelNode → Event → Stepped
 model_step t me d e = step_by (refusal_of t (shown t d) e) t me d e
 
--- From old, the program's node answers and goes on to new as each model node that shows as old.
+-- The program's node steps from old to new, with this result, as each model node does that shows as old.
 pub record Steps (t : Table) (me : NodeId) (old : NodeValue) (e : Event) (new : NodeValue)
     (answer : Result Reply Refusal) : Type 0 where
   pub by : (d : ModelNode) → shown t d ≡ old
       → (shown t (model_step t me d e).node ≡ new) × ((model_step t me d e).answer ≡ answer)
 
--- some model node shows as the value
+-- a model node shows as the value
 abbrev pub IsShown : Table → NodeValue → Type 0
 IsShown t v = (d : ModelNode) × (shown t d ≡ v)

@@ -1,5 +1,5 @@
-//! The laws of refusals, of ticks, of ships and of what is kept no longer, each as a clause of a function that does nothing.
-ghost use Rattle.dac_model_node.specs.Refused.{AnswersTheLeast, RefusesNoOther, NeverWantsMemory};
+//! The laws of refusals, ticks, ships and dropped deltas, each as a clause of a function that does nothing.
+ghost use Rattle.dac_model_node.specs.Refused.{RefusesForTheLeast, RefusesNoOther, NeverRefusesForMemory};
 ghost use Rattle.dac_model_node.specs.Again.{SecondTickClaimsNothing};
 ghost use Rattle.dac_model_node.specs.Shipping.{ShipsInWords};
 ghost use Rattle.dac_model_node.specs.Dropping.{DropsInWords};
@@ -7,49 +7,48 @@ ghost use Rattle.dac_model_node.specs.Effect.{EventsTakeEffect};
 ghost use Rattle.dac_model_node.specs.Gates.{OpenIsOpen, OpenStays, TicksOpen};
 ghost use Rattle.dac_model_node.specs.HeldBack.{HeldTicksCount, HeldTicksNoteNothing};
 
-/// The table of causes answers, of the causes that the event can have and that hold in words, the one with the least
-/// number. It lets an event through only where none of them holds, and it never answers `NoMemory`.
+/// The table of causes refuses an event for the cause with the least number, of those that the event can have and that
+/// hold in words. It accepts an event only if none of them holds, and never refuses because of memory.
 pub fn refusals_in_words()
-    ensures least { AnswersTheLeast }
+    ensures least { RefusesForTheLeast }
     ensures free { RefusesNoOther }
-    ensures memory { NeverWantsMemory }
+    ensures memory { NeverRefusesForMemory }
 {}
 
-/// A node that has looked after its applications at a moment claims nothing by a second tick at the same moment.
+/// After a node's pass over its applications, a second tick at the same moment claims nothing.
 pub fn second_tick_claims_nothing()
     ensures { SecondTickClaimsNothing }
 {}
 
-/// A node that ships answers a message that is in words what is to be shipped. It brings the whole state, for any
-/// incarnation of the receiver, exactly where there is no position from which an interval may begin. Else it brings
-/// what the log got from that position on, or nothing where the log ends there. It is then for the incarnation of the
-/// position alone.
+/// A shipped message is the one that the words describe. Without a position from which an interval can begin, it
+/// carries the whole state, for any incarnation of the receiver. Otherwise it is for the position's incarnation only,
+/// and carries the interval of the log after the position, or nothing if the log ends there.
 pub fn ships_in_words()
     ensures { ShipsInWords }
 {}
 
-/// What `Keeps` says of the deltas that a node keeps, in words. Of the deltas that there are after an event, a node that runs on
-/// keeps one no longer exactly in these cases. It kept it no longer before, 256 later ones are there, or a message came and all
-/// others have acknowledged the delta by then.
+/// `Keeps` in words, for dropped deltas. A node that runs on after an event has dropped a delta in exactly these cases:
+/// it had dropped it before, there are 256 later ones, or a message came in and all other nodes have acknowledged the
+/// delta.
 pub fn drops_in_words()
     ensures { DropsInWords }
 {}
 
-/// An event that is accepted takes effect: a command in the state that its operation leaves, and the claims of a tick in the
-/// state that all of them leave.
+/// An accepted event takes effect: a command in the state that its operation leaves, and the claims of a tick in the
+/// state after all of them.
 pub fn events_take_effect()
     ensures { EventsTakeEffect }
 {}
 
-/// A tick that is held back notes nothing, so no wait of a failover begins or ends while the start gate is shut. Its moment
-/// counts all the same: a tick at an earlier one is refused after it.
+/// A tick that is held back notes nothing, so that no failover timer starts or ends while the start gate is shut. Its
+/// moment still counts: a later tick at an earlier moment is refused.
 pub fn held_ticks_wait()
     ensures notes { HeldTicksNoteNothing }
     ensures moment { HeldTicksCount }
 {}
 
-/// A tick by which a node looks after its applications leaves its start gate open. It stays so until the node goes off, and up to
-/// then the node never waits for others again, nor gives up.
+/// A node's pass over its applications leaves its start gate open. The gate stays open until the node goes off, so that
+/// the node never waits for others again, nor gives up.
 pub fn open_gates_stay()
     ensures opened { TicksOpen }
     ensures stays { OpenStays }

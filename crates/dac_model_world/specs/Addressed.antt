@@ -1,4 +1,4 @@
--- That what is shipped goes to the node that the ship names.
+-- Ships send messages to the nodes that they name.
 use Rattle.std.specs.Prelude.{◌≡◌, List, [], ◌∷◌, Result, Ok, Err}
 use Rattle.dac_base.specs.declared.NodeId.{NodeId}
 use Rattle.dac_events.specs.declared.WorldEvent.{WorldEvent}
@@ -7,14 +7,14 @@ use Rattle.dac_messages.specs.declared.reply.Reply.{Reply}
 use Rattle.dac_messages.specs.declared.reply.Reply.TheVariants.{Shipped}
 use Rattle.dac_events.specs.declared.world_fault.WorldFault.{WorldFault}
 
--- A message is the answer to a ship at the node that it is from to the node that it is for. A ship that isn't refused
--- has no other answer.
+-- A message is the result of a ship, at the node that it is from, to the node that it is for. An accepted ship has no
+-- other result.
 abbrev pub IsAddressed : WorldEvent → Result Reply WorldFault → Type 0
 IsAddressed e (Err fault) = Unit {0}
 IsAddressed e (Ok (Shipped m)) = (e.what ≡ Ships m.to) × (m.from.node ≡ e.node)
 IsAddressed e (Ok _) = (to : NodeId) → ¬ (e.what ≡ Ships to)
 
--- so are the answers to these events, one after another
+-- the messages of all these events go to the nodes that the ships name
 abbrev pub AreAddressed : List WorldEvent → List (Result Reply WorldFault) → Type 0
 AreAddressed [] answers = Unit {0}
 AreAddressed (e ∷ es) [] = Unit {0}

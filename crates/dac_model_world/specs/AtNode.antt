@@ -1,4 +1,4 @@
--- What an event at a node does to the program's world.
+-- The effect of an event at a node on the program's world.
 use Rattle.std.specs.Prelude.{◌≡◌, ℕ, Some, Result, Ok}
 use Rattle.std.specs.List.{slice_get}
 use Rattle.dac_base.specs.declared.NodeId.{NodeId}
@@ -12,18 +12,18 @@ use Rattle.dac_events.specs.declared.world_fault.WorldFault.{WorldFault}
 use Rattle.dac_model_world.specs.WorldValue.{WorldValue}
 use Rattle.dac_model_world.specs.ModelWorld.{Follows, happens_by, event_of}
 
--- what the node has heard grows by what the event brings, and by no more, and no other node changes
+-- the node hears the dots that the event brings, and no others, and no other node changes
 pub record HearsAt (old : WorldValue) (node : NodeId) (e : Event) (reply : Reply) (new : WorldValue) : Type 0 where
   pub hears : (x y : NodeValue) → slice_get old.nodes node.0 ≡ Some x → slice_get new.nodes node.0 ≡ Some y
       → HearsExactly x e reply y
   pub others : (n : ℕ) → ¬ (n ≡ node.0) → slice_get new.nodes n ≡ slice_get old.nodes n
 
--- so does the event of the node that an event of the world is
+-- if the event of the world leads to one of its node, the node hears the dots that it brings, and no others
 abbrev pub HearsIn : WorldValue → WorldEvent → Reply → WorldValue → Type 0
 HearsIn old w reply new =
     (e : Event) → event_of old.operations old.messages w.what ≡ Ok e → HearsAt old w.node e reply new
 
--- the node's event happens as in the model worlds, and the node hears what it brings
+-- the event happens as in the model worlds, and the node hears what it brings
 pub record HappensAt (t : Table) (old : WorldValue) (node : NodeId) (what : Result Event WorldFault)
     (answer : Result Reply WorldFault) (new : WorldValue) : Type 0 where
   pub follows : Follows t old (λ w. happens_by t w node what) answer new

@@ -1,5 +1,5 @@
--- Which operations were causally before which, and what follows from it for each controller. (Causal order is after
--- Lamport, and maximal writes are after replicated data types that keep what concurrent writes say.)
+-- Causal order of operations, and its consequences for each controller. (Causal order is after Lamport; maximal writes
+-- are after replicated data types that keep concurrent writes.)
 use Rattle.std.specs.Prelude.{◌≡◌, ◌⊎◌, ◌↔◌, ℕ, List, [], ◌∷◌, Some, Result, Ok}
 use Rattle.dac_base.specs.declared.NodeId.{NodeId}
 use Rattle.dac_origins.specs.declared.dot.Dot.{Dot}
@@ -36,7 +36,7 @@ pub record IsCausallyBefore (w : SetWorld) (a b : Operation) : Type 0 where
   pub is : issue.operation ≡ b
   pub held : IsOperationOf a issue.before
 
--- with each of the operations come all that were causally before it
+-- the operations contain, with each of them, all that were causally before it
 abbrev pub IsClosed : SetWorld → List Operation → Type 0
 IsClosed w os = (a b : Operation) → IsOperationOf b os → IsCausallyBefore w a b → IsOperationOf a os
 
@@ -56,12 +56,12 @@ abbrev pub IsStopOf : Key → Act → Type 0
 IsStopOf key (Stop k over) = k ≡ key
 IsStopOf key _ = ⊥
 
--- the act drains the incarnation of a node, or ends that
+-- the act starts or ends a drain of the incarnation
 abbrev pub IsDrainOf : Origin → Act → Type 0
 IsDrainOf at (Drain node inc value over) = origin node inc ≡ at
 IsDrainOf at _ = ⊥
 
--- one of the operations that writes so, where none of them that ends such a write comes after it
+-- one of the operations is such a write, and none of them that ends it comes causally after it
 pub record IsMaximal (Writes Ends : Act → Type 0) (w : SetWorld) (os : List Operation) (o : Operation) : Type 0 where
   pub there : IsOperationOf o os
   pub writes : Writes o.act
@@ -71,7 +71,7 @@ pub record IsMaximal (Writes Ends : Act → Type 0) (w : SetWorld) (os : List Op
 abbrev pub IsMaximalPermit : SetWorld → List Operation → Key → Operation → Type 0
 IsMaximalPermit w os key o = IsMaximal (IsPermitOf key) (IsPermitOf key) w os o
 
--- what ends a start of the key: a start or a stop of it
+-- the act ends starts of the key: it is a start or a stop of it
 abbrev pub EndsStart : Key → Act → Type 0
 EndsStart key act = IsStartOf key act ⊎ IsStopOf key act
 
@@ -83,17 +83,17 @@ IsMaximalStart w os key o = IsMaximal (IsStartOf key) (EndsStart key) w os o
 abbrev pub IsMaximalDrain : SetWorld → List Operation → Origin → Operation → Type 0
 IsMaximalDrain w os at o = IsMaximal (IsDrainOf at) (IsDrainOf at) w os o
 
--- an operation that is so has this dot
+-- an operation with this property has this dot
 abbrev pub IsDotOfOne : (Operation → Type 0) → Dot → Type 0
 IsDotOfOne Is d = (o : Operation) × (Is o × (o.dot ≡ d))
 
 -- ---- runs
--- not a handing of a single operation that was accepted
+-- the event isn't an accepted handing of a single operation
 abbrev pub IsNoHanding : What → Result Reply WorldFault → Type 0
 IsNoHanding (Hand k) (Ok reply) = ⊥
 IsNoHanding _ _ = Unit {0}
 
--- no handing of a single operation was accepted
+-- no single operation was handed and accepted
 abbrev pub HandsNothing : List WorldEvent → List (Result Reply WorldFault) → Type 0
 HandsNothing [] answers = Unit {0}
 HandsNothing (e ∷ es) [] = Unit {0}
@@ -104,9 +104,9 @@ pub record RunsHolding (v : WorldValue) (sets : SetWorld) (n : ℕ) (s : StateVa
   pub runs : RunsWith v n s
   pub holds : sets.node (numbered n) ≡ Some held
 
--- Each node's set is closed. A running node has heard the dots of each origin from 1 on with none missing, and knows no
--- other dot. What stands at a key are exactly the maximal writes of the key,
--- and what stands of drains the maximal drains.
+-- Each node's set is causally closed. A running node has heard the dots of each origin from 1 without gaps, and knows
+-- no other dots. The writes that stand at a key are exactly the maximal writes of the key, and the drains that stand
+-- are the maximal drains.
 pub record IsCausal (v : WorldValue) (sets : SetWorld) : Type 0 where
   pub closed : (n : NodeId) (held : NodeSet) → sets.node n ≡ Some held → IsClosed sets held.operations
   pub vector : (n : ℕ) (s : StateValue) → RunsWith v n s → IsVector s.heard

@@ -1,4 +1,4 @@
--- What every run leaves: the promises about all controllers together.
+-- Properties that every run leaves for all controllers together.
 use Rattle.std.specs.Prelude.{◌≡◌, ℕ, false, List, [], ◌∷◌, length, Some, filter}
 use Rattle.std.specs.List.{slice_get, list_any}
 use Rattle.std.specs.Option.{option_map}
@@ -26,7 +26,7 @@ pub record RunsWith (v : WorldValue) (n : ℕ) (s : StateValue) : Type 0 where
   pub there : slice_get v.nodes n ≡ Some node
   pub state : state_of node ≡ Some s
 
--- those of the operations whose dots were heard
+-- the operations whose dots were heard
 abbrev pub heard_among : Dots → List Operation → List Operation
 heard_among heard os = filter (λ (o : Operation). set.contains heard o.dot) os
 
@@ -34,15 +34,15 @@ heard_among heard os = filter (λ (o : Operation). set.contains heard o.dot) os
 pub record EachIsMeaning (v : WorldValue) : Type 0 where
   pub each : (n : ℕ) (s : StateValue) → RunsWith v n s → s ≡ meaning_of (heard_among s.heard v.operations)
 
--- Two states are alike: they are equal, and so are their bytes. Under each configuration they name the same holder of
--- each application and the same next candidate.
+-- Two states are alike: they are equal, and so are their bytes. Under each configuration they name the same holder and
+-- the same next candidate of each application.
 pub record Alike (s u : StateValue) : Type 0 where
   pub states : s ≡ u
   pub bytes : spelling_of s ≡ spelling_of u
   pub holders : (app : AppId) → holder_of s app ≡ holder_of u app
   pub candidates : (t : Table) (app : AppId) → candidate_of (verdict_of t s app) ≡ candidate_of (verdict_of t u app)
 
--- the states of nodes that heard the same set are alike
+-- nodes that have heard the same set have states that are alike
 pub record Agrees (v : WorldValue) : Type 0 where
   pub each : (m n : ℕ) (s u : StateValue) → RunsWith v m s → RunsWith v n u → s.heard ≡ u.heard → Alike s u
 
@@ -51,23 +51,23 @@ abbrev pub DistinctDots : List Operation → Type 0
 DistinctDots [] = Unit {0}
 DistinctDots (o ∷ os) = (list_any (has_dot o.dot) os ≡ false) × DistinctDots os
 
--- what a set means
+-- the state that a node's set means
 abbrev pub state_by : NodeSet → StateValue
 state_by held = meaning_of held.operations
 
--- the incarnation that a set of node n is of
+-- the incarnation of node n that holds the set
 abbrev pub origin_by : NodeId → NodeSet → Origin
 origin_by n held = record { node = n; inc = held.inc }
 
--- Each node runs exactly where it has a set in the world of sets. Its state is that set's meaning, and its
--- incarnation is that set's
+-- A node runs if and only if it has a set in the world of sets. Its state is the meaning of that set, and its
+-- incarnation the set's
 pub record HoldsSets (v : WorldValue) (sets : SetWorld) : Type 0 where
   pub each : (n : ℕ) (x : NodeValue) → slice_get v.nodes n ≡ Some x
       → state_of x ≡ option_map state_by (sets.node (numbered n))
   pub incarnation : (n : ℕ) (x : NodeValue) → slice_get v.nodes n ≡ Some x
       → origin_of x ≡ option_map (origin_by (numbered n)) (sets.node (numbered n))
 
--- The operations of the world are those of the issues of the world of sets, in order. There is a copy for each
+-- The operations of the world are those of the issues in the world of sets, in order. There is one copy for each
 -- message
 pub record ListsAll (v : WorldValue) (sets : SetWorld) : Type 0 where
   pub operations : v.operations ≡ operations_of sets.issued

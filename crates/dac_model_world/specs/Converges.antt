@@ -1,4 +1,4 @@
--- What every run leaves, under one name: convergence.
+-- Convergence: the properties of every run, under one name.
 use Rattle.std.specs.Prelude.{List, Result}
 use Rattle.dac_config.specs.Table.{Table}
 use Rattle.dac_events.specs.declared.WorldEvent.{WorldEvent}
@@ -20,48 +20,48 @@ use Rattle.dac_model_world.specs.Causality.{HandsNothing, IsCausal}
 use Rattle.dac_model_world.specs.Records.{HaveHistories}
 use Rattle.dac_model_world.specs.Gates.{StayOpen}
 
--- what these events, answered so, leave in the program's world
+-- the properties of the program's world after these events with these results
 pub record Converges (t : Table) (events : List WorldEvent) (answers : List (Result Reply WorldFault))
     (v : WorldValue) : Type 0 where
   -- each running controller's state is the meaning of the issued operations whose dots it has heard
   pub headline : EachIsMeaning v
-  -- so controllers that heard the same set hold equal states and bytes, and name the same holder and
-  -- the same next candidate
+  -- therefore controllers that have heard the same set have equal states and bytes, and name the same holder and the
+  -- same next candidate
   pub agree : Agrees v
-  -- merging two states gives their least upper bound, whatever states they are
+  -- merging any two states gives their least upper bound
   pub merging : IsLattice IsState IsBelow join
   -- no two issued operations have one dot
   pub distinct : DistinctDots v.operations
-  -- each controller holds the set that the world of sets has at its node, as the incarnation that the set is of
+  -- each controller holds the set that the world of sets has at its node, as the incarnation that holds the set
   pub sets : HoldsSets v (set_run no_sets events answers)
-  -- what was issued is what the world of sets lists, and it has a copy for each message
+  -- the issued operations are those of the world of sets, which has one copy for each message
   pub listed : ListsAll v (set_run no_sets events answers)
-  -- What a node issues is of its present incarnation, whose operations have the counters 1, 2, 3 and so on. A boot
-  -- issues one Up, the first operation of an incarnation of its node that is later than all before.
+  -- A node issues operations of its present incarnation, with the counters 1, 2, 3 and so on. A boot issues one Up, the
+  -- first operation of an incarnation that is later than all before of its node.
   pub issued : TellIssued no_sets events answers
   -- each shipped message carries the meaning of a set of issued operations
   pub bodies : CarryMeanings v
-  -- Each shipped message puts a copy of its sender's whole set on its way. Each delivery unites the receiver's set
-  -- with all of the copy, whatever part of it the message carries.
+  -- Each ship sends a copy of the sender's whole set, and each delivery unites the receiver's set with the whole copy,
+  -- whatever part of it the message carries.
   pub unite : AllUnite no_sets events answers
-  -- each answer to what was heard tells whether it brought a dot that the controller hadn't heard
+  -- each hear reports whether it brought a dot that the controller hadn't heard
   pub news : AnswersNews no_sets events answers
-  -- What comes to a running controller is heard, unless memory is refused or its numbers of deltas are used up. What
-  -- comes is a message shipped to it, or an issued operation.
+  -- A running controller hears each message shipped to it, and each operation handed to it, unless an allocation fails
+  -- or its delta numbers are used up.
   pub heard : HearsAllThatFits no_sets no_deltas events answers
-  -- each ship that isn't refused is answered by a message to the node that it names
+  -- each accepted ship results in a message to the node that it names
   pub addressed : AreAddressed events answers
-  -- A ship that is refused as up to date is to a node that has all of the sender's set, while it runs as the
-  -- incarnation of its life there.
+  -- A ship is refused as up to date only if the receiver has all of the sender's set, while it runs as the incarnation
+  -- that the sender knows.
   pub up_to_date : TellUpToDate no_sets events answers
-  -- So each share leaves all running nodes the union of what they had, if each knew the present incarnation of each
-  -- other one, or nothing of its life. In a share each running node tells each other one all that it has.
+  -- Therefore a share, in which each running node ships all that it has to each other one, leaves the union of their
+  -- sets to all running nodes, if each knew the others' present incarnations, or nothing of their lives.
   pub shares : SharesUnite events answers
-  -- where no single operation is handed, each controller has heard what is causally before what it heard, and
-  -- the maximal writes stand
+  -- if no single operation is handed, each controller has heard all that is causally before what it has heard, and
+  -- exactly the maximal writes stand
   pub causal : HandsNothing events answers → IsCausal v (set_run no_sets events answers)
-  -- From each tick on by which a controller looked after its applications, no tick of it is held back or makes it give up, until
-  -- it goes off.
+  -- After a tick finds a controller's start gate open, no tick of it is held back or gives up until it goes off.
   pub gates : StayOpen events answers
-  -- what happened at each controller is a history of it, from never booted to where the run leaves it
+  -- the events at each controller, with their results, are a history of it, from before its first boot to its value
+  -- after the run
   pub histories : HaveHistories t events answers v

@@ -1,5 +1,5 @@
--- That what comes to a running node is heard: a copy that reaches its addressee, and an operation that is handed.
--- Each is refused only where memory is refused or the numbers of deltas are used up.
+-- A running node hears each copy that reaches it as its addressee, and each operation handed to it, unless an
+-- allocation fails or its delta numbers are used up.
 use Rattle.std.specs.Prelude.{◌≡◌, ◌⊎◌, ◌≤◌, ℕ, ◌+◌, nat_eq, cond, Bool, true, List, [], ◌∷◌, length, Some, Result, Ok, Err}
 use Rattle.dac_base.specs.declared.limits.TheConstants.{MAX_COUNTER}
 use Rattle.dac_base.specs.declared.NodeId.{NodeId}
@@ -19,48 +19,48 @@ use Rattle.dac_model_world.specs.SetWorld.{SetWorld, NodeSet, Copy, is_for, oper
 abbrev pub RunsIn : SetWorld → NodeId → Type 0
 RunsIn w n = (held : NodeSet) × (w.node n ≡ Some held)
 
--- the number is that of a copy on its way that is for the node, as the incarnation that it runs as
+-- the number of a copy for the node, which isn't bound to another incarnation than the one that runs
 pub record IsCopyFor (w : SetWorld) (n : NodeId) (number : ℕ) : Type 0 where
   pub copy : Copy
   pub there : counted w.copies number ≡ Some copy
   pub fits : (held : NodeSet) → w.node n ≡ Some held → is_for n held.inc copy ≡ true
 
--- the event brings the node such a copy, or an operation that was issued
+-- the event brings the node such a copy, or an issued operation
 abbrev pub Fits : SetWorld → NodeId → What → Type 0
 Fits w n (Deliver k) = IsCopyFor w n k
 Fits w n (Hand k) = (o : Operation) × (counted (operations_of w.issued) k ≡ Some o)
 Fits w n _ = ⊥
 
--- the answer says that it was heard
+-- the result says that the event was heard
 abbrev pub IsHeard : Result Reply WorldFault → Type 0
 IsHeard a = (fresh : Bool) × (a ≡ Ok (Heard fresh))
 
--- How many deltas a node has after an answer, if it had so many before. A boot begins with one. Each operation that
--- is issued is one more, and so is what is heard if it brings anything new.
+-- The number of a node's deltas after a result. A boot begins with one. Each operation issued adds one, and so does
+-- hearing anything new.
 abbrev pub deltas_after : ℕ → Result Reply WorldFault → ℕ
 deltas_after before (Err fault) = before
 deltas_after before (Ok (Booted o)) = 1
 deltas_after before (Ok (Heard fresh)) = cond fresh (before + 1) before
 deltas_after before (Ok reply) = before + length (issued_by reply)
 
--- how many deltas each node has after an answer of node n
+-- the number of each node's deltas after a result of node n
 abbrev pub deltas_with : (NodeId → ℕ) → NodeId → Result Reply WorldFault → NodeId → ℕ
 deltas_with deltas n a m = cond (nat_eq m.0 n.0) (deltas_after (deltas n) a) (deltas m)
 
--- none has any
+-- no node has deltas
 abbrev pub no_deltas : NodeId → ℕ
 no_deltas n = 0
 
--- the answer says that the numbers of deltas are used up, where the node has so many
+-- the result says that the delta numbers are used up, and they are
 abbrev pub IsFull : ℕ → Result Reply WorldFault → Type 0
 IsFull deltas a = (a ≡ Err (Refused DotsUsedUp)) × (MAX_COUNTER ≤ deltas)
 
--- what fits a running node is heard, unless memory is refused or its numbers of deltas are used up
+-- a running node hears what fits it, unless an allocation fails or its delta numbers are used up
 abbrev pub HearsWhatFits : SetWorld → (NodeId → ℕ) → WorldEvent → Result Reply WorldFault → Type 0
 HearsWhatFits w deltas e a =
     RunsIn w e.node → Fits w e.node e.what → IsHeard a ⊎ ((a ≡ out_of_memory) ⊎ IsFull (deltas e.node) a)
 
--- so are these events, one after another, where the nodes have so many deltas
+-- in all these events running nodes hear what fits them; nodes begin with these numbers of deltas
 abbrev pub HearsAllThatFits : SetWorld → (NodeId → ℕ) → List WorldEvent → List (Result Reply WorldFault) → Type 0
 HearsAllThatFits w deltas [] answers = Unit {0}
 HearsAllThatFits w deltas (e ∷ es) [] = Unit {0}

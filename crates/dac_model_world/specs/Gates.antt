@@ -1,4 +1,4 @@
--- A start gate that opened stays open, until its node goes off: by the answers of a history, and of a run.
+-- A start gate that has opened stays open until its node goes off: by the results of a history, and of a run.
 use Rattle.std.specs.Prelude.{◌≡◌, List, [], ◌∷◌, Result}
 use Rattle.dac_base.specs.declared.NodeId.{NodeId}
 use Rattle.dac_config.specs.Table.{Table}
@@ -13,12 +13,12 @@ use Rattle.dac_model_world.specs.Histories.{Entry, IsHistory}
 
 -- ---- at one node
 
--- by none of these the node goes off
+-- none of these events turns the node off
 abbrev pub NoneGoesOff : List Entry → Type 0
 NoneGoesOff [] = Unit {0}
 NoneGoesOff (x ∷ xs) = (¬ (Answers SaysOff x.answer)) × NoneGoesOff xs
 
--- After a tick by which a node looked after its applications, none is held back or makes it give up, until the node goes off.
+-- After a tick finds a start gate open, no tick is held back or gives up until the node goes off.
 abbrev pub GatesStayOpen : Type 0
 GatesStayOpen = (t : Table) (me : NodeId) (d final : ModelNode) (e later : Event) (between : List Entry)
     → Answers SaysOpen (model_step t me d e).answer
@@ -27,14 +27,14 @@ GatesStayOpen = (t : Table) (me : NodeId) (d final : ModelNode) (e later : Event
 
 -- ---- in a run
 
--- by no event of the node, up to the first by which it goes off, its start gate is found shut
+-- no event of the node finds its start gate shut, up to the first event that turns it off
 abbrev pub IsOpenUntilOff : NodeId → List WorldEvent → List (Result Reply WorldFault) → Type 0
 IsOpenUntilOff n [] answers = Unit {0}
 IsOpenUntilOff n (e ∷ es) [] = Unit {0}
 IsOpenUntilOff n (e ∷ es) (a ∷ answers) = (e.node ≡ n → ¬ (Answers SaysShut a))
     × ((e.node ≡ n → ¬ (Answers SaysOff a)) → IsOpenUntilOff n es answers)
 
--- from each tick on by which a node looked after its applications, its start gate is open until it goes off
+-- after each tick that finds a node's start gate open, it stays open until the node goes off
 abbrev pub StayOpen : List WorldEvent → List (Result Reply WorldFault) → Type 0
 StayOpen [] answers = Unit {0}
 StayOpen (e ∷ es) [] = Unit {0}

@@ -1,4 +1,4 @@
--- What happened at one node: its own events with their answers, one after another.
+-- The history of one node: its own events with their results.
 use Rattle.std.specs.Prelude.{◌≡◌, ℕ, List, [], ◌∷◌, None, Result}
 use Rattle.dac_base.specs.declared.NodeId.{NodeId}
 use Rattle.dac_config.specs.Table.{Table}
@@ -8,16 +8,17 @@ use Rattle.dac_events.specs.declared.refusal.Refusal.{Refusal}
 use Rattle.dac_model_node.specs.ModelNode.{ModelNode}
 use Rattle.dac_model_node.specs.Step.{model_step}
 
--- a model node that is off after so many incarnations
+-- a model node that is off and whose last incarnation was `last`
 abbrev pub off_after : ℕ → ModelNode
 off_after last = record { last = last; running = None }
 
--- an event of a node, and its answer
+-- an event of a node, and its result
 pub record Entry : Type 0 where
   pub event : Event
   pub answer : Result Reply Refusal
 
--- Each answer is the step's, one after another from d, and the node comes to final. It boots as node me.
+-- Each result is that of the model's step, event after event from d, and they lead to `final`. The node boots as node
+-- me.
 abbrev pub IsHistory : Table → NodeId → ModelNode → List Entry → ModelNode → Type 0
 IsHistory t me d [] final = final ≡ d
 IsHistory t me d (x ∷ xs) final =

@@ -1,4 +1,4 @@
--- Whose each issued operation is, and under which counter.
+-- The origin and the counter of each issued operation.
 use Rattle.std.specs.Prelude.{◌≡◌, ℕ, ◌<◌, ◌+◌, Bool, List, [], ◌∷◌, ◌++◌, length, filter, Some, Result, Ok}
 use Rattle.std.specs.Ordering.{eq_by_cmp}
 use Rattle.dac_base.specs.declared.NodeId.{NodeId}
@@ -14,8 +14,8 @@ use Rattle.dac_events.specs.declared.world_fault.WorldFault.{WorldFault}
 use Rattle.dac_model_world.specs.SetWorld.{SetWorld, NodeSet, operations_of, set_step}
 use Rattle.dac_model_world.specs.Convergence.{origin_by}
 
--- After these operations were issued, node n comes up by this one. It is an Up, and the first operation of an
--- incarnation that is later than each of the node that issued any.
+-- After these operations, node n boots by this one: an Up, the first operation of an incarnation later than all of the
+-- node that have issued any.
 pub record IsBoot (n : NodeId) (before : List Operation) (o : Operation) : Type 0 where
   pub act : o.act ≡ Up
   pub inc : ℕ
@@ -26,17 +26,17 @@ pub record IsBoot (n : NodeId) (before : List Operation) (o : Operation) : Type 
 abbrev pub is_of : Origin → Operation → Bool
 is_of own o = eq_by_cmp origin_cmp o.dot.origin own
 
--- how many of the operations are the incarnation's
+-- the number of the incarnation's operations
 abbrev pub count_of : Origin → List Operation → ℕ
 count_of own os = length (filter (is_of own) os)
 
 -- The operation is the incarnation's next: its counter is one more than the number of operations that the incarnation
--- issued before.
+-- has issued.
 pub record IsOwn (own : Origin) (before : List Operation) (o : Operation) : Type 0 where
   pub origin : o.dot.origin ≡ own
   pub counter : o.dot.n ≡ count_of own before + 1
 
--- so is each of these, one after another
+-- each of these operations is the incarnation's next after those before it
 abbrev pub AreOwn : Origin → List Operation → List Operation → Type 0
 AreOwn own before [] = Unit {0}
 AreOwn own before (o ∷ os) = IsOwn own before o × AreOwn own (before ++ o ∷ []) os
@@ -47,14 +47,14 @@ pub record AreIssuedAt (w : SetWorld) (n : NodeId) (os : List Operation) : Type 
   pub on : w.node n ≡ Some held
   pub own : AreOwn (origin_by n held) (operations_of w.issued) os
 
--- what an event issues is its node's
+-- an event issues operations of its node
 abbrev pub TellsIssued : SetWorld → WorldEvent → Result Reply WorldFault → Type 0
 TellsIssued w e (Ok (Booted o)) = IsBoot e.node (operations_of w.issued) o
 TellsIssued w e (Ok (Issued o)) = AreIssuedAt w e.node (o ∷ [])
 TellsIssued w e (Ok (Ticked os passed)) = AreIssuedAt w e.node os
 TellsIssued w e _ = Unit {0}
 
--- so do these events, one after another
+-- each of these events issues operations of its node
 abbrev pub TellIssued : SetWorld → List WorldEvent → List (Result Reply WorldFault) → Type 0
 TellIssued w [] answers = Unit {0}
 TellIssued w (e ∷ es) [] = Unit {0}

@@ -1,5 +1,4 @@
--- A world that is made of issued operations. Every event keeps that, whatever configuration it comes with, so none stands
--- here.
+-- A world made of issued operations. Every event keeps this, whatever its configuration, so none is mentioned here.
 use Rattle.std.specs.Prelude.{◌≡◌, ◌↔◌, ℕ, ◌≤◌, IsTrue, List, [], ◌∷◌, Some}
 use Rattle.std.specs.List.{All, slice_get}
 use Rattle.std.specs.FinSet as set
@@ -27,17 +26,17 @@ pub record Means (ops : List Operation) (s : StateValue) : Type 0 where
 abbrev pub own_origin : NodeId → ℕ → Origin
 own_origin n inc = record { node = n; inc = inc }
 
--- no operation is of a later incarnation of node n than the last
+-- no operation is of an incarnation of node n later than `last`
 abbrev pub NoneLater : List Operation → NodeId → ℕ → Type 0
 NoneLater ops n last = (o : Operation) → IsOperationOf o ops → o.dot.origin.node ≡ n → o.dot.origin.inc ≤ last
 
--- the set that node n holds in its last incarnation: of the operations, and all that this incarnation issued
+-- the set of node n in its last incarnation: some of the operations, with all that this incarnation issued
 pub record SetOk (ops : List Operation) (n : NodeId) (last : ℕ) (os : List Operation) : Type 0 where
   pub within : AreOperationsOf os ops
   pub own : (o : Operation) → IsOperationOf o ops → o.dot.origin ≡ own_origin n last → IsOperationOf o os
   pub old : NoneLater ops n last
 
--- what runs at node n in its last incarnation: its state means such a set, and each delta that it keeps means operations
+-- the running value of node n in its last incarnation: its state means such a set, and each delta kept means operations
 pub record RunsMade (ops : List Operation) (n : NodeId) (last : ℕ) (r : RunningValue) : Type 0 where
   pub held : List Operation
   pub state : r.state ≡ meaning_of held
@@ -55,20 +54,20 @@ pub record NodeMade (ops : List Operation) (n : NodeId) (x : NodeValue) : Type 0
 abbrev pub BodiesMean : List Operation → List Message → Type 0
 BodiesMean ops ms = All (λ (m : Message). Means ops (content_of m.body)) ms
 
--- The dots of what was issued differ, and it makes up what the nodes hold and what was shipped.
+-- The dots of the issued operations are distinct, and nodes and messages mean such operations.
 pub record IsMade (v : WorldValue) : Type 0 where
   pub distinct : DistinctDots v.operations
   pub nodes : (n : ℕ) (x : NodeValue) → slice_get v.nodes n ≡ Some x → NodeMade v.operations (numbered n) x
   pub bodies : BodiesMean v.operations v.messages
 
--- ---- the order of what is made
--- Of states that mean operations whose dots differ, one is below another exactly if each dot that it has heard was heard
--- there.
+-- ---- order by heard dots
+-- For states that mean operations with distinct dots, one is below another if and only if the other has heard all of
+-- its dots.
 abbrev pub HeardDotsAreOrder : Type 0
 HeardDotsAreOrder = (ops : List Operation) (s u : StateValue) → DistinctDots ops → Means ops s → Means ops u
     → IsTrue (is_below s u) ↔ IsSubset s.heard u.heard
 
--- what one of the operations means alone is below such a state exactly if its dot was heard there
+-- the meaning of one of the operations is below such a state if and only if the state has heard its dot
 abbrev pub OneDotIsOrder : Type 0
 OneDotIsOrder = (ops : List Operation) (o : Operation) (s : StateValue) → DistinctDots ops → IsOperationOf o ops → Means ops s
     → IsTrue (is_below (meaning_of (o ∷ [])) s) ↔ IsTrue (set.contains s.heard o.dot)

@@ -1,4 +1,4 @@
--- The model world: each node, what was issued and what was shipped, and its runs.
+-- The model world: nodes, issued operations and shipped messages, and its runs.
 use Rattle.std.specs.Prelude.{◌≡◌, ℕ, ◌-◌, cond, nat_eq, nat_lt, List, [], ◌∷◌, ◌++◌, length, Option, Some, None, Result, Ok, Err, IsOk, ◌⊎◌}
 use Rattle.std.specs.List.{slice_get}
 use Rattle.dac_base.specs.declared.NodeId.{NodeId}
@@ -22,26 +22,26 @@ pub use Rattle.dac_model_node.specs.Effect.{issued_by}
 use Rattle.dac_model_world.specs.Histories.{off_after}
 use Rattle.dac_model_world.specs.WorldValue.{WorldValue}
 
--- How many nodes there are, each node, and, the oldest first, what was issued and what was shipped. (Nodes
--- past the count stay off.)
+-- The number of nodes, each node, and, oldest first, the issued operations and the shipped messages. (Nodes past the
+-- number stay off.)
 pub record ModelWorld : Type 0 where
   pub count : ℕ
   pub node : NodeId → ModelNode
   pub operations : List Operation
   pub messages : List Message
 
--- the node of a number
+-- the node with this number
 abbrev pub numbered : ℕ → NodeId
 numbered n = record { 0 = n }
 
--- the program's world that it shows as, under a configuration
+-- the model world shows as this world of the program, under a configuration
 pub record Shows (t : Table) (w : ModelWorld) (v : WorldValue) : Type 0 where
   pub count : length v.nodes ≡ w.count
   pub nodes : (n : ℕ) → slice_get v.nodes n ≡ cond (nat_lt n w.count) (Some (shown t (w.node (numbered n)))) None
   pub operations : v.operations ≡ w.operations
   pub messages : v.messages ≡ w.messages
 
--- all nodes of the configuration off, none booted ever
+-- all nodes of the configuration are off and have never booted
 abbrev pub start : Table → ModelWorld
 start t = record { count = node_count t; node = λ _. off_after 0; operations = []; messages = [] }
 
@@ -50,17 +50,17 @@ start t = record { count = node_count t; node = λ _. off_after 0; operations = 
 abbrev pub counted : {X : Type 0} → List X → ℕ → Option X
 counted xs k = cond (nat_eq k 0) None (slice_get xs (k - 1))
 
--- the node's event where a message comes
+-- the node's event when a message is delivered
 abbrev pub heard_by : Option Message → Result Event WorldFault
 heard_by None = Err NoSuchMessage
 heard_by (Some m) = Ok (Hear m)
 
--- the node's event where an operation comes by itself
+-- the node's event when a single operation is handed
 abbrev pub handed_by : Option Operation → Result Event WorldFault
 handed_by None = Err NoSuchOperation
 handed_by (Some o) = Ok (HearOp o)
 
--- the node's event, from what was issued and what was shipped
+-- the node's event, from the issued operations and the shipped messages
 abbrev pub event_of : List Operation → List Message → What → Result Event WorldFault
 event_of os ms (Boots now) = Ok (Boot now)
 event_of os ms Crashes = Ok Crash
@@ -75,7 +75,7 @@ abbrev pub shipped_by : Reply → List Message
 shipped_by (Shipped m) = m ∷ []
 shipped_by _ = []
 
--- node n put in place of the one there
+-- replaces node n
 abbrev pub with_node : (NodeId → ModelNode) → NodeId → ModelNode → NodeId → ModelNode
 with_node node n d m = cond (nat_eq m.0 n.0) d (node m)
 
@@ -100,16 +100,16 @@ happens t w e = cond (nat_lt e.node.0 w.count) (happens_by t w e.node (event_of 
     (record { world = w; answer = Err NoSuchNode })
 
 -- ---- runs
--- the answer where memory is refused
+-- the result of a failed allocation
 abbrev pub out_of_memory : Result Reply WorldFault
 out_of_memory = Err (Refused NoMemory)
 
--- the world answers as the rules say, and goes on as they say
+-- the world's result and next value are those of the rules
 pub record Done (by : WorldStepped) (answer : Result Reply WorldFault) (next : ModelWorld) : Type 0 where
   pub answered : answer ≡ by.answer
   pub went_on : next ≡ by.world
 
--- Memory was refused for an event that would have been accepted: it is no event. A crash takes none.
+-- An allocation failed for an event that would have been accepted, so nothing happened. A crash allocates nothing.
 pub record Lacked (w : ModelWorld) (by : WorldStepped) (answer : Result Reply WorldFault)
     (next : ModelWorld) : Type 0 where
   pub answered : answer ≡ out_of_memory
@@ -117,56 +117,55 @@ pub record Lacked (w : ModelWorld) (by : WorldStepped) (answer : Result Reply Wo
   pub wants : by.answer ≡ Ok Crashed → ⊥
   pub stayed : next ≡ w
 
--- an event, its answer, and the world after it
+-- an event, its result, and the world after it
 abbrev pub Step : ModelWorld → WorldStepped → Result Reply WorldFault → ModelWorld → Type 0
 Step w by answer next = Done by answer next ⊎ Lacked w by answer next
 
--- memory may be refused for an event that would have been accepted and is no crash
+-- an allocation can fail for an event that would have been accepted, unless it is a crash
 pub record MayLack (by : WorldStepped) : Type 0 where
   pub accepted : IsOk by.answer
   pub wants : by.answer ≡ Ok Crashed → ⊥
 
--- the answer is that of the rules, or `NoMemory`
+-- the result is that of the rules, or `NoMemory`
 abbrev pub IsAnswer : WorldStepped → Result Reply WorldFault → Type 0
 IsAnswer by answer = (answer ≡ by.answer) ⊎ ((answer ≡ out_of_memory) × MayLack by)
 
--- the world after an event with this answer: as before where memory was refused, else as the rules say
+-- the world after an event with this result: unchanged if an allocation failed, and otherwise as the rules say
 abbrev pub went : Table → ModelWorld → WorldEvent → Result Reply WorldFault → ModelWorld
 went t w e (Err (Refused NoMemory)) = w
 went t w e _ = (happens t w e).world
 
--- the world after these events with these answers, one after another from w
+-- the world after these events with these results, from w
 abbrev pub world_after : Table → ModelWorld → List WorldEvent → List (Result Reply WorldFault) → ModelWorld
 world_after t w [] answers = w
 world_after t w (e ∷ es) [] = w
 world_after t w (e ∷ es) (a ∷ answers) = world_after t (went t w e a) es answers
 
--- the world answers these events so, one after another from w
+-- these are results of these events, from w
 abbrev pub AnsweredAs : Table → ModelWorld → List WorldEvent → List (Result Reply WorldFault) → Type 0
 AnsweredAs t w [] [] = Unit {0}
 AnsweredAs t w [] (a ∷ answers) = ⊥
 AnsweredAs t w (e ∷ es) [] = ⊥
 AnsweredAs t w (e ∷ es) (a ∷ answers) = IsAnswer (happens t w e) a × AnsweredAs t (went t w e a) es answers
 
--- it answers them so, and goes on to final
+-- these are results of these events, from w, and they lead to `final`
 abbrev pub Run : Table → ModelWorld → List WorldEvent → List (Result Reply WorldFault) → ModelWorld → Type 0
 Run t w es answers final = AnsweredAs t w es answers × (final ≡ world_after t w es answers)
 
--- From old, the program's world answers and goes on to new as each model world that shows as old may.
+-- From old, the program's world returns this result and goes to new, as each model world that shows as old can.
 pub record Follows (t : Table) (old : WorldValue) (by : ModelWorld → WorldStepped) (answer : Result Reply WorldFault)
     (new : WorldValue) : Type 0 where
   pub each : (w : ModelWorld) → Shows t w old → (next : ModelWorld) × (Step w (by w) answer next × Shows t next new)
 
--- The program's world answered these events so, one after another from the start, and is where the model world comes
--- to by them.
+-- The program's world returned these results for these events from the start, and is now the one as which the model
+-- world after them shows.
 pub record RanAs (t : Table) (events : List WorldEvent) (answers : List (Result Reply WorldFault))
     (v : WorldValue) : Type 0 where
   pub final : ModelWorld
   pub run : Run t (start t) events answers final
   pub shows : Shows t final v
 
--- of each run from the start this holds: of the configuration, its events, its answers and where the program's
--- world is after it
+-- P holds of each run from the start: of the configuration, its events, its results, and the program's world after it
 abbrev pub InEachRun : (Table → List WorldEvent → List (Result Reply WorldFault) → WorldValue → Type 0) → Type 0
 InEachRun P = (t : Table) (events : List WorldEvent) (answers : List (Result Reply WorldFault)) (v : WorldValue)
     → RanAs t events answers v → P t events answers v

@@ -1,4 +1,4 @@
--- What each node records of a run: its own events, with their answers.
+-- The records of each node in a run: its own events with their results.
 use Rattle.std.specs.Prelude.{◌≡◌, ℕ, cond, nat_eq, List, [], ◌∷◌, ◌++◌, Option, Some, None, Result, Ok, Err}
 use Rattle.std.specs.List.{slice_get}
 use Rattle.dac_base.specs.declared.NodeId.{NodeId}
@@ -16,38 +16,39 @@ use Rattle.dac_model_world.specs.Histories.{Entry, IsHistory, off_after}
 use Rattle.dac_model_world.specs.WorldValue.{WorldValue}
 use Rattle.dac_model_world.specs.ModelWorld.{ModelWorld, event_of, start, went, numbered, Run}
 
--- The node's own answer, where it is one. There is none where the world has no such node, message or operation. There
--- is none where memory was refused, which is no event.
+-- The node's own result. There is none if the world has no such node, message or operation, and none if an allocation
+-- failed, because nothing happened.
 abbrev pub own_answer : Result Reply WorldFault → Option (Result Reply Refusal)
 own_answer (Ok reply) = Some (Ok reply)
 own_answer (Err (Refused NoMemory)) = None
 own_answer (Err (Refused why)) = Some (Err why)
 own_answer (Err _) = None
 
--- what is recorded of a node's event
+-- the record of a node's event
 abbrev pub recorded : Option (Result Reply Refusal) → Result Event WorldFault → List Entry
 recorded None what = []
 recorded (Some answer) (Err fault) = []
 recorded (Some answer) (Ok e) = (record { event = e; answer = answer }) ∷ []
 
--- what node n records of one event of the world w
+-- the record of node n of one event of the world w
 abbrev pub records_of : NodeId → ModelWorld → WorldEvent → Result Reply WorldFault → List Entry
 records_of n w e answer =
     cond (nat_eq n.0 e.node.0) (recorded (own_answer answer) (event_of w.operations w.messages e.what)) []
 
--- what node n records of these events with these answers, one after another from w
+-- the records of node n of these events with these results, from w
 abbrev pub records_at : Table → NodeId → ModelWorld → List WorldEvent → List (Result Reply WorldFault) → List Entry
 records_at t n w [] answers = []
 records_at t n w (e ∷ es) [] = []
 records_at t n w (e ∷ es) (a ∷ answers) = records_of n w e a ++ records_at t n (went t w e a) es answers
 
--- What a node records of a run from the start is a history of it, from never booted to where the run leaves it.
+-- The records of a node in a run from the start are a history of it, from before its first boot to its value after the
+-- run.
 abbrev pub RecordsAreHistories : Type 0
 RecordsAreHistories = (t : Table) (events : List WorldEvent) (answers : List (Result Reply WorldFault))
     (final : ModelWorld) → Run t (start t) events answers final
     → (n : NodeId) → IsHistory t n (off_after 0) (records_at t n (start t) events answers) (final.node n)
 
--- of each node of the program's world: where the history that it records comes to shows as it
+-- for each node of the program's world, the history that it records ends at a model node that shows as it
 pub record HaveHistories (t : Table) (events : List WorldEvent) (answers : List (Result Reply WorldFault))
     (v : WorldValue) : Type 0 where
   pub each : (n : ℕ) (x : NodeValue) → slice_get v.nodes n ≡ Some x

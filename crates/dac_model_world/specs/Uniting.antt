@@ -1,5 +1,5 @@
--- That what is shipped is the sender's whole set, and what is delivered is united with it, whatever part of
--- it a message carries.
+-- Ships send the sender's whole set, and deliveries unite the receiver's set with it, whatever part of it a message
+-- carries.
 use Rattle.std.specs.Prelude.{◌≡◌, ℕ, true, List, [], ◌∷◌, ◌++◌, Some, Result, Ok}
 use Rattle.dac_base.specs.declared.NodeId.{NodeId}
 use Rattle.dac_operations.specs.Operations.{Operation}
@@ -13,15 +13,14 @@ use Rattle.dac_events.specs.declared.world_fault.WorldFault.{WorldFault}
 use Rattle.dac_model_world.specs.ModelWorld.{counted}
 use Rattle.dac_model_world.specs.SetWorld.{SetWorld, NodeSet, Copy, and_more, is_for, operations_of, set_step}
 
--- Node n runs. A copy of its whole set is put on its way after all others. It goes to the node of the message and is
--- bound as that is
+-- Node n runs, and a copy of its whole set is added after all others, addressed and bound as the message
 pub record IsPut (w : SetWorld) (n : NodeId) (m : Message) (next : SetWorld) : Type 0 where
   pub held : NodeSet
   pub on : w.node n ≡ Some held
   pub after : next.copies
       ≡ w.copies ++ (record { from = n; to = m.to; only = m.only; operations = held.operations }) ∷ []
 
--- node n runs, the copy of this number is for it, and its set is the one before together with all of the copy's
+-- node n runs, this copy is for it, and its set is united with the copy's
 pub record IsUnited (w : SetWorld) (n : NodeId) (number : ℕ) (next : SetWorld) : Type 0 where
   pub held : NodeSet
   pub on : w.node n ≡ Some held
@@ -30,7 +29,7 @@ pub record IsUnited (w : SetWorld) (n : NodeId) (number : ℕ) (next : SetWorld)
   pub fits : is_for n held.inc copy ≡ true
   pub after : next.node n ≡ Some (and_more held copy.operations)
 
--- node n runs, and its set is the one before together with the issued operation of this number
+-- node n runs, and its set is united with this issued operation
 pub record IsHanded (w : SetWorld) (n : NodeId) (number : ℕ) (next : SetWorld) : Type 0 where
   pub held : NodeSet
   pub on : w.node n ≡ Some held
@@ -38,19 +37,19 @@ pub record IsHanded (w : SetWorld) (n : NodeId) (number : ℕ) (next : SetWorld)
   pub there : counted (operations_of w.issued) number ≡ Some operation
   pub after : next.node n ≡ Some (and_more held (operation ∷ []))
 
--- what an event does that is answered as heard: nothing but a delivery and a handing is
+-- the effect of an event that is heard: only deliveries and handings are
 abbrev pub HearsSo : SetWorld → NodeId → What → SetWorld → Type 0
 HearsSo w n (Deliver k) next = IsUnited w n k next
 HearsSo w n (Hand k) next = IsHanded w n k next
 HearsSo w n _ next = ⊥
 
--- an accepted ship puts a copy of the whole set, and what is heard is united with the set
+-- an accepted ship adds a copy of the whole set, and hearing unites sets
 abbrev pub Unites : SetWorld → NodeId → What → Result Reply WorldFault → Type 0
 Unites w n what (Ok (Shipped m)) = IsPut w n m (set_step w n what (Ok (Shipped m)))
 Unites w n what (Ok (Heard fresh)) = HearsSo w n what (set_step w n what (Ok (Heard fresh)))
 Unites w n what _ = Unit {0}
 
--- so do these events with their answers, one after another
+-- each ship among these events adds a copy of the whole set, and each hear unites sets
 abbrev pub AllUnite : SetWorld → List WorldEvent → List (Result Reply WorldFault) → Type 0
 AllUnite w [] answers = Unit {0}
 AllUnite w (e ∷ es) [] = Unit {0}

@@ -1,4 +1,4 @@
--- What it says that a ship is refused since the other node is up to date.
+-- The meaning of a ship that is refused as up to date.
 use Rattle.std.specs.Prelude.{◌≡◌, List, [], ◌∷◌, Some, Result, Err}
 use Rattle.std.specs.FinMap as map
 use Rattle.dac_base.specs.declared.NodeId.{NodeId}
@@ -12,8 +12,8 @@ use Rattle.dac_events.specs.declared.world_fault.WorldFault.{WorldFault}
 use Rattle.dac_events.specs.declared.world_fault.WorldFault.TheVariants.{Refused}
 use Rattle.dac_model_world.specs.SetWorld.{SetWorld, NodeSet, set_step}
 
--- The sender runs and knows a life of the receiver. Where the receiver runs as the incarnation of that life, it has all
--- of the sender's set.
+-- The sender runs and knows a life of the receiver. If the receiver runs as the incarnation of that life, it has all of
+-- the sender's set.
 pub record HasAll (w : SetWorld) (from to : NodeId) : Type 0 where
   pub mine : NodeSet
   pub on : w.node from ≡ Some mine
@@ -22,11 +22,11 @@ pub record HasAll (w : SetWorld) (from to : NodeId) : Type 0 where
   pub has : (theirs : NodeSet) → w.node to ≡ Some theirs → theirs.inc ≡ life.inc
       → AreOperationsOf mine.operations theirs.operations
 
--- a ship that is refused as up to date is to a node that has all
+-- a ship refused as up to date is to a node that has all
 abbrev pub TellsUpToDate : SetWorld → WorldEvent → Result Reply WorldFault → Type 0
 TellsUpToDate w e a = a ≡ Err (Refused UpToDate) → (to : NodeId) → e.what ≡ Ships to → HasAll w e.node to
 
--- so are these ships, one after another
+-- each of these ships that is refused as up to date is to a node that has all
 abbrev pub TellUpToDate : SetWorld → List WorldEvent → List (Result Reply WorldFault) → Type 0
 TellUpToDate w [] answers = Unit {0}
 TellUpToDate w (e ∷ es) [] = Unit {0}

@@ -1,4 +1,4 @@
--- What an accepted event does to what the program's world holds.
+-- The effect of an accepted event on the program's world.
 use Rattle.std.specs.Prelude.{◌≡◌, ℕ, cond, nat_eq, List, ◌++◌, length}
 use Rattle.std.specs.List.{slice_get}
 use Rattle.std.specs.Option.{option_map}
@@ -8,14 +8,14 @@ use Rattle.dac_model_node.specs.NodeValue.{NodeValue}
 use Rattle.dac_model_world.specs.WorldValue.{WorldValue}
 use Rattle.dac_model_world.specs.ModelWorld.{issued_by, shipped_by}
 
--- of these nodes one changes, to what it becomes
+-- one of these nodes changes
 pub record NodeChanges (before : List NodeValue) (node : NodeId) (become : NodeValue → NodeValue)
     (after : List NodeValue) : Type 0 where
   pub count : length after ≡ length before
   pub each : (n : ℕ)
       → slice_get after n ≡ cond (nat_eq n node.0) (option_map become (slice_get before n)) (slice_get before n)
 
--- from v the world goes on to u: one node changes, and what its reply issues and ships is noted
+-- the step from v to u: one node changes, and the operations and messages of its reply are appended
 pub record Goes (v : WorldValue) (node : NodeId) (become : NodeValue → NodeValue) (own given : Reply)
     (u : WorldValue) : Type 0 where
   pub reply : given ≡ own

@@ -1,4 +1,4 @@
--- What changes do, event by event.
+-- The effects of changes, event by event.
 use Rattle.std.proofs.Common.{◌≡◌, ◌-◌, ◌≤◌, ℕ, Bool, true, false, cond, List, [], ◌∷◌, Option, Some, None, refl, sym, ap, subst, ◌∙◌, arith, true≢false}
 use Rattle.std.specs.Prelude.{fold, max, min}
 use Rattle.dac_base.specs.declared.limits.TheConstants.{MAX_COUNTER}
@@ -37,13 +37,13 @@ pub quiet_effect : (t : Table) (number : ℕ) (r : RunningValue) (e : Event) (ch
     change.after ≡ after_by r [] (transition_of t r [] e) → change.reply ≡ (transition_of t r [] e).reply → Effect t number r e change
 quiet_effect t number r e change quiet last after reply = record { noted = []; noting = λ h. absurd (true≢false (sym h ∙ quiet)); last = last; after = ap (after_from_base r) after; reply = reply }
 
--- an event that notes nothing and after which what ran goes on
+-- an event that notes nothing, after which the node runs on
 pub going_effect : (t : Table) (number : ℕ) (r : RunningValue) (e : Event) (next : AdvanceValue) (reply : Reply) (change : ChangeValue) → change ≡ record { last = number; after = GoesOn next; reply = reply } → (transition_of t r [] e).notes ≡ false
     → GoesOn next ≡ after_by r [] (transition_of t r [] e) → reply ≡ (transition_of t r [] e).reply → Effect t number r e change
 going_effect t number r e next reply change is quiet after same =
     quiet_effect t number r e change quiet (ap (λ (c : ChangeValue). c.last) is) (ap (λ (c : ChangeValue). c.after) is ∙ after) (ap (λ (c : ChangeValue). c.reply) is ∙ same)
 
--- the same, where what runs is what the transition asks for up to the base
+-- an event that notes nothing, after which the running value is the transition's up to the base
 pub kept_effect : (t : Table) (number : ℕ) (r : RunningValue) (e : Event) (after : After) (reply : Reply) (change : ChangeValue) → change ≡ record { last = number; after = after; reply = reply } → (transition_of t r [] e).notes ≡ false
     → after_from_base r after ≡ after_from_base r (after_by r [] (transition_of t r [] e)) → reply ≡ (transition_of t r [] e).reply → Effect t number r e change
 kept_effect t number r e after reply change is quiet so same = record {
@@ -54,11 +54,11 @@ kept_effect t number r e after reply change is quiet so same = record {
   reply = ap (λ (c : ChangeValue). c.reply) is ∙ same;
 }
 
--- what goes on once these states are added, this is kept of peers and no delta below this number is kept any more
+-- the running value after adding these states, with this peer table, trimmed below this number
 abbrev added : RunningValue → PeersValue → List StateValue → ℕ → After
 added r peers adds trim = GoesOn (record { knowledge = joining (knowledge_of r) adds peers; deltas = adds; trim = trim })
 
--- how many of its own deltas all other nodes acknowledged by then
+-- the number of own deltas that all other nodes have acknowledged by then
 abbrev pub acked : Table → RunningValue → PeersValue → List StateValue → ℕ
 acked t r peers adds = acked_by_all peers (fold join r.state adds) (node_count t) r.origin.node
 
@@ -76,14 +76,14 @@ adds_message t r m peers next new after is =
     brought : content_of m.body ∷ [] ≡ brings r.state (content_of m.body)
     brought = ap (λ b. cond b [] (content_of m.body ∷ [])) (sym new)
 
--- ---- what trims alike
+-- ---- equal trims
 
--- no delta that comes moves the base back
+-- new deltas don't lower the base
 base_grows : (k : KeptDeltas StateValue) (deltas : List StateValue) → k.base ≤ (fold pushed k deltas).base
 base_grows k [] = omega arith
 base_grows k (d ∷ deltas) = let grown = base_grows (pushed k d) deltas in omega (arith, grown)
 
--- so a number up to the base trims nothing
+-- a number up to the base trims nothing
 trimmed_from_base : (k : KeptDeltas StateValue) (deltas : List StateValue) (n : ℕ) → trimmed (fold pushed k deltas) (max k.base n) ≡ trimmed (fold pushed k deltas) n
 trimmed_from_base k deltas n = ap (cut (fold pushed k deltas)) (alike k.base (fold pushed k deltas).base (fold pushed k deltas).count (base_grows k deltas))
   where
@@ -98,7 +98,7 @@ run_from_base r (GoesOn next) = ap (λ (kept : KeptDeltas StateValue). Some (run
 
 -- ---- at a node
 
--- what runs after what a transition asks for
+-- the running value after a transition
 run_after_by : (r : RunningValue) (noted : List (Option Noted)) (transition : Transition) → running_after (after_by r noted transition) (Some r) ≡ running_by r noted transition
 run_after_by r noted transition = by transition.goes_off
   where
@@ -112,7 +112,7 @@ effect_prepared t me last r e change none newest is f =
     let running = sym (run_from_base r change.after) ∙ (ap (λ after. running_after after (Some r)) f.after ∙ (run_from_base r (after_by r f.noted transition) ∙ run_after_by r f.noted transition)) in
     record { accepted = none; newest = newest; state = is; noted = f.noted; noting = f.noting; left = λ i. record { last = f.last i; running = running i }; reply = f.reply }
 
--- only a ship ships, and what it ships is its own
+-- only a ship sends a message, which is the one that the node determines
 ships_own : (t : Table) (r : RunningValue) (noted : List (Option Noted)) (e : Event) → ShipsOwnIn (Some r) (transition_of t r noted e).reply
 ships_own t r noted (Boot now) = tt
 ships_own t r noted Crash = tt
@@ -127,14 +127,14 @@ ships_own t r noted (Ship to) = refl
 ships_own t r noted (Hear m) = tt
 ships_own t r noted (HearOp o) = tt
 
--- numbers are left for what comes, if they are up to the base
+-- numbers that are left after trimming to the base are left without it
 fits_from_base : (r : RunningValue) (after : After) → FitsIn (Some r) (after_from_base r after) → FitsIn (Some r) after
 fits_from_base r Off h = tt
 fits_from_base r (Boots b) h = tt
 fits_from_base r (GoesOn next) h = h
 fits_from_base r (Keeps peers trim) h = tt
 
--- numbers are left for what comes
+-- numbers are left for the new deltas
 pub effect_fits : (t : Table) (last : ℕ) (r : RunningValue) (e : Event) (change : ChangeValue) → refusal_by t last (Some r) e ≡ None → r.kept.count ≤ MAX_COUNTER → Effect t last r e change → Fits (record { last = last; running = Some r }) change
 effect_fits t last r e change none countable f = record {
   numbers = fits_from_base r change.after (subst (FitsIn (Some r)) (sym f.after) (to_fits (after_by r f.noted (transition_of t r f.noted e)) (by (transition_of t r f.noted e).goes_off)));
@@ -151,7 +151,7 @@ effect_fits t last r e change none countable f = record {
     by true = tt
     by false = (fits t r f.noted countable e none, λ nothing. ap (fold join r.state) nothing)
 
--- so they are for an operation that comes by itself
+-- numbers are left for the delta of an operation handed
 heard_op_fits : (r : RunningValue) (o : Operation) → refusal_to_hear_op r o ≡ None → r.kept.count ≤ MAX_COUNTER → FitsIn (Some r) (GoesOn (hearing (knowledge_of r) (meaning_of (o ∷ [])) r.peers))
 heard_op_fits r o none countable = (room_to_hear r (meaning_of (o ∷ [])) countable (none_is ((overflows r (meaning_of (o ∷ [])), DotsUsedUp) ∷ []) none).0, λ nothing. ap (fold join r.state) nothing)
 

@@ -10,19 +10,19 @@ use Rattle.dac_meaning.specs.StateValue.{StateValue, bottom, join}
 use Rattle.dac_meaning.specs.laws.StateLaws.{known-join}
 use Rattle.dac_meaning.specs.Meaning.{meaning_of}
 use Rattle.dac_meaning.specs.laws.Readers.{known-meaning}
-use Rattle.dac_model_node.specs.dac_commands.Commands.{KnowsItself}
+use Rattle.dac_model_node.specs.dac_commands.Commands.{KnowsOwnBoot}
 use Rattle.dac_model_node.specs.Step.{up}
 
--- what is joined is known still
-pub knows-join : (o : Origin) (s t : StateValue) → KnowsItself o s → KnowsItself o (join s t)
+-- a join keeps what is known
+pub knows-join : (o : Origin) (s t : StateValue) → KnowsOwnBoot o s → KnowsOwnBoot o (join s t)
 knows-join o s t h = ap (λ k. set.contains k (dot o 1)) (known-join s t) ∙ (set.contains-union dots_total s.known t.known (dot o 1) ∙ ap (λ b. b || set.contains t.known (dot o 1)) h)
 
--- so is what is joined one after another
-pub knows-grown : (o : Origin) (s : StateValue) (states : List StateValue) → KnowsItself o s → KnowsItself o (fold join s states)
+-- joins one after another keep what is known
+pub knows-grown : (o : Origin) (s : StateValue) (states : List StateValue) → KnowsOwnBoot o s → KnowsOwnBoot o (fold join s states)
 knows-grown o s [] h = h
 knows-grown o s (t ∷ states) h = knows-grown o (join s t) states (knows-join o s t h)
 
-pub knows-boot : (o : Origin) → KnowsItself o (join bottom (meaning_of (up o ∷ [])))
+pub knows-boot : (o : Origin) → KnowsOwnBoot o (join bottom (meaning_of (up o ∷ [])))
 knows-boot o =
     ap (λ k. set.contains k (dot o 1)) (known-join bottom (meaning_of (up o ∷ [])))
     ∙ set.contains-union dots_total bottom.known (meaning_of (up o ∷ [])).known (dot o 1)

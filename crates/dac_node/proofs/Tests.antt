@@ -1,7 +1,7 @@
--- Tests that are one.
+-- Equal tests.
 use Rattle.std.proofs.Common.{◌≡◌, Bool, true, false, refl, sym}
 
--- two tests of which each holds where the other does
+-- two tests that imply each other are equal
 pub same : (a b : Bool) → (a ≡ true → b ≡ true) → (b ≡ true → a ≡ true) → a ≡ b
 same true b to from = sym (to refl)
 same false true to from = from refl

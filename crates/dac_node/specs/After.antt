@@ -1,4 +1,4 @@
--- What runs after a change.
+-- The running value after a change.
 use Rattle.std.specs.Prelude.{◌≡◌, ℕ, ◌+◌, ◌≤◌, max, cond, List, [], length, Option, Some, None, fold}
 use Rattle.std.specs.Option.{option_map}
 use Rattle.dac_base.specs.declared.limits.TheConstants.{MAX_COUNTER}
@@ -14,34 +14,34 @@ use Rattle.dac_node.specs.declared.change.After.TheVariants.{Off, Boots, GoesOn,
 use Rattle.dac_peers.specs.Peers.{PeersValue}
 use Rattle.dac_node.specs.Knowing.{AdvanceValue, joining, knowledge_of, running_of}
 
--- what ran before goes on so
+-- a running node after an advance
 abbrev pub gone_on : AdvanceValue → RunningValue → RunningValue
 gone_on next r = running_of next.knowledge (trimmed (fold pushed r.kept next.deltas) next.trim)
 
--- so it does where nothing new comes, this is kept of peers, and no delta below this number is kept any more
+-- the advance that brings nothing new, with this peer table, and drops deltas below this number
 abbrev pub keeping : RunningValue → PeersValue → ℕ → AdvanceValue
 keeping r peers trim = record { knowledge = joining (knowledge_of r) [] peers; deltas = []; trim = trim }
 
--- what runs from then on, where this ran before
+-- the running value after a change of this one, if any
 abbrev pub running_after : After → Option RunningValue → Option RunningValue
 running_after Off old = None
 running_after (Boots b) old = Some b.value
 running_after (GoesOn next) old = option_map (gone_on next) old
 running_after (Keeps peers trim) old = option_map (λ r. gone_on (keeping r peers trim) r) old
 
--- numbers are left for the deltas that come, and where none comes the state stays as it is
+-- numbers are left for the new deltas, and if there are none the state stays
 abbrev pub FitsIn : Option RunningValue → After → Type 0
 FitsIn (Some r) (GoesOn next) = (r.kept.count + length next.deltas ≤ MAX_COUNTER) × (next.deltas ≡ [] → next.knowledge.state ≡ r.state)
 FitsIn old after = Unit {0}
 
--- a message that a reply ships is the one that this ships as it is
+-- a message in the reply is the one that this running node ships
 abbrev pub ShipsOwnIn : Option RunningValue → Reply → Type 0
 ShipsOwnIn (Some r) (Shipped m) = m ≡ message_of r m.to
 ShipsOwnIn old reply = Unit {0}
 
--- ---- what a transition asks for
+-- ---- the effect of a transition
 
--- what goes on by a transition, where so much is noted by then
+-- the advance by a transition, with these waits
 abbrev pub next_by : RunningValue → List (Option Noted) → Transition → AdvanceValue
 next_by r noted transition = record {
   knowledge = record {
@@ -59,9 +59,9 @@ next_by r noted transition = record {
 abbrev pub after_by : RunningValue → List (Option Noted) → Transition → After
 after_by r noted transition = cond transition.goes_off Off (GoesOn (next_by r noted transition))
 
--- ---- up to the base
+-- ---- equality up to the base
 
--- the same, trimmed at least up to the base of what runs, below which nothing was kept
+-- trims at least up to the base, below which nothing was kept
 abbrev pub from_base : RunningValue → AdvanceValue → AdvanceValue
 from_base r next =
     record { knowledge = next.knowledge; deltas = next.deltas; trim = max r.kept.base next.trim }

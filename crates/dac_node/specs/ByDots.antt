@@ -1,4 +1,4 @@
--- Where heard dots are the order of what comes to a node and its state.
+-- Heard dots decide the order of a node's state and the content brought to it.
 use Rattle.std.specs.Prelude.{◌↔◌, IsTrue, [], ◌∷◌}
 use Rattle.std.specs.FinSet as set
 use Rattle.dac_origins.specs.Dots.{IsSubset}
@@ -7,10 +7,10 @@ use Rattle.dac_meaning.specs.StateValue.{StateValue}
 use Rattle.dac_meaning.specs.Meaning.{meaning_of}
 use Rattle.dac_meaning.specs.Below.{is_below}
 
--- what is brought is below the state exactly if each dot that it has heard was heard there
+-- the content is below the state if and only if the state has heard all of its dots
 abbrev pub IsBelowByDots : StateValue → StateValue → Type 0
 IsBelowByDots body s = IsTrue (is_below body s) ↔ IsSubset body.heard s.heard
 
--- what the operation means alone is below the state exactly if its dot was heard there
+-- the operation's meaning is below the state if and only if the state has heard its dot
 abbrev pub IsBelowByDot : Operation → StateValue → Type 0
 IsBelowByDot o s = IsTrue (is_below (meaning_of (o ∷ [])) s) ↔ IsTrue (set.contains s.heard o.dot)

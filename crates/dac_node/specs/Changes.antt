@@ -1,4 +1,4 @@
--- What an accepted event does to what a node holds.
+-- The effect of an accepted event on a node's value.
 use Rattle.std.specs.Prelude.{◌≡◌, ℕ, ◌+◌, List, Option, Some, None, refl}
 use Rattle.std.specs.Coded.{Coded, code_by, coded×, coded_ℕ}
 use Rattle.dac_base.specs.declared.NodeId.{NodeId}
@@ -14,7 +14,7 @@ use Rattle.dac_model_node.specs.Accepted.{AcceptedAs, IsNoting, booted}
 use Rattle.dac_node.specs.declared.change.After.{After}
 use Rattle.dac_node.specs.After.{running_after, FitsIn, ShipsOwnIn, after_by, after_from_base}
 
--- the number of the last incarnation from then on, what runs from then on, and the reply
+-- the number of the last incarnation, the running value, and the reply, after an event
 pub record ChangeValue : Type 0 where
   pub last : ℕ
   pub after : After
@@ -31,18 +31,19 @@ coded_change after reply =
 abbrev pub changed : NodeValue → ChangeValue → NodeValue
 changed v change = record { last = change.last; running = running_after change.after v.running }
 
--- Where the node goes on, numbers are left for the deltas that come. A message that it ships is its own as it is
+-- If the node runs on, numbers are left for its new deltas. A message that it ships is the one determined by its old
+-- value
 pub record Fits (v : NodeValue) (change : ChangeValue) : Type 0 where
   pub numbers : FitsIn v.running change.after
   pub ships : ShipsOwnIn v.running change.reply
 
--- what a boot does as this node at this moment, after so many incarnations
+-- the effect of a boot as this node at this moment, after the incarnation with this number
 pub record BootsBy (t : Table) (me : NodeId) (number : ℕ) (now : ℕ) (change : ChangeValue) : Type 0 where
   pub last : change.last ≡ number + 1
   pub after : running_after change.after None ≡ Some (booted t (record { node = me; inc = number + 1 }) now)
   pub reply : change.reply ≡ Booted (up (record { node = me; inc = number + 1 }))
 
--- What an accepted event does at a running node. Which number it trims by makes no difference up to the base.
+-- The effect of an accepted event at a running node. The number by which it trims matters only above the base.
 pub record Effect (t : Table) (number : ℕ) (r : RunningValue) (e : Event) (change : ChangeValue) : Type 0 where
   pub noted : List (Option Noted)
   pub noting : IsNoting t r noted e
@@ -50,6 +51,6 @@ pub record Effect (t : Table) (number : ℕ) (r : RunningValue) (e : Event) (cha
   pub after : after_from_base r change.after ≡ after_from_base r (after_by r noted (transition_of t r noted e))
   pub reply : change.reply ≡ (transition_of t r noted e).reply
 
--- the event isn't refused, and this is what it does
+-- the event is accepted, and this is its effect
 abbrev pub Prepared : Table → NodeId → NodeValue → Event → ChangeValue → Type 0
 Prepared t me v e change = AcceptedAs t me v e (changed v change) change.reply

@@ -1,4 +1,4 @@
--- What a running node keeps beside the newest deltas, and what it goes on with.
+-- The knowledge of a running node, and its change by an event.
 use Rattle.std.specs.Prelude.{ℕ, Bool, false, List, [], ◌∷◌, Option, fold, refl}
 use Rattle.std.specs.Coded.{Coded, code_by, coded×, coded_ℕ, coded_bool, coded_list, coded_option}
 use Rattle.dac_origins.specs.declared.dot.Origin.{Origin}
@@ -15,7 +15,7 @@ use Rattle.dac_model_node.specs.NodeValue.{RunningValue, coded_moments}
 use Rattle.dac_model_node.specs.Transitions.{brings}
 use Rattle.dac_model_node.specs.Step.{up}
 
--- all that a running node keeps but the newest deltas
+-- all that a running node keeps except the delta log
 pub record KnowledgeValue : Type 0 where
   pub origin : Origin
   pub moments : Moments
@@ -34,7 +34,7 @@ coded_knowledge =
     (λ p. record { origin = p.0.0; moments = p.0.1; is_open = p.1.0.0; waits = p.1.0.1; state = p.1.1.0; peers = p.1.1.1 })
     (λ _. refl)
 
--- what runs with this knowledge and these deltas
+-- the running node with this knowledge and these deltas
 abbrev pub running_of : KnowledgeValue → KeptDeltas StateValue → RunningValue
 running_of k kept = record {
   origin = k.origin;
@@ -46,7 +46,7 @@ running_of k kept = record {
   peers = k.peers;
 }
 
--- what such a node knows
+-- the knowledge of a running node
 abbrev pub knowledge_of : RunningValue → KnowledgeValue
 knowledge_of r = record {
   origin = r.origin;
@@ -57,8 +57,7 @@ knowledge_of r = record {
   peers = r.peers;
 }
 
--- what goes on after an event: what the node knows by then, and the deltas that come. With them comes the number
--- below which no delta is kept any more
+-- the knowledge after an event, the new deltas, and the number below which deltas are dropped
 pub record AdvanceValue : Type 0 where
   pub knowledge : KnowledgeValue
   pub deltas : List StateValue
@@ -68,9 +67,9 @@ abbrev pub coded_advance : Coded AdvanceValue
 coded_advance =
     code_by (KnowledgeValue × (List StateValue × ℕ)) (coded× coded_knowledge (coded× (coded_list coded_state) coded_ℕ)) (λ n. (n.knowledge, (n.deltas, n.trim))) (λ p. record { knowledge = p.0; deltas = p.1.0; trim = p.1.1 }) (λ _. refl)
 
--- ---- what goes on
+-- ---- changes of knowledge
 
--- the knowledge of a node that comes up as this incarnation at this moment
+-- the knowledge of a node that boots as this incarnation at this moment
 abbrev pub knows_at_boot : Table → Origin → ℕ → KnowledgeValue
 knows_at_boot t own now = record {
   origin = own;
@@ -81,7 +80,7 @@ knows_at_boot t own now = record {
   peers = no_peers;
 }
 
--- the knowledge once states are joined and this is kept of peers
+-- the knowledge after joining states, with this peer table
 abbrev pub joining : KnowledgeValue → List StateValue → PeersValue → KnowledgeValue
 joining k states peers = record {
   origin = k.origin;
@@ -92,15 +91,15 @@ joining k states peers = record {
   peers = peers;
 }
 
--- so it goes on once states come
+-- the advance by new states, with this peer table
 abbrev pub adding : KnowledgeValue → List StateValue → PeersValue → AdvanceValue
 adding k states peers = record { knowledge = joining k states peers; deltas = states; trim = 0 }
 
--- so it goes on once a body comes, which is added unless it is below
+-- the advance by a body, which is added unless it is below the state
 abbrev pub hearing : KnowledgeValue → StateValue → PeersValue → AdvanceValue
 hearing k body peers = adding k (brings k.state body) peers
 
--- so it goes on after a tick, where the start gate is so, so much is noted and these are the claims' states
+-- the advance by a tick: the start gate, the waits, and the states of its claims
 abbrev pub ticking : KnowledgeValue → ℕ → Bool → List (Option Noted) → List StateValue → AdvanceValue
 ticking k now is_open waits states = record {
   knowledge = record { origin = k.origin; moments = record { booted = k.moments.booted; last = now }; is_open = is_open; waits = waits; state = fold join k.state states; peers = k.peers };

@@ -1,4 +1,4 @@
-//! What goes on after an event.
+//! The effect of an event after which a controller keeps running.
 
 ghost use Rattle.std.specs.Prelude.{◌≡◌};
 
@@ -7,18 +7,16 @@ use dac_origins::Origin;
 use dac_state::State;
 use std::marker::Model;
 
-/// What goes on after an event: what the controller knows by then, and the deltas that come. With them comes the
-/// number below which no delta is kept any more.
+/// The next knowledge of a running controller, its new deltas, and how far the delta log is trimmed.
 pub(crate) struct Advance {
-    /// What the controller knows by then.
+    /// The knowledge after the event.
     pub(crate) knowledge: Knowledge,
-    /// The deltas that come, the oldest first.
+    /// The new deltas, oldest first.
     pub(crate) deltas: Vec<State>,
-    /// The number below which no delta is kept any more.
+    /// Deltas with lesser numbers are dropped.
     pub(crate) trim: u64,
 }
 
-/// Written out: a drop is one call for a proof, wherever it stands.
 impl Drop for Advance {
     fn drop(self) {
         let Advance {
@@ -44,21 +42,21 @@ impl Model for Advance {
 }
 
 impl Advance {
-    /// The incarnation that goes on.
+    /// The incarnation that keeps running.
     pub(crate) fn origin(&self) -> Origin
         ensures { result ≡ self.now.knowledge.origin }
     {
         self.knowledge.origin
     }
 
-    /// The state by then.
+    /// The state after the event.
     pub(crate) fn state(&self) -> &State
         ensures { result.now ≡ self.now.knowledge.state }
     {
         &self.knowledge.state
     }
 
-    /// What the controller knows by then, the deltas that come, and the number below which none is kept any more.
+    /// The knowledge, the new deltas, and the number below which deltas are dropped.
     pub(crate) fn into_parts(self) -> (Knowledge, Vec<State>, u64)
         ensures knowledge { result.0 ≡ self.knowledge }
         ensures deltas { result.1.items ≡ self.deltas }
@@ -72,7 +70,7 @@ impl Advance {
         (knowledge, deltas, trim)
     }
 
-    /// No delta below this number is kept any more.
+    /// Sets the number below which deltas are dropped.
     pub(crate) fn trim_below(&mut self, trim: u64)
         ensures { self.new
             ≡ record { knowledge = self.old.knowledge; deltas = self.old.deltas; trim = trim } }

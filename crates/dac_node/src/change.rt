@@ -1,4 +1,4 @@
-//! What an accepted event does, prepared before anything changes.
+//! The effect of an accepted event, prepared before anything changes.
 
 ghost use Rattle.std.specs.Prelude.{◌≡◌, ◌<◌, ◌∷◌, [], not, IfOk, IfErr, MatchOption, None};
 ghost use Rattle.dac_base.specs.declared.limits.TheConstants.{MAX_INCARNATION};
@@ -23,30 +23,30 @@ use dac_state::{Op, State};
 use std::alloc::Global;
 use std::marker::Model;
 
-/// What runs after a change.
+/// The running value after a change.
 #[derive(Drop)]
 pub(crate) enum After {
-    /// Nothing: the node is off.
+    /// The node is off.
     Off,
-    /// A node that came up. It stands behind a pointer, so that what other events do is small where it moves.
+    /// The node boots. The value is boxed to keep other changes small, because changes are moved.
     Boots(Box<Running, Global>),
-    /// What ran before, with these changes.
+    /// The running node goes on with this knowledge and these deltas.
     GoesOn(Advance),
-    /// What ran before, with this kept of peers, and no delta below this number. All else stays where it is.
+    /// The running node keeps all except the peer table, and drops deltas below this number.
     Keeps(Peers, u64),
 }
 
-/// What runs after an event that is no crash, and the reply to it.
+/// The running value after an event other than a crash, and the reply.
 #[derive(Drop)]
 pub(crate) struct Outcome {
     pub(crate) after: After,
     pub(crate) reply: Reply,
 }
 
-/// What an accepted event does: the number of the last incarnation from then on, what runs, and the reply.
+/// The effect of an accepted event: the number of the last incarnation, the running value, and the reply.
 ///
-/// [`Node::prepare`](crate::Node::prepare) makes it, and [`Node::apply`](crate::Node::apply) does it. It stands behind a
-/// pointer, so that what moves is small. A crash has no outcome there, since it takes no memory.
+/// [`Node::prepare`](crate::Node::prepare) makes it, and [`Node::apply`](crate::Node::apply) applies it. The outcome is
+/// boxed to keep the change small. A crash has no outcome, because it allocates nothing.
 #[derive(Drop)]
 pub struct Change {
     pub(crate) last: u64,
@@ -75,7 +75,7 @@ impl Change {
     ghost use Rattle.dac_node.specs.Knowing.{hearing, knowledge_of};
     ghost use Rattle.dac_node.specs.After.{after_from_base, from_base};
 
-    /// The reply to the event, lent. A crash lends none, and its reply is [`Reply::Crashed`].
+    /// Borrows the reply to the event. A crash has none to borrow; its reply is [`Reply::Crashed`].
     pub fn reply(&self) -> Option<&Reply>
         ensures { MatchOption result (self.now.reply ≡ Reply.Crashed)
             (λ reply. reply.now ≡ self.now.reply) }
@@ -86,7 +86,7 @@ impl Change {
         }
     }
 
-    /// A copy of the reply to the event. [`NoMemory`] is the only error.
+    /// Copies the reply to the event.
     pub fn copy_reply(&self) -> Result<Reply, NoMemory>
         ensures { IfOk result (λ reply. reply ≡ self.now.reply) }
     {
@@ -96,7 +96,7 @@ impl Change {
         }
     }
 
-    /// The reply to the event, when it is done.
+    /// The reply to the event, after the change is applied.
     pub fn into_reply(self) -> Reply
         ensures { result ≡ self.reply }
     {
@@ -106,7 +106,7 @@ impl Change {
         }
     }
 
-    /// Where it ships an interval that equals this state, it ships a copy of it from then on: the two share memory.
+    /// Lets an interval that the change ships share memory with this state, if the two are equal.
     pub fn ship_copy_of(&mut self, other: &State)
         ensures { self.new ≡ self.old }
     {
@@ -115,7 +115,7 @@ impl Change {
         }
     }
 
-    /// A crash: the node goes off. It takes no memory.
+    /// A crash: the node goes off.
     fn crash(last: u64) -> Self
         ensures { result ≡ record { last = last; after = After.Off; reply = Reply.Crashed } }
     {
@@ -125,7 +125,7 @@ impl Change {
         }
     }
 
-    /// This runs from then on, and this is the reply.
+    /// A change to this running value, with this reply.
     pub(crate) fn new(
         alloc: Global,
         last: u64,
@@ -142,7 +142,7 @@ impl Change {
         })
     }
 
-    /// A controller that is off comes up as this node at this moment.
+    /// The boot of a controller, as this node at this moment.
     pub(crate) fn boot(
         alloc: Global,
         config: &Config,
@@ -168,7 +168,7 @@ impl Change {
         Ok(change)
     }
 
-    /// What an event that isn't refused does at a running controller. A crash takes no memory.
+    /// The effect of an accepted event at a running controller. A crash allocates nothing.
     pub(crate) fn of(
         config: &Config,
         last: u64,
@@ -182,7 +182,7 @@ impl Change {
         match event {
             Event::Boot { now: _ } => unreachable!(),
             Event::Crash => Ok(Change::crash(last)),
-            Event::Command(command) => Change::obey(config, last, running, *command),
+            Event::Command(command) => Change::command_effect(config, last, running, *command),
             Event::Tick { now } => tick(config, last, running, *now),
             Event::Ship { to } => Change::ship(last, running, *to),
             Event::Hear(message) => {
@@ -196,8 +196,8 @@ impl Change {
         }
     }
 
-    /// What a command that isn't refused does at a running controller.
-    fn obey(
+    /// The effect of an accepted command at a running controller.
+    fn command_effect(
         config: &Config,
         last: u64,
         running: &Running,
@@ -212,7 +212,7 @@ impl Change {
         Ok(change)
     }
 
-    /// What a ship that isn't refused does at a running controller.
+    /// The effect of an accepted ship at a running controller.
     fn ship(last: u64, running: &Running, to: NodeId) -> Result<Self, NoMemory>
         ensures { IfOk result
             (λ change. (t : Table) → Effect t last running.now (Event.Ship to) change) }
@@ -224,7 +224,8 @@ impl Change {
         Ok(change)
     }
 
-    /// What a message that isn't refused does at a running controller. The caller says whether what it brings is known.
+    /// The effect of an accepted message at a running controller. The caller passes whether its content is already
+    /// known.
     pub(crate) fn hear(
         config: &Config,
         last: u64,
@@ -241,7 +242,7 @@ impl Change {
         Ok(change)
     }
 
-    /// What an operation that comes by itself does at a running controller. The caller says whether it is known.
+    /// The effect of a single operation handed to a running controller. The caller passes whether it is already known.
     pub(crate) fn hear_op(
         last: u64,
         running: &Running,
@@ -265,7 +266,7 @@ impl Change {
 }
 
 impl Outcome {
-    /// Where it ships an interval that equals this state, it ships a copy of it from then on.
+    /// Lets an interval that it ships share memory with this state, if the two are equal.
     fn share_with(&mut self, other: &State)
         ensures { self.new ≡ self.old }
     {
@@ -275,7 +276,7 @@ impl Outcome {
     }
 }
 
-/// An interval that equals a state becomes a copy of it.
+/// Replaces an interval by a copy of a state that it equals.
 fn make_copy_of(body: &mut Body, other: &State)
     ensures { body.new ≡ body.old }
 {

@@ -1,4 +1,4 @@
-//! What a controller knows while it runs.
+//! The knowledge of a running controller.
 
 ghost use Rattle.std.specs.Prelude.{◌≡◌, ◌∷◌, [], IfOk, max};
 ghost use Rattle.dac_config.specs.Table.{node_count};
@@ -22,11 +22,11 @@ use std::alloc::Global;
 use std::marker::Model;
 use std::sync::Arc;
 
-/// All that a controller keeps while it runs but the newest deltas. Its state knows the operation of its own boot, and it
-/// didn't tick before it was booted.
+/// All that a running controller keeps except the delta log. Its state knows the operation of its own boot, and its
+/// last tick isn't before its boot.
 ///
-/// Ticks alone change its waits, so it shares them with what it is made into by other events. So it is with its state,
-/// where nothing new comes. And what moves is small.
+/// Waits and state are shared pointers, because only ticks change the waits, and an event that brings nothing new keeps
+/// the state. So changes stay small.
 pub(crate) struct Knowledge {
     pub(crate) alloc: Global,
     pub(crate) origin: Origin,
@@ -37,7 +37,6 @@ pub(crate) struct Knowledge {
     pub(crate) peers: Peers,
 }
 
-/// Written out: a drop is one call for a proof, wherever it stands.
 impl Drop for Knowledge {
     fn drop(self) {
         let Knowledge {
@@ -77,14 +76,15 @@ impl Knowledge {
     ghost use Rattle.dac_node.specs.Knowing.{knows_at_boot, joining, adding};
     ghost use Rattle.dac_model_node.specs.NodeValue.{IsSound};
 
-    /// It is as its invariant says. This only tells proofs so, and does nothing when it runs.
+    /// Shows the invariant to proofs; does nothing at run time.
     pub(crate) fn tells_invariant(&self)
         ensures { IsSound self.now.origin self.now.moments self.now.state }
     {
         let _state = &self.state;
     }
 
-    /// What a controller knows that comes up as this incarnation at this moment; the operation that says so; and its delta.
+    /// The knowledge of a controller that boots as this incarnation at this moment, with the boot's operation and
+    /// delta.
     pub(crate) fn at_boot(
         alloc: Global,
         config: &Config,
@@ -115,7 +115,7 @@ impl Knowledge {
         Ok((knowledge, operation, delta))
     }
 
-    /// A copy.
+    /// Copies the knowledge; waits and state are shared.
     pub(crate) fn copy(&self) -> Result<Self, NoMemory>
         ensures { IfOk result (λ copied. copied ≡ self.now) }
     {
@@ -133,7 +133,7 @@ impl Knowledge {
         })
     }
 
-    /// The same, where a state is joined and this is kept of peers.
+    /// Joins a state, and replaces the peer table.
     pub(crate) fn join_state(&self, other: &State, peers: Peers) -> Result<Self, NoMemory>
         ensures { IfOk result (λ knowledge. knowledge ≡ joining self.now (other.now ∷ []) peers) }
     {
@@ -151,7 +151,7 @@ impl Knowledge {
         })
     }
 
-    /// What goes on after a delta comes that is to be added, where this is kept of peers.
+    /// The advance by a new delta, with this peer table.
     pub(crate) fn add_delta(&self, delta: State, peers: Peers) -> Result<Advance, NoMemory>
         ensures { IfOk result (λ next. next ≡ adding self.now (delta ∷ []) peers) }
     {
@@ -165,7 +165,7 @@ impl Knowledge {
         })
     }
 
-    /// Whether what a message's body brings is below the state.
+    /// Returns whether the content of a message's body is below the state.
     pub(crate) fn knows(&self, body: &Body) -> bool
         ensures { result ≡ is_below (content_of body.now) self.now.state }
     {
@@ -175,7 +175,7 @@ impl Knowledge {
         }
     }
 
-    /// Whether what a message's body brings is below the state, where heard dots are the order of the two.
+    /// Returns whether the content of a message's body is below the state, by comparing heard dots.
     pub(crate) fn knows_by_dots(&self, body: &Body) -> bool
         requires { IsBelowByDots (content_of body.now) self.now.state }
         ensures { result ≡ is_below (content_of body.now) self.now.state }
@@ -186,7 +186,7 @@ impl Knowledge {
         }
     }
 
-    /// What goes on after a message's body comes that is to be added, where this is kept of peers.
+    /// The advance by the new content of a message's body, with this peer table.
     pub(crate) fn add_body(&self, body: &Body, peers: Peers) -> Result<Advance, NoMemory>
         ensures { IfOk result
             (λ next. next ≡ adding self.now (content_of body.now ∷ []) peers) }
@@ -198,7 +198,7 @@ impl Knowledge {
         self.add_delta(delta, peers)
     }
 
-    /// The greater of `base` and how many of the own deltas all other nodes have acknowledged.
+    /// The greater of `base` and the number of own deltas that all other nodes have acknowledged.
     pub(crate) fn acked_past(&self, config: &Config, base: u64) -> u64
         ensures { result
             ≡ max base (acked_by_all self.now.peers self.now.state (node_count config.now)
@@ -207,7 +207,7 @@ impl Knowledge {
         self.trim_with(config, &self.peers, base)
     }
 
-    /// The same, where this is kept of peers.
+    /// The greater of `base` and the number of own deltas that all other nodes have acknowledged by this peer table.
     pub(crate) fn trim_with(&self, config: &Config, peers: &Peers, base: u64) -> u64
         ensures { result
             ≡ max base (acked_by_all peers.now self.now.state (node_count config.now)
@@ -217,14 +217,14 @@ impl Knowledge {
     }
 }
 
-/// Whether a state is below another.
+/// Returns whether a state is below another.
 pub(crate) fn is_below(state: &State, other: &State) -> bool
     ensures { result ≡ is_below state.now other.now }
 {
     state.leq(other)
 }
 
-/// Whether a state is below another, where heard dots are the order of the two.
+/// Returns whether a state is below another, by comparing heard dots.
 fn is_below_by_dots(state: &State, other: &State) -> bool
     requires { IsBelowByDots state.now other.now }
     ensures { result ≡ is_below state.now other.now }
@@ -232,14 +232,14 @@ fn is_below_by_dots(state: &State, other: &State) -> bool
     state.heard().is_subset(other.heard())
 }
 
-/// Whether what an operation means alone is below a state.
+/// Returns whether an operation's meaning is below a state.
 pub(crate) fn covers(state: &State, operation: &Op) -> bool
     ensures { result ≡ is_below (meaning_of (operation.now ∷ [])) state.now }
 {
     state.covers(operation)
 }
 
-/// Whether what an operation means alone is below a state, where its dot alone tells.
+/// Returns whether an operation's meaning is below a state, by looking for its dot.
 pub(crate) fn covers_by_dot(state: &State, operation: &Op) -> bool
     requires { IsBelowByDot operation.now state.now }
     ensures { result ≡ is_below (meaning_of (operation.now ∷ [])) state.now }

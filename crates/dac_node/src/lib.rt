@@ -1,17 +1,21 @@
-//! One controller: a node that is off or runs with a state.
+//! One controller: a node that is off, or runs with a state.
 //!
-//! A [`Node`] changes by [`Node::step`], or by the second half of a step, one event at a time. [`Node::prepare`], the
-//! first half, finds why the event is refused, or makes what it does, as a [`Change`]. [`Node::apply`], the second,
-//! does the change: it first adds to the newest deltas those that come, which takes memory, and nothing else of it
-//! does. So a caller that keeps more than a node can make room for all of it before anything changes.
+//! A [`Node`] handles one event at a time, by [`Node::step`] or by its two halves. [`Node::prepare`] returns the
+//! refusal of the event, or its effect as a [`Change`]. [`Node::apply`] applies the change. It first appends the new
+//! deltas to the delta log, the only part that allocates, so a caller can reserve memory for its own data before
+//! anything changes.
 //!
-//! At a tick a node looks after the applications. Once its start gate is open it notes which claims are lost, and
-//! claims what it is to run now. Once its state has stayed for some ticks, it keeps a board of it, which gives the
-//! verdicts. A ship sends another node what it hasn't acknowledged, as an interval of the newest deltas or as the whole
-//! state. What comes of a message is joined, and what all others have acknowledged is dropped.
+//! At a tick a node re-evaluates placement: if its start gate is open, it notes which claims are lost, and claims the
+//! applications that it should run. It decides by a board, which it maintains for its state. A ship sends a peer
+//! whatever the peer hasn't acknowledged, as an interval of the newest deltas or as the whole state. A received state
+//! is joined, and deltas that all other nodes have acknowledged are dropped.
 //!
-//! A caller of two nodes. What the first one ships is new to the second one, which refuses it once it is off. The module
-//! `callers` of `controller_tests` runs it.
+//! Functions whose result can't carry `NoMemory` allocate nothing but caches, whose failed allocations are no error. A
+//! call that fails leaves the node unchanged, and has no error besides `NoMemory` unless it names others. Each `Drop`
+//! is written by hand, so that a proof sees it as one call.
+//!
+//! A caller of two nodes. The second node hears the first one's message as new, and refuses it after a crash. The
+//! module `callers` of `controller_tests` runs it.
 //!
 //! ```
 //! let mut sender = Node::off(alloc, 0);

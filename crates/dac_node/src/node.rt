@@ -19,19 +19,17 @@ use std::alloc::Global;
 use std::marker::Model;
 use std::mem::replace;
 
-/// A controller: off, where it keeps the number of its last incarnation alone, or running.
+/// A controller, which is off or running. While it is off it keeps only the number of its last incarnation.
 ///
-/// An incarnation number is used once. A controller that boots again has lost all that it knew and goes by the next
-/// number, so an operation's dot never comes twice. While it runs it keeps its state, the moments of its boot and its
-/// last tick, and whether its start gate is open. It also keeps how long each failover has been waiting, and the
-/// newest of the deltas that made its state. Beside these it has what is kept of its peers.
+/// An incarnation number is never reused. After a reboot a controller has lost its state and takes the next number, so
+/// no dot is issued twice. A running controller has its state, the moments of its boot and its last tick, whether its
+/// start gate is open, how long each failover has waited, the newest deltas of its state, and its peer table.
 pub struct Node {
     alloc: Global,
     last: u64,
     running: Option<Running>,
 }
 
-/// Written out: a drop is one call for a proof, wherever it stands.
 impl Drop for Node {
     fn drop(self) {
         let Node {
@@ -67,10 +65,10 @@ impl Node {
     ghost use Rattle.dac_model_node.specs.Hearing.{HearsExactly};
     ghost use Rattle.dac_model_node.specs.Refused.{IsAnsweredBy, IsFree};
 
-    /// A controller that is off and whose last incarnation had this number; 0 for one that never booted.
+    /// A controller that is off and whose last incarnation had this number; 0 if it never booted.
     pub fn off(alloc: Global, last: u64) -> Self
         ensures value { result ≡ off last }
-        // Under each configuration some model node shows as it, so what a step promises of each such node says something.
+        // Under each configuration some model node shows as it, so the clauses about such nodes aren't vacuous.
         ensures shown { (t : Table) → IsShown t result }
     {
         Node {
@@ -80,7 +78,7 @@ impl Node {
         }
     }
 
-    /// The state, where the controller runs.
+    /// The state, if the controller runs.
     pub fn state(&self) -> Option<&State>
         ensures { option_copied result ≡ state_of self.now }
     {
@@ -90,7 +88,7 @@ impl Node {
         }
     }
 
-    /// The present incarnation, where the controller runs: what issues its operations.
+    /// The present incarnation, if the controller runs: the origin of its operations.
     pub fn origin(&self) -> Option<Origin>
         ensures { result ≡ origin_of self.now }
     {
@@ -100,7 +98,7 @@ impl Node {
         }
     }
 
-    /// An equal controller. [`NoMemory`] is the only error.
+    /// Returns an equal controller.
     pub fn copy(&self) -> Result<Self, NoMemory>
         ensures { IfOk result (λ copied. copied ≡ self.now) }
     {
@@ -118,41 +116,42 @@ impl Node {
         })
     }
 
-    /// One event. It is refused with the first cause that holds, and with `NoMemory` only where there is no
-    /// other; the controller is then as before. A crash takes no memory: a running controller always goes
-    /// down. A controller that boots is node `self_id` until it is off again.
+    /// Handles one event. A controller that boots is node `self_id` until it is off again. Fails with the first cause
+    /// that holds, and with `NoMemory` only if no other does. A crash allocates nothing, so a running controller can
+    /// always go down.
     pub fn step(&mut self, config: &Config, self_id: NodeId, event: Event) -> Result<Reply, Refusal>
         ensures err { IfErr result
             (λ why. why ≡ unwrap_or (refusal_of config.now self.old event) Refusal.NoMemory) }
-        // Of the causes that the event can have and that hold, the least is answered; none holds of an accepted one.
+        // A refusal is the least cause that holds; no cause holds of an accepted event.
         ensures cases { MatchResult result (λ _. IsFree config.now self.old event)
             (IsAnsweredBy config.now self.old event) }
         ensures crash { IfErr result (λ why. event ≡ Event.Crash → why ≡ Refusal.Off) }
         ensures unchanged { OnErr result (self.new ≡ self.old) }
         ensures ok { IfOk result
             (λ reply. Steps config.now self_id self.old event self.new (Ok reply)) }
-        // A refusal other than `NoMemory` is a step too, which changes nothing.
+        // A refusal other than `NoMemory` is also a step of the model, which changes nothing.
         ensures refused { IfErr result (λ why. (why ≡ Refusal.NoMemory → ⊥)
             → Steps config.now self_id self.old event self.new (Err why)) }
-        // A command is answered by the operation that says it: under the next dot and at the key of the live
-        // incarnation. The operation replaces exactly what stands there. A tick is answered by the claims of exactly
-        // the applications that are due to this node. But for a boot, no other event issues anything. What comes is
-        // answered as new exactly where it isn't below the state.
+        // A command issues its operation, with the next dot and at the key of the live incarnation, which replaces
+        // exactly what stands there. A tick issues claims of exactly the applications that are due to this node. Except
+        // for a boot, no other event issues anything. A message or operation is reported as new if and only if it isn't
+        // below the state.
         ensures writes { IfOk result (λ reply. Writes config.now self_id self.old event reply) }
-        // A ship is answered by the message that the log says in words. It brings the whole state where there is no
-        // position to begin an interval. Else it brings what the log got from there on, or nothing.
+        // A ship sends the message that the delta log determines: the whole state if there is no position where an
+        // interval can begin, and otherwise the deltas since that position, or nothing.
         ensures ships { IfOk result (λ reply. ShipsSo config.now self.old event reply) }
-        // What comes up is the next incarnation. What ran runs on as the same one, or is off by a crash or a start gate
-        // that gave up. Its start gate stays open once it is, and each tick that looks after the applications adds its
-        // note. Its state, its deltas and what it keeps of its peers grow by what the event brings, and by no more.
+        // A boot starts the next incarnation. A running node keeps its incarnation, unless it goes off by a crash or a
+        // start gate that gives up. Its start gate stays open after it opens, and each tick that finds it open adds a
+        // note. State, deltas and peer table grow exactly by what the event brings.
         ensures keeps { IfOk result
             (λ reply. Keeps config.now self_id self.old event reply self.new) }
-        // A command takes effect in the state that is left. What a tick claims is kept at the own node to the end of the tick,
-        // and runs there. A claim's term is above that of each claim of its application that the node had heard.
+        // A command takes effect in the resulting state. An application claimed by a tick is kept at this node to the
+        // end of the tick, and runs there. A claim's term is above that of each claim of its application that the node
+        // has heard.
         ensures effect { IfOk result (λ reply. HasEffect config.now self.old event reply self.new) }
-        // What it has heard grows by the dots that the event brings, and by no more.
+        // The node hears exactly the dots that the event brings.
         ensures heard { IfOk result (λ reply. HearsExactly self.old event reply self.new) }
-        // Where some model node shows as it, one shows as what it becomes.
+        // If some model node shows as the old value, one shows as the new value.
         ensures shown { IsShown config.now self.old → IsShown config.now self.new }
     {
         self.warm(&event);
@@ -161,7 +160,7 @@ impl Node {
         Ok(reply)
     }
 
-    /// Why an event is refused, if it is.
+    /// The refusal of an event, if it is refused.
     fn refusal(&self, config: &Config, event: &Event) -> Option<Refusal>
         ensures { result ≡ refusal_of config.now self.now event.now }
     {
@@ -171,8 +170,8 @@ impl Node {
         }
     }
 
-    /// Makes ready what an event takes, so that [`Node::prepare`] takes less time. Contracts see no change, and memory that
-    /// is refused is no error.
+    /// Prepares caches for an event, so that [`Node::prepare`] is faster. Contracts see no change, and a failed
+    /// allocation is no error.
     pub fn warm(&mut self, event: &Event)
         ensures { self.new ≡ self.old }
     {
@@ -185,7 +184,7 @@ impl Node {
         }
     }
 
-    /// What an event would do at node `self_id`, or why it is refused. Nothing changes yet. A crash takes no memory.
+    /// The effect of an event at node `self_id`, or its refusal. Nothing changes yet. A crash allocates nothing.
     pub fn prepare(
         &self,
         config: &Config,
@@ -204,8 +203,8 @@ impl Node {
         }
     }
 
-    /// What an event that isn't refused does at node `self_id`. [`Refusal::NoMemory`] is the only error. A crash takes no
-    /// memory.
+    /// The effect of an accepted event at node `self_id`. Its only error is [`Refusal::NoMemory`]. A crash allocates
+    /// nothing.
     fn accept(&self, config: &Config, self_id: NodeId, event: &Event) -> Result<Change, Refusal>
         requires { refusal_of config.now self.now event.now ≡ None }
         ensures ok { IfOk result (λ change. Prepared config.now self_id self.now event.now change) }
@@ -225,9 +224,9 @@ impl Node {
         }
     }
 
-    /// What a message that comes would do, as [`Node::prepare`] of that event, without a copy of the message. The error is
-    /// the refusal of the event, or `NoMemory` where it has none. Heard dots are compared in place of states, so they must be
-    /// the order of the message's body and the state. They are in a world, and may not be where a message is forged.
+    /// The effect of hearing a message, as [`Node::prepare`] computes it, but by a borrowed message. The error is the
+    /// event's refusal, or `NoMemory` if it has none. Instead of states it compares heard dots, which requires that
+    /// these decide the order of body and state. They do in a world, but not for a forged message.
     pub fn prepare_hear_by_dots(
         &self,
         config: &Config,
@@ -251,9 +250,9 @@ impl Node {
         Ok(Change::hear(config, self.last, running, message, is_known)?)
     }
 
-    /// What an operation that comes by itself would do, as [`Node::prepare`] of that event, without a copy of the
-    /// operation. The error is the refusal of the event, or `NoMemory` where it has none. The operation's dot is looked for
-    /// among those that were heard, which must tell whether the state covers it. It does in a world.
+    /// The effect of hearing a single operation, as [`Node::prepare`] computes it, but by a borrowed operation. The
+    /// error is the event's refusal, or `NoMemory` if it has none. It looks for the operation's dot among the heard
+    /// ones, which requires that this decides whether the state covers the operation, as in a world.
     pub fn prepare_hear_op_by_dot(&self, operation: &Op) -> Result<Change, Refusal>
         requires { IfSome (state_of self.now) (IsBelowByDot operation.now) }
         ensures ok { IfOk result (λ change. (t : Table) (me : NodeId)
@@ -274,9 +273,8 @@ impl Node {
         Ok(Change::hear_op(self.last, running, operation, is_known)?)
     }
 
-    /// Does what was prepared, and gives the reply. It is a step of the event where this node prepared the change, and
-    /// has been as it is since then. [`NoMemory`] is the only error, and leaves all as it was. A node that goes off
-    /// takes none.
+    /// Applies a prepared change, and returns the reply. This is a step for the event, if this node prepared the change
+    /// and hasn't changed since. A node that goes off allocates nothing.
     pub fn apply(&mut self, mut change: Change) -> Result<Reply, NoMemory>
         requires { Fits self.old change }
         ensures new { OnOk result (self.new ≡ changed self.old change) }
@@ -288,8 +286,8 @@ impl Node {
         Ok(change.into_reply())
     }
 
-    /// Does what was prepared, as [`Node::apply`] does, and leaves the reply in the change. Nothing else of the change is
-    /// to be used from then on.
+    /// Applies a prepared change as [`Node::apply`] does, but leaves the reply in it. The rest of the change can't be
+    /// used after that.
     pub fn perform(&mut self, change: &mut Change) -> Result<(), NoMemory>
         requires { Fits self.old change.old }
         ensures new { OnOk result (self.new ≡ changed self.old change.old) }
@@ -303,12 +301,12 @@ impl Node {
             self.last = *last;
             return Ok(());
         };
-        self.come_to(outcome)?;
+        self.replace_running(outcome)?;
         self.last = *last;
         Ok(())
     }
 
-    /// The state once it does what was prepared, if it runs then.
+    /// The state after a prepared change, if the controller then runs.
     pub fn state_after<'a>(&'a self, change: &'a Change) -> Option<&'a State>
         ensures { option_copied result ≡ state_of (changed self.now change.now) }
     {
@@ -326,7 +324,7 @@ impl Node {
         }
     }
 
-    /// The incarnation once it does what was prepared, if it runs then.
+    /// The incarnation after a prepared change, if the controller then runs.
     pub fn origin_after(&self, change: &Change) -> Option<Origin>
         ensures { result ≡ origin_of (changed self.now change.now) }
     {
@@ -344,8 +342,8 @@ impl Node {
         }
     }
 
-    /// This comes of what runs. The reply stays where it is.
-    fn come_to(&mut self, outcome: &mut Outcome) -> Result<(), NoMemory>
+    /// Replaces the running value by the outcome's. The reply stays in the outcome.
+    fn replace_running(&mut self, outcome: &mut Outcome) -> Result<(), NoMemory>
         requires numbers { FitsIn self.old.running outcome.old.after }
         requires ships { ShipsOwnIn self.old.running outcome.old.reply }
         ensures new { OnOk result (self.new ≡ record {
@@ -374,14 +372,12 @@ impl Node {
         Ok(())
     }
 
-    /// Nothing runs any more.
     fn go_off(&mut self)
         ensures { self.new ≡ record { last = self.old.last; running = None } }
     {
         self.running = None;
     }
 
-    /// This runs from now on.
     fn come_up(&mut self, running: Box<Running, Global>)
         ensures { self.new ≡ record { last = self.old.last; running = Some running.value } }
     {
@@ -389,7 +385,7 @@ impl Node {
     }
 }
 
-/// Why a controller that is off refuses the event, if it does.
+/// The refusal of an event by a controller that is off, if it is refused.
 fn refusal_off(last: u64, event: &Event) -> Option<Refusal>
     ensures { result ≡ refused_off last event.now }
 {
@@ -400,7 +396,7 @@ fn refusal_off(last: u64, event: &Event) -> Option<Refusal>
     }
 }
 
-/// The moment of an event, 0 where it has none.
+/// The moment of an event; 0 if it has none.
 fn moment_of(event: &Event) -> u64
     ensures { result ≡ moment_of event.now }
 {

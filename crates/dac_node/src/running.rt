@@ -1,4 +1,4 @@
-//! What runs: what a controller knows and the newest deltas, and which events it refuses.
+//! A running controller: its knowledge, its delta log, and the refusals of events.
 
 ghost use Rattle.std.specs.Prelude.{◌≡◌, ◌+◌, ◌≤◌, ◌∷◌, [], ◌^◌, length, IfOk, IfSome, OnOk, OnErr};
 ghost use Rattle.std.specs.Option.{option_copied};
@@ -32,15 +32,13 @@ use dac_state::{Op, State};
 use std::alloc::Global;
 use std::marker::Model;
 
-/// A controller that runs: what it knows, the newest of the deltas that made its state, and a board. Contracts don't see the
-/// board.
+/// A running controller: its knowledge, the newest deltas of its state, and a board, which contracts don't see.
 pub(crate) struct Running {
     pub(crate) knowledge: Knowledge,
     pub(crate) buffer: Buffer<State>,
     shown: Shown,
 }
 
-/// Written out: a drop is one call for a proof, wherever it stands.
 impl Drop for Running {
     fn drop(self) {
         let Running {
@@ -70,8 +68,8 @@ impl Running {
     ghost use Rattle.dac_node.specs.Knowing.{adding, knowledge_of};
     ghost use Rattle.dac_node.specs.After.{gone_on, keeping, ShipsOwnIn};
 
-    /// The deltas that are kept are the newest, and their count is at most 2^62. The state is one. This only tells proofs
-    /// so, and does nothing when it runs.
+    /// Shows the invariant to proofs: the deltas kept are the newest, at most 2^62 were counted, and the state is well
+    /// formed. Does nothing at run time.
     pub(crate) fn tells_invariant(&self)
         ensures newest { AreNewest self.now.kept }
         ensures countable { self.now.kept.count ≤ LAST_NUMBER }
@@ -82,21 +80,18 @@ impl Running {
         state.tells_invariant();
     }
 
-    /// The present incarnation.
     pub(crate) fn origin(&self) -> Origin
         ensures { result ≡ self.now.origin }
     {
         self.knowledge.origin
     }
 
-    /// The state.
     pub(crate) fn state(&self) -> &State
         ensures { result.now ≡ self.now.state }
     {
         &self.knowledge.state
     }
 
-    /// A copy.
     pub(crate) fn copy(&self) -> Result<Self, NoMemory>
         ensures { IfOk result (λ copied. copied ≡ self.now) }
     {
@@ -110,7 +105,7 @@ impl Running {
         })
     }
 
-    /// A controller that comes up as this incarnation at this moment, and the operation that says so.
+    /// A controller that boots as this incarnation at this moment, and the operation of the boot.
     pub(crate) fn new(
         alloc: Global,
         config: &Config,
@@ -132,8 +127,8 @@ impl Running {
         Ok((running, operation))
     }
 
-    /// Goes on so, with this reply. Where memory is refused for the deltas that come, all is as before. An interval that
-    /// the reply ships is remembered.
+    /// Goes on by an advance, and remembers an interval that the reply ships, to send it again. If the new deltas can't
+    /// be allocated, nothing changes.
     pub(crate) fn go_on(&mut self, next: Advance, reply: &Reply) -> Result<(), NoMemory>
         requires numbers { self.old.kept.count + length next.deltas ≤ LAST_NUMBER }
         requires stays { next.deltas ≡ [] → next.knowledge.state ≡ self.old.state }
@@ -156,22 +151,21 @@ impl Running {
         Ok(())
     }
 
-    /// The board takes up what came since it was used last. Where that fails, it isn't used.
+    /// Updates the board for the deltas since its last use. If that fails, the board isn't used.
     pub(crate) fn catch_up(&mut self)
         ensures { self.new ≡ self.old }
     {
         let _caught_up = self.shown.catch_up(&self.knowledge.state);
     }
 
-    /// The board, where it shows the state.
+    /// The board, if it shows the present state.
     pub(crate) fn board(&self) -> Option<&KeptBoard>
         ensures { IfSome (option_copied result) (λ board. IsBoardOf board self.now.state) }
     {
         self.shown.board()
     }
 
-    /// Goes on with this kept of peers and no delta below this number, with this reply. An interval that the reply ships
-    /// is remembered.
+    /// Replaces the peer table, drops deltas below this number, and remembers an interval that the reply ships.
     pub(crate) fn keep(&mut self, peers: Peers, trim: u64, reply: &Reply)
         requires { ShipsOwnIn (Some self.old) reply.now }
         ensures { self.new ≡ gone_on (keeping self.old peers trim) self.old }
@@ -184,7 +178,7 @@ impl Running {
         self.knowledge.peers.settle();
     }
 
-    /// Whether so many deltas more would pass the last number.
+    /// Returns whether this many more deltas would exceed the last number.
     fn lacks_numbers(&self, more: u64) -> bool
         requires { more ≤ 2 ^ 16 }
         ensures { result ≡ too_many_deltas self.now more }
@@ -193,15 +187,15 @@ impl Running {
         self.buffer.count() + more > MAX_COUNTER
     }
 
-    /// Whether a state would be added as one delta more than there can be.
+    /// Returns whether adding a state needs a delta number and none is left.
     fn overflows(&self, body: &State) -> bool
         ensures { result ≡ overflows self.now body.now }
     {
-        // In this order states are hardly ever compared.
+        // This order avoids most comparisons of states.
         self.lacks_numbers(1) && !is_below(body, &self.knowledge.state)
     }
 
-    /// Why the event is refused, if it is.
+    /// The refusal of the event, if it is refused.
     pub(crate) fn refusal(&self, config: &Config, event: &Event) -> Option<Refusal>
         ensures { result ≡ refusal_on config.now self.now event.now }
     {
@@ -216,7 +210,7 @@ impl Running {
         }
     }
 
-    /// Why what a command says isn't done, if it isn't.
+    /// The refusal of a command, if it is refused.
     fn refusal_to_obey(&self, config: &Config, command: Command) -> Option<Refusal>
         ensures { result ≡ refused_command_here config.now self.now command }
     {
@@ -232,7 +226,7 @@ impl Running {
         }
     }
 
-    /// Why the applications aren't looked after at this moment, if they aren't.
+    /// The refusal of a tick at this moment, if it is refused.
     fn refusal_to_tick(&self, config: &Config, now: u64) -> Option<Refusal>
         ensures { result ≡ refused_tick config.now self.now now }
     {
@@ -250,7 +244,7 @@ impl Running {
         None
     }
 
-    /// Why nothing is shipped to a node, if nothing is.
+    /// The refusal of a ship to a node, if it is refused.
     fn refusal_to_ship(&self, config: &Config, to: NodeId) -> Option<Refusal>
         ensures { result ≡ refused_ship config.now self.now to }
     {
@@ -266,8 +260,8 @@ impl Running {
         None
     }
 
-    /// Why a message isn't heard, if it isn't. It is for this incarnation where it is for its node, and for no other
-    /// incarnation alone.
+    /// The refusal of a message, if it is refused. A message is for this incarnation if it is for its node and isn't
+    /// bound to another incarnation.
     pub(crate) fn refusal_to_hear(&self, message: &Message) -> Option<Refusal>
         ensures { result ≡ refused_hear self.now message.now }
     {
@@ -284,7 +278,7 @@ impl Running {
         None
     }
 
-    /// Whether what a message brings would be added as one delta more than there can be.
+    /// Returns whether adding a message's content needs a delta number and none is left.
     fn overflows_by(&self, message: &Message) -> bool
         ensures { result ≡ overflows self.now (content_of message.now.body) }
     {
@@ -294,11 +288,11 @@ impl Running {
         }
     }
 
-    /// Why an operation that comes by itself isn't heard, if it isn't.
+    /// The refusal of a single operation handed, if it is refused.
     pub(crate) fn refusal_to_hear_op(&self, operation: &Op) -> Option<Refusal>
         ensures { result ≡ refused_hear_op self.now operation.now }
     {
-        // In this order the state is hardly ever asked.
+        // This order avoids most look-ups in the state.
         if self.lacks_numbers(1) && !covers(&self.knowledge.state, operation) {
             Some(Refusal::DotsUsedUp)
         } else {
@@ -306,7 +300,7 @@ impl Running {
         }
     }
 
-    /// Why no delta more is added, if there is no number for it.
+    /// The refusal if no delta number is left.
     fn refusal_to_push(&self) -> Option<Refusal>
         ensures { result ≡ first ((too_many_deltas self.now 1, Refusal.DotsUsedUp) ∷ []) }
     {
@@ -317,7 +311,7 @@ impl Running {
         }
     }
 
-    /// What goes on after a command that isn't refused, and the operation that it issues.
+    /// The advance by an accepted command, and the operation that it issues.
     pub(crate) fn command(
         &self,
         config: &Config,
@@ -337,7 +331,7 @@ impl Running {
         Ok((next, operation))
     }
 
-    /// What goes on after an operation of its own.
+    /// The advance by an own operation.
     fn issue(&self, operation: &Op) -> Result<Advance, NoMemory>
         ensures { IfOk result (λ next. next
             ≡ adding (knowledge_of self.now) (meaning_of (operation.now ∷ []) ∷ [])
@@ -350,7 +344,7 @@ impl Running {
     }
 }
 
-/// Drops the deltas below a number. Most often there are none, and then the list of them isn't touched.
+/// Drops the deltas below a number. Usually there are none, and then the list isn't touched.
 fn drop_below(buffer: &mut Buffer<State>, n: u64)
     ensures { buffer.new ≡ trimmed buffer.old n }
 {
@@ -360,7 +354,7 @@ fn drop_below(buffer: &mut Buffer<State>, n: u64)
     buffer.trim(n);
 }
 
-/// Whether a message is for this incarnation.
+/// Returns whether a message is for this incarnation.
 fn is_for(own: Origin, message: &Message) -> bool
     ensures { result ≡ is_for own message.now }
 {
@@ -371,7 +365,7 @@ fn is_for(own: Origin, message: &Message) -> bool
     message.to == own.node && for_all
 }
 
-/// How many counters and numbers of deltas a tick is taken to need.
+/// The number of counters, and of delta numbers, that a tick is assumed to need.
 fn tick_need(config: &Config) -> u64
     ensures needed { result ≡ needed config.now }
     ensures few { result ≤ 2 ^ 16 }
@@ -379,7 +373,7 @@ fn tick_need(config: &Config) -> u64
     u64::from(config.apps()).max(1)
 }
 
-/// Whether fewer counters of an incarnation are left than a tick is taken to need.
+/// Returns whether an incarnation has fewer counters left than a tick is assumed to need.
 fn has_too_few(config: &Config, own: Origin, state: &State) -> bool
     ensures { result ≡ too_few_left config.now state.now own }
 {

@@ -1,4 +1,4 @@
-//! What a controller ships, and what comes to it.
+//! Messages sent and received by a running controller.
 
 ghost use Rattle.std.specs.Prelude.{◌≡◌, ◌≤◌, ◌∷◌, [], not, IfOk, IfSome, None};
 ghost use Rattle.dac_meaning.specs.Below.{is_below};
@@ -20,7 +20,7 @@ use dac_peers::{Peers, Position};
 use dac_state::{Op, State};
 
 impl Running {
-    /// Whether nothing is to be shipped to a node.
+    /// Returns whether nothing needs to be shipped to a node.
     pub(crate) fn is_up_to_date(&self, to: NodeId) -> bool
         ensures { let r = self.now in
             result ≡ needs_nothing r.peers r.state r.kept.base r.kept.count to }
@@ -31,8 +31,8 @@ impl Running {
             .is_up_to_date(&known.state, self.buffer.base(), self.buffer.count(), to)
     }
 
-    /// What is shipped from a position on: nothing where the node has all, else the interval from there. It is the
-    /// whole state where there is no position to begin.
+    /// The body of a message from a position: nothing if the node has all, otherwise the interval since the position.
+    /// Without a position it is the whole state.
     fn body_from(&self, from: Option<Position>) -> Result<Body, NoMemory>
         requires { IfSome from (λ position. self.now.kept.base ≤ position.number) }
         ensures { IfOk result (λ body. body ≡ body_from self.now from) }
@@ -50,7 +50,7 @@ impl Running {
         }
     }
 
-    /// The message that is shipped to a node.
+    /// The next message to a node.
     pub(crate) fn message_to(&self, to: NodeId) -> Result<Message, NoMemory>
         ensures { IfOk result (λ message. message ≡ message_of self.now to) }
     {
@@ -70,8 +70,8 @@ impl Running {
         })
     }
 
-    /// Makes the buffer's joins if the next message to a node is an interval. If memory is refused for them, the interval
-    /// takes longer.
+    /// Makes the buffer's joined blocks if the next message to a node is an interval. If an allocation fails, making
+    /// the interval takes longer.
     pub(crate) fn warm(&mut self, to: NodeId)
         ensures { self.new ≡ self.old }
     {
@@ -82,8 +82,8 @@ impl Running {
         }
     }
 
-    /// Keeps the interval that a message of its own brings, if it brings one, for the next node that is to get it. Where
-    /// memory is refused for that, the next one is made anew.
+    /// Caches the interval of an own message, for the next node that needs it. If an allocation fails, the interval is
+    /// made again.
     pub(crate) fn remember(&mut self, message: &Message)
         requires { message.now ≡ message_of self.old message.now.to }
         ensures { self.new ≡ self.old }
@@ -100,7 +100,7 @@ impl Running {
         }
     }
 
-    /// What is kept of peers once a node was shipped to: it is owed no answer any more.
+    /// The peer table after a ship to a node, which is no longer due a reply.
     pub(crate) fn peers_shipped_to(&self, to: NodeId) -> Result<Peers, NoMemory>
         ensures { IfOk result (λ peers. peers ≡ shipped_to self.now.peers to) }
     {
@@ -108,14 +108,14 @@ impl Running {
         Ok(peers)
     }
 
-    /// Whether what a message brings is below the state.
+    /// Returns whether the content of a message is below the state.
     pub(crate) fn knows(&self, message: &Message) -> bool
         ensures { result ≡ is_below (content_of message.now.body) self.now.state }
     {
         self.knowledge.knows(&message.body)
     }
 
-    /// Whether what a message brings is below the state, where heard dots are the order of the two.
+    /// Returns whether the content of a message is below the state, by comparing heard dots.
     pub(crate) fn knows_by_dots(&self, message: &Message) -> bool
         requires { IsBelowByDots (content_of message.now.body) self.now.state }
         ensures { result ≡ is_below (content_of message.now.body) self.now.state }
@@ -123,8 +123,8 @@ impl Running {
         self.knowledge.knows_by_dots(&message.body)
     }
 
-    /// What runs after a message is heard, and whether it was new. The caller says whether what it brings is known. What all
-    /// other nodes have acknowledged by then is kept no longer.
+    /// The running value after a message, and whether it was new. The caller passes whether its content is known.
+    /// Deltas that all other nodes have then acknowledged are dropped.
     pub(crate) fn after_message(
         &self,
         config: &Config,
@@ -151,8 +151,7 @@ impl Running {
         Ok((After::GoesOn(next), true))
     }
 
-    /// What runs after one operation is heard that comes by itself, and whether it is new. The caller says whether it is
-    /// known.
+    /// The running value after a single operation, and whether it was new. The caller passes whether it is known.
     pub(crate) fn after_operation(
         &self,
         operation: &Op,
@@ -167,7 +166,7 @@ impl Running {
     {
         let known = &self.knowledge;
         let peers = known.peers.copy()?;
-        // Few of the operations that come are new.
+        // Most operations handed are known already.
         if is_known {
             return Ok((After::Keeps(peers, 0), false));
         }

@@ -1,4 +1,4 @@
-//! The board that a running controller keeps.
+//! The board of a running controller.
 
 ghost use Rattle.std.specs.Prelude.{◌≡◌, IfOk, IfSome, true, false};
 ghost use Rattle.std.specs.Arc.{arc_value};
@@ -13,15 +13,14 @@ use std::alloc::Global;
 use std::marker::Model;
 use std::sync::Arc;
 
-/// The board that a running controller keeps, and the state that it shows. That is the controller's state, or one that it
-/// had: then the board takes up what came since at the next tick.
+/// The board of a running controller, and the state that it shows: the controller's present state, or an earlier one.
+/// In that case the next tick updates the board.
 pub(crate) struct Shown {
     board: KeptBoard,
     state: Arc<State, Global>,
     is_fresh: bool,
 }
 
-/// Written out: a drop is one call for a proof, wherever it stands.
 impl Drop for Shown {
     fn drop(self) {
         let Shown {
@@ -38,7 +37,7 @@ impl Model for Shown {
     ghost use Rattle.dac_meaning.specs.StateValue.{StateValue};
     ghost use Rattle.dac_model_node.specs.dac_ticks.KeptBoards.{IsBoardOf};
 
-    // the state that the board shows, and whether that is the controller's state
+    // the state that the board shows, and whether it is the controller's
     ghost Value = { StateValue × Bool };
 
     ghost use Rattle.std.specs.Coded.{coded×, coded_bool};
@@ -52,7 +51,6 @@ impl Model for Shown {
 }
 
 impl Shown {
-    /// The board of a state.
     pub(crate) fn new(
         alloc: Global,
         config: &Config,
@@ -69,7 +67,7 @@ impl Shown {
         })
     }
 
-    /// A copy.
+    /// Copies the board; the state is shared.
     pub(crate) fn copy(&self) -> Result<Self, NoMemory>
         ensures { IfOk result (λ copied. copied ≡ self.now) }
     {
@@ -82,14 +80,14 @@ impl Shown {
         })
     }
 
-    /// The state goes on.
+    /// Marks the board as out of date, because the state has changed.
     pub(crate) fn goes_stale(&mut self)
         ensures { self.new ≡ (self.old.0, false) }
     {
         self.is_fresh = false;
     }
 
-    /// The board takes up what came since, so that it shows this state.
+    /// Updates the board to show this state.
     pub(crate) fn catch_up(&mut self, state: &Arc<State, Global>) -> Result<(), NoMemory>
         requires { self.old.1 ≡ true → self.old.0 ≡ arc_value state.now }
         ensures { self.new.1 ≡ true → self.new.0 ≡ arc_value state.now }
@@ -104,7 +102,7 @@ impl Shown {
         Ok(())
     }
 
-    /// The board, where it shows the state.
+    /// The board, if it is up to date.
     pub(crate) fn board(&self) -> Option<&KeptBoard>
         ensures { IfSome (option_copied result)
             (λ board. (self.now.1 ≡ true) × IsBoardOf board self.now.0) }

@@ -1,4 +1,4 @@
-//! What an accepted tick does.
+//! The effect of an accepted tick.
 
 ghost use Rattle.std.specs.Prelude.{◌≡◌, ◌≤◌, ◌∷◌, [], ℕ, List, IsTrue, IfOk, IfSome, false, fold, unwrap_or};
 ghost use Rattle.std.specs.Arc.{arc_value};
@@ -7,8 +7,8 @@ ghost use Rattle.dac_meaning.specs.StateValue.{join};
 ghost use Rattle.dac_messages.specs.declared.event.Event.TheVariants.{Tick};
 ghost use Rattle.dac_decide.specs.FailoverWait.{Note, waits_of};
 ghost use Rattle.dac_model_node.specs.dac_ticks.Boards.{Shows};
-ghost use Rattle.dac_model_node.specs.dac_ticks.Ticks.{turn_of};
-ghost use Rattle.dac_model_node.specs.dac_ticks.TurnSoFar.{IsMade};
+ghost use Rattle.dac_model_node.specs.dac_ticks.Ticks.{sweep_of};
+ghost use Rattle.dac_model_node.specs.dac_ticks.SweepSoFar.{IsMade};
 ghost use Rattle.dac_model_node.specs.EventRefusals.{refusal_to_tick, too_few_left};
 ghost use Rattle.dac_model_node.specs.Transitions.{meanings, opening_at};
 ghost use Rattle.dac_node.specs.Knowing.{ticking};
@@ -23,12 +23,12 @@ use dac_config::Config;
 use dac_decide::{Board, Moments, Opening, Waits, gate};
 use dac_lattice::Lattice;
 use dac_messages::Reply;
-use dac_model_node::dac_ticks::{Turn, board_under, turn_of};
+use dac_model_node::dac_ticks::{Sweep, board_under, sweep_of};
 use dac_state::{Op, State};
 use std::alloc::Global;
 use std::sync::Arc;
 
-/// What a tick that isn't refused does at a running controller.
+/// The effect of an accepted tick at a running controller.
 pub(crate) fn tick(
     config: &Config,
     last: u64,
@@ -49,7 +49,7 @@ pub(crate) fn tick(
     }
 }
 
-/// What a tick that isn't refused does where the start gate is open.
+/// The effect of an accepted tick that finds the start gate open.
 fn open_tick(config: &Config, last: u64, running: &Running, now: u64) -> Result<Change, NoMemory>
     requires accepted { refusal_to_tick config.now running.now now ≡ None }
     requires open { opening_at config.now running.now now ≡ Opening.Opened }
@@ -58,8 +58,8 @@ fn open_tick(config: &Config, last: u64, running: &Running, now: u64) -> Result<
     let known = &running.knowledge;
     let board = board_under(running.board(), config);
     let noted = known.note(config, board, now)?;
-    let turn = known.turn(config, board, &noted, now)?;
-    let Turn { ops, passed, left } = turn;
+    let sweep = known.sweep(config, board, &noted, now)?;
+    let Sweep { ops, passed, left } = sweep;
     let deltas = deltas_of(known.alloc, ops.as_slice())?;
     let state = known.left_by(left)?;
     let next = known.after_tick(now, true, noted, state, deltas)?;
@@ -68,7 +68,6 @@ fn open_tick(config: &Config, last: u64, running: &Running, now: u64) -> Result<
     Ok(change)
 }
 
-/// The delta of each operation.
 fn deltas_of(alloc: Global, operations: &[Op]) -> Result<Vec<State>, NoMemory>
     ensures { IfOk result (λ deltas. deltas.items ≡ meanings operations.now) }
 {
@@ -80,7 +79,7 @@ fn deltas_of(alloc: Global, operations: &[Op]) -> Result<Vec<State>, NoMemory>
 }
 
 impl Running {
-    /// What becomes of the start gate at this moment. It stays open once it is.
+    /// The start gate at this moment. It stays open after it opens.
     fn opening(&self, config: &Config, now: u64) -> Opening
         requires { self.now.moments.last ≤ now }
         ensures { result ≡ opening_at config.now self.now now }
@@ -95,7 +94,7 @@ impl Running {
 }
 
 impl Knowledge {
-    /// The waits after a note at this moment. They are shared where the board tells that the note changes nothing.
+    /// The waits after a note at this moment. They are shared if the board shows that the note changes nothing.
     fn note(
         &self,
         config: &Config,
@@ -118,7 +117,7 @@ impl Knowledge {
         Ok(waits)
     }
 
-    /// Whether the board tells that a note changes nothing.
+    /// Returns whether the board shows that a note changes nothing.
     fn are_quiet(&self, config: &Config, board: Option<&Board>) -> bool
         requires { IfSome (option_copied board) (λ b. Shows config.now b self.now.state) }
         ensures { IsTrue result → (notes : List Note) (moment : ℕ)
@@ -132,20 +131,20 @@ impl Knowledge {
         }
     }
 
-    /// The claims of a tick at this moment, after so much was noted.
-    fn turn(
+    /// The claims of a tick at this moment, with these waits.
+    fn sweep(
         &self,
         config: &Config,
         board: Option<&Board>,
         waits: &Waits,
         now: u64,
-    ) -> Result<Turn, NoMemory>
+    ) -> Result<Sweep, NoMemory>
         requires room { too_few_left config.now self.now.state self.now.origin ≡ false }
         requires shows { IfSome (option_copied board) (λ b. Shows config.now b self.now.state) }
         ensures { IfOk result (IsMade self.now.state
-            (turn_of config.now self.now.origin waits.now now self.now.state)) }
+            (sweep_of config.now self.now.origin waits.now now self.now.state)) }
     {
-        turn_of(
+        sweep_of(
             self.alloc,
             config,
             self.origin,
@@ -156,7 +155,7 @@ impl Knowledge {
         )
     }
 
-    /// What goes on after a tick at this moment that finds the start gate shut.
+    /// The advance by a tick at this moment that finds the start gate shut.
     fn held_tick(&self, now: u64) -> Result<Advance, NoMemory>
         requires { self.now.moments.last ≤ now }
         ensures { IfOk result (λ next. next ≡ ticking self.now now false self.now.waits []) }
@@ -166,7 +165,7 @@ impl Knowledge {
         self.after_tick(now, false, waits, state, Vec::new(self.alloc))
     }
 
-    /// The state after claims that left this one, where there were any.
+    /// The state after the tick's claims, or the present state if there are none.
     fn left_by(&self, left: Option<State>) -> Result<Arc<State, Global>, NoMemory>
         ensures { IfOk result (λ state. arc_value state ≡ unwrap_or left self.now.state) }
     {
@@ -182,8 +181,7 @@ impl Knowledge {
         }
     }
 
-    /// What goes on after a tick at this moment. The start gate is so, so much is noted, and the claims' deltas left
-    /// this state.
+    /// The advance by a tick at this moment: the start gate, the waits, the state after the claims, and their deltas.
     fn after_tick(
         &self,
         now: u64,

@@ -1,4 +1,4 @@
--- Operations: a dot, which names the operation, and an act.
+-- Operations: an act with the dot that names it.
 use Rattle.std.specs.Prelude.{◌≡◌, ◌≤◌, Bool, true, false, not, ◌||◌, List, [], length, Option, Some, None, nat_lt, ◌==◌, if◌then◌else◌}
 use Rattle.dac_base.specs.declared.limits.TheConstants.{MAX_REPLACED}
 use Rattle.dac_origins.specs.declared.dot.Dot.{Dot}
@@ -9,7 +9,7 @@ use Rattle.dac_operations.specs.declared.act.Act.TheVariants.{Up, Down, Permit, 
 use Rattle.dac_operations.specs.declared.op.OpFault.{OpFault}
 use Rattle.dac_operations.specs.declared.op.OpFault.TheVariants.{OwnDot, BadOver, BadCounter, OnSelf}
 
--- An act, and the dot that names it. (Dots are after delta-state replicated data types.)
+-- An act, and the dot that names it. (Dots are those of delta-state CRDTs.)
 pub record Operation : Type 0 where
   pub dot : Dot
   pub act : Act
@@ -18,7 +18,7 @@ pub record Operation : Type 0 where
 abbrev pub operation : Dot → Act → Operation
 operation d a = record { dot = d; act = a }
 
--- the dots that an act replaces, as it lists them
+-- the list of dots that an act replaces
 abbrev pub over_list : Act → List Dot
 over_list (Permit key value over) = over
 over_list (Start key over) = over
@@ -26,29 +26,29 @@ over_list (Stop key over) = over
 over_list (Drain node inc value over) = over
 over_list _ = []
 
--- a node came up
-abbrev pub says_up : Act → Bool
-says_up Up = true
-says_up _ = false
+-- whether the act is an Up
+abbrev pub reports_up : Act → Bool
+reports_up Up = true
+reports_up _ = false
 
--- the act replaces the dot that it would have
+-- the act replaces its own dot
 abbrev pub replaces_itself : Dot → Act → Bool
 replaces_itself d a = has_key dot_cmp (over_list a) d
 
--- the replaced dots don't ascend, one stands twice, or they are more than 1,024
+-- the replaced dots aren't strictly ascending, or are more than 1,024
 abbrev pub has_bad_over : List Dot → Bool
 has_bad_over over = not (is_rising dot_cmp over) || nat_lt MAX_REPLACED (length over)
 
--- the counter is 1 and it is no Up, or it is an Up under another counter
+-- the counter is 1 and the act isn't an Up, or the act is an Up with another counter
 abbrev pub has_bad_counter : Dot → Act → Bool
-has_bad_counter d a = if says_up a then not (d.n == 1) else d.n == 1
+has_bad_counter d a = if reports_up a then not (d.n == 1) else d.n == 1
 
--- the act declares down the node that would issue it
+-- the act declares its issuer's node down
 abbrev pub is_on_self : Dot → Act → Bool
 is_on_self d (Down node inc) = node.0 == d.origin.node.0
 is_on_self d _ = false
 
--- why a dot and an act make no operation: the first cause that holds
+-- the first fault of a dot and an act, if any
 abbrev pub fault_of : Dot → Act → Option OpFault
 fault_of d a =
     if replaces_itself d a then Some OwnDot
@@ -57,15 +57,15 @@ fault_of d a =
     else if is_on_self d a then Some OnSelf
     else None
 
--- what each operation keeps
+-- the rules of each operation
 pub record IsSound (o : Operation) : Type 0 where
   -- its own dot isn't replaced
   pub apart : has_key dot_cmp (over_list o.act) o.dot ≡ false
   -- the replaced dots ascend
   pub rising : IsRising dot_cmp (over_list o.act)
-  -- and are at most 1,024
+  -- the replaced dots are at most 1,024
   pub few : length (over_list o.act) ≤ MAX_REPLACED
-  -- 1 is the counter of an Up alone
-  pub counter : says_up o.act ≡ (o.dot.n == 1)
+  -- only an Up has counter 1, and each Up has it
+  pub counter : reports_up o.act ≡ (o.dot.n == 1)
   -- no node declares itself down
   pub other : is_on_self o.dot o.act ≡ false

@@ -1,66 +1,66 @@
-//! Acts.
+//! Acts: the effects of operations.
 ghost use Rattle.std.specs.Prelude.{◌≡◌, ◌↔◌, IfOk, IsTrue};
-ghost use Rattle.dac_operations.specs.Operations.{says_up, over_list};
+ghost use Rattle.dac_operations.specs.Operations.{reports_up, over_list};
 
 use dac_base::{AppId, NoMemory, NodeId};
 use dac_chains::How;
 use dac_origins::Dot;
 use dac_wishes::{DotList, Key};
 
-/// What an operation does.
+/// The effect of an operation.
 #[derive(Debug, Drop)]
 pub enum Act {
-    /// The node of the dot came up, under the dot's incarnation.
+    /// The node of the dot came up, as the dot's incarnation.
     Up,
     /// An incarnation of another node is declared down.
     Down {
-        /// The node.
+        /// The node declared down.
         node: NodeId,
-        /// Which of its incarnations.
+        /// Its incarnation that is declared down.
         inc: u64,
     },
-    /// The application of the key is permitted or not at the key's node and incarnation. This permit takes
-    /// the place of the operations that `over` names.
+    /// The key's application is permitted or not at the key's node and incarnation. Replaces the operations that `over`
+    /// names.
     Permit {
-        /// The application, and where it is permitted or not.
+        /// The application, and the incarnation where it is permitted or not.
         key: Key,
-        /// Whether it is permitted.
+        /// True to permit it, false to forbid it.
         value: bool,
         /// The operations that this one replaces, in ascending order.
         over: DotList,
     },
-    /// The application of the key is wished to run at the key's node and incarnation. This wish takes
-    /// the place of the operations that `over` names.
+    /// The key's application is wished to run at the key's node and incarnation. Replaces the operations that `over`
+    /// names.
     Start {
-        /// The application, and where it is wished.
+        /// The application, and the incarnation where it is wished to run.
         key: Key,
         /// The operations that this one replaces, in ascending order.
         over: DotList,
     },
-    /// The operations that `over` names are wished no more.
+    /// The starts that `over` names are revoked.
     Stop {
-        /// The application, and where it was wished.
+        /// The application, and the incarnation where it was wished to run.
         key: Key,
         /// The operations that this one replaces, in ascending order.
         over: DotList,
     },
-    /// The incarnation of the node is drained or not: a drained one is to run no application. This drain takes
-    /// the place of the operations that `over` names.
+    /// The node's incarnation is drained or not; a drained one shall run no application. Replaces the operations that
+    /// `over` names.
     Drain {
-        /// The node.
+        /// The node drained or not.
         node: NodeId,
-        /// Which of its incarnations.
+        /// Its incarnation that is drained or not.
         inc: u64,
-        /// Whether it is drained.
+        /// True to drain it, false to undrain it.
         value: bool,
         /// The operations that this one replaces, in ascending order.
         over: DotList,
     },
-    /// The issuer says that it runs the application.
+    /// The issuer claims that it runs the application.
     Claim {
-        /// The application.
+        /// The application claimed.
         app: AppId,
-        /// Which claim of the application it is, from 1.
+        /// The term (epoch) of the claim, from 1.
         term: u64,
         /// How the application came there.
         how: How,
@@ -91,9 +91,9 @@ impl Act {
         }
     }
 
-    /// Whether a node came up.
-    pub fn says_up(&self) -> bool
-        ensures { result ≡ says_up self.now }
+    /// Whether the act is [`Act::Up`].
+    pub fn reports_up(&self) -> bool
+        ensures { result ≡ reports_up self.now }
     {
         match self {
             Act::Up => true,
@@ -101,7 +101,7 @@ impl Act {
         }
     }
 
-    /// Whether the two are one act. It takes no memory.
+    /// Whether both acts are equal.
     pub fn equal(&self, other: &Self) -> bool
         ensures { IsTrue result ↔ (self.now ≡ other.now) }
     {
@@ -173,7 +173,7 @@ impl Act {
         }
     }
 
-    /// An equal act. [`NoMemory`] is the only error.
+    /// An equal act.
     pub fn copy(&self) -> Result<Self, NoMemory>
         ensures { IfOk result (λ copied. copied ≡ self.now) }
     {

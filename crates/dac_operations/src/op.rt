@@ -1,4 +1,4 @@
-//! Operations.
+//! Operations, and the rules for them.
 ghost use Rattle.std.specs.Prelude.{◌≡◌, ◌↔◌, IfOk, IsOk, IsTrue, MatchOption, Ok, Err};
 ghost use Rattle.std.specs.Ordering.{is_lt};
 ghost use Rattle.dac_origins.specs.Dots.{dot_cmp};
@@ -11,34 +11,34 @@ use dac_origins::Dot;
 use std::marker::Model;
 use thiserror::Error;
 
-/// Why a dot and an act make no operation.
+/// The reason why a dot and an act make no operation.
 #[derive(Clone, Copy, Debug, PartialEq, Eq, Error)]
 pub enum OpFault {
-    /// The act replaces the dot that it would have itself.
+    /// The act replaces its own dot.
     #[error("an operation replaces itself")]
     OwnDot,
-    /// The replaced dots don't ascend, one stands twice, or they are more than 1,024.
+    /// The replaced dots aren't strictly ascending, or are more than 1,024.
     #[error("the replaced operations don't ascend or are too many")]
     BadOver,
-    /// The counter is 1 and the act isn't an Up, or it is an Up under another counter.
+    /// The counter is 1 and the act isn't an Up, or the act is an Up with another counter.
     #[error("counter 1 is that of the node's coming up, and of no other operation")]
     BadCounter,
-    /// The act declares down the node that would issue it.
+    /// The act declares its issuer's node down.
     #[error("a node declares itself down")]
     OnSelf,
 }
 
 /// An operation: an act, and the dot that names it.
 ///
-/// Its replaced dots ascend, are at most 1,024 and don't have its own dot among them. Its counter is 1 exactly if its
-/// act is an Up. It doesn't declare its own node down.
+/// Its replaced dots ascend strictly, are at most 1,024 and exclude its own dot. Its counter is 1 exactly if its act is
+/// an Up. It doesn't declare its own node down.
 #[derive(Debug)]
 pub struct Op {
     dot: Dot,
     act: Act,
 }
 
-/// Written out: a drop is one call for a proof, wherever it stands.
+/// Explicit, so that a proof treats each drop as one call.
 impl Drop for Op {
     fn drop(self) {
         let Op {
@@ -59,10 +59,9 @@ impl Model for Op {
 }
 
 impl Op {
-    /// The operation of a dot and an act, made exactly where they keep what each operation keeps.
+    /// The operation of a dot and an act, if they satisfy the rules of operations.
     ///
-    /// The refusals are looked for in the order of [`OpFault`], and the first that holds is answered.
-    /// What was handed in is given up then. It takes no memory.
+    /// Otherwise returns the first fault that holds, in the order of [`OpFault`], and drops the act.
     pub fn new(dot: Dot, act: Act) -> Result<Self, OpFault>
         ensures value { MatchOption (fault_of dot act) (result ≡ Ok (operation dot act))
             (λ why. result ≡ Err why) }
@@ -81,21 +80,21 @@ impl Op {
         self.dot
     }
 
-    /// What the operation does.
+    /// The effect of the operation.
     pub fn act(&self) -> &Act
         ensures { result.now ≡ self.now.act }
     {
         &self.act
     }
 
-    /// Whether the two are one operation. It takes no memory.
+    /// Whether both operations are equal.
     pub fn equal(&self, other: &Self) -> bool
         ensures { IsTrue result ↔ (self.now ≡ other.now) }
     {
         self.dot == other.dot && self.act.equal(&other.act)
     }
 
-    /// An equal operation. [`NoMemory`] is the only error.
+    /// An equal operation.
     pub fn copy(&self) -> Result<Self, NoMemory>
         ensures { IfOk result (λ copied. copied ≡ self.now) }
     {
@@ -103,7 +102,7 @@ impl Op {
         Ok(Op { dot: self.dot, act })
     }
 
-    /// It is sound. This only tells proofs so, and does nothing when it runs.
+    /// States the rules for proofs; does nothing at run time.
     pub fn tells_invariant(&self)
         ensures { IsSound self.now }
     {
@@ -111,7 +110,7 @@ impl Op {
     }
 }
 
-/// Why the dot and the act make no operation, if they don't.
+/// The first fault of a dot and an act, if any.
 fn fault_in(dot: Dot, act: &Act) -> Option<OpFault>
     ensures { result ≡ fault_of dot act.now }
 {
@@ -122,7 +121,7 @@ fn fault_in(dot: Dot, act: &Act) -> Option<OpFault>
     if is_bad_over(over) {
         return Some(OpFault::BadOver);
     }
-    if act.says_up() != (dot.n == 1) {
+    if act.reports_up() != (dot.n == 1) {
         return Some(OpFault::BadCounter);
     }
     if is_on_self(dot, act) {
@@ -131,21 +130,21 @@ fn fault_in(dot: Dot, act: &Act) -> Option<OpFault>
     None
 }
 
-/// Whether a dot is in the list.
+/// Whether the list contains the dot.
 fn names(dots: &[Dot], dot: Dot) -> bool
     ensures { result ≡ has_key dot_cmp dots.now dot }
 {
     dots.iter().any(|named| dot.cmp(named).is_eq())
 }
 
-/// Whether the list doesn't ascend or is too long.
+/// Whether the list isn't strictly ascending or is too long.
 fn is_bad_over(dots: &[Dot]) -> bool
     ensures { result ≡ has_bad_over dots.now }
 {
     !ascends(dots) || dots.len() > MAX_REPLACED
 }
 
-/// Whether each dot is below the next.
+/// Whether the list is strictly ascending.
 fn ascends(dots: &[Dot]) -> bool
     ensures { result ≡ is_rising dot_cmp dots.now }
 {
@@ -164,7 +163,7 @@ fn is_before(first: Dot, second: Dot) -> bool
     first < second
 }
 
-/// Whether the act declares down the node of the dot.
+/// Whether the act declares the dot's own node down.
 fn is_on_self(dot: Dot, act: &Act) -> bool
     ensures { result ≡ is_on_self dot act.now }
 {

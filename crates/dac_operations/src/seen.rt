@@ -1,4 +1,4 @@
-//! What each part of a state sees of an operation.
+//! The part of an operation that each piece of a state depends on.
 ghost use Rattle.std.specs.Prelude.{◌≡◌, IfOk};
 ghost use Rattle.dac_operations.specs.Operations.{over_list};
 ghost use Rattle.dac_operations.specs.Seen.{drain_in, permit_in, seen_claim, seen_drain, seen_life, seen_permit, seen_wish, wish_in};
@@ -12,8 +12,7 @@ use dac_wishes::{DotList, DrainAct, PermitAct, WishAct};
 use std::alloc::Global;
 
 impl Op {
-    /// What start wishes see of the operation: the start that it wishes, if it is one, and the dots that
-    /// it replaces. [`NoMemory`] is the only error.
+    /// The part of the operation that concerns start wishes: its start, if any, and the dots that it replaces.
     pub fn wish_act(&self, alloc: Global) -> Result<WishAct, NoMemory>
         ensures { IfOk result (λ seen. seen ≡ seen_wish self.now.dot self.now.act) }
     {
@@ -22,8 +21,7 @@ impl Op {
         Ok(seen)
     }
 
-    /// What permissions see of the operation: the permit that it writes, if it is one, and the dots that
-    /// it replaces. [`NoMemory`] is the only error.
+    /// The part of the operation that concerns permissions: its permit, if any, and the dots that it replaces.
     pub fn permit_act(&self, alloc: Global) -> Result<PermitAct, NoMemory>
         ensures { IfOk result (λ seen. seen ≡ seen_permit self.now.dot self.now.act) }
     {
@@ -32,8 +30,7 @@ impl Op {
         Ok(seen)
     }
 
-    /// What drains see of the operation: the drain that it writes, if it is one, and the dots that it replaces.
-    /// [`NoMemory`] is the only error.
+    /// The part of the operation that concerns drains: its drain, if any, and the dots that it replaces.
     pub fn drain_act(&self, alloc: Global) -> Result<DrainAct, NoMemory>
         ensures { IfOk result (λ seen. seen ≡ seen_drain self.now.dot self.now.act) }
     {
@@ -42,7 +39,7 @@ impl Op {
         Ok(seen)
     }
 
-    /// What lives see of the operation: that its node came up, or that it declares a node down.
+    /// The part of the operation that concerns lives: its node came up, or it declares a node down.
     pub fn life_act(&self) -> LifeAct
         ensures { result ≡ seen_life self.now.act }
     {
@@ -56,7 +53,7 @@ impl Op {
         }
     }
 
-    /// What claims see of the operation: the claim, if it is one.
+    /// The part of the operation that concerns claims: its claim, if any.
     pub fn claim_act(&self) -> ClaimAct
         ensures { result ≡ seen_claim self.now.act }
     {
@@ -77,7 +74,7 @@ impl Op {
     }
 }
 
-/// What start wishes see of an act.
+/// The part of an act that concerns start wishes.
 fn wish_in(alloc: Global, act: &Act) -> Result<WishAct, NoMemory>
     ensures { IfOk result (λ seen. seen ≡ wish_in act.now) }
 {
@@ -88,7 +85,7 @@ fn wish_in(alloc: Global, act: &Act) -> Result<WishAct, NoMemory>
     }
 }
 
-/// What permissions see of an act.
+/// The part of an act that concerns permissions.
 fn permit_in(alloc: Global, act: &Act) -> Result<PermitAct, NoMemory>
     ensures { IfOk result (λ seen. seen ≡ permit_in act.now) }
 {
@@ -107,7 +104,7 @@ fn permit_in(alloc: Global, act: &Act) -> Result<PermitAct, NoMemory>
     }
 }
 
-/// What drains see of an act.
+/// The part of an act that concerns drains.
 fn drain_in(alloc: Global, act: &Act) -> Result<DrainAct, NoMemory>
     ensures { IfOk result (λ seen. seen ≡ drain_in act.now) }
 {
@@ -130,7 +127,7 @@ fn drain_in(alloc: Global, act: &Act) -> Result<DrainAct, NoMemory>
     }
 }
 
-/// The dots that an act replaces, as a list of their own.
+/// A copy of the list of dots that an act replaces.
 fn over_in(alloc: Global, act: &Act) -> Result<DotList, NoMemory>
     ensures { IfOk result (λ over. over ≡ over_list act.now) }
 {

@@ -1,4 +1,4 @@
--- What a search finds in a list of keys that rise, and what an insert or a removal in place does.
+-- Searching a sorted list of keys, and inserting into it or removing from it in place.
 use Rattle.std.proofs.Common.{◌≡◌, ℕ, zero, suc, ◌<◌, ◌≤◌, Bool, true, false, not, ◌||◌, ◌&&◌, List, [], ◌∷◌, length, get_or, take, drop, Result, Ok, Err, is_ok, inl, inr, refl, sym, ap, subst, ◌∙◌, arith, add-one, take-append-drop}
 use Rattle.std.specs.declared.cmp.Ordering.{Ordering}
 use Rattle.std.specs.declared.cmp.Ordering.TheVariants.{Less, Equal, Greater}
@@ -29,12 +29,12 @@ module _ {K : Type 0} {R : K → K → Ordering} (o : IsTotalOrder R) where
     | inr q ↦ ap is_eq (smaller o _ k (high j d q p))
   ])
 
-  -- a search answers Ok where the key is there
+  -- a search returns Ok exactly if the list has the key
   pub found : (ks : List K) (k : K) (r : Result ℕ ℕ) → IsRising R ks → IsSearchInRange r (length ks) → IsBinarySearchResult (λ y. R y k) ks r → is_ok r ≡ has_key R ks k
   found ks k (Ok i) h in_range at = sym (has_at o ks k i k in_range (ap is_eq (tied_back o _ k (at k))))
   found ks k (Err i) h in_range parted = let parts = parted (rises ks h k) in sym (absent_at ks k i parts.0 parts.1)
 
-  -- one more key
+  -- an insert adds exactly its key
   pub has_key-insert : (ks : List K) (i : ℕ) (k q : K) → has_key R (insert ks i k) q ≡ (eq_by_cmp R q k || has_key R ks q)
   has_key-insert ks i k q =
       list_any-append (eq_by_cmp R q) (take i ks) (k ∷ drop i ks)
@@ -44,11 +44,11 @@ module _ {K : Type 0} {R : K → K → Ordering} (o : IsTotalOrder R) where
   pub rising_searched : (ks : List K) (i : ℕ) (k : K) → IsRising R ks → i ≤ length ks → IsBinarySearchResult (λ y. R y k) ks (Err i) → IsRising R (insert ks i k)
   rising_searched ks i k h p parted = let parts = parted (rises ks h k) in rising_insert o ks i k h p parts.0 parts.1
 
-  -- a key that is there adds nothing
+  -- a key in the list adds nothing when inserted again
   pub has_key-again : CmpEqualImpliesEq R → (ks : List K) (k : K) → has_key R ks k ≡ true → (q : K) → has_key R ks q ≡ (eq_by_cmp R q k || has_key R ks q)
   has_key-again exact ks k here q = or_same (eq_by_cmp R q k) (has_key R ks q) (λ e. subst (λ q. has_key R ks q ≡ true) (sym (exact q k (tie _ e))) here)
 
-  -- ---- one key less
+  -- ---- removal
 
   below_remove : (x : K) (ks : List K) (i : ℕ) → is_below_all R x ks ≡ true → is_below_all R x (remove ks i) ≡ true
   below_remove x [] zero h = refl
@@ -56,7 +56,7 @@ module _ {K : Type 0} {R : K → K → Ordering} (o : IsTotalOrder R) where
   below_remove x (k ∷ ks) zero h = (and_parts _ _ h).1
   below_remove x (k ∷ ks) (suc i) h = and_from _ _ (and_parts _ _ h).0 (below_remove x ks i (and_parts _ _ h).1)
 
-  -- a removal keeps the order
+  -- a removal keeps the list sorted
   pub rising_remove : (ks : List K) (i : ℕ) → IsRising R ks → IsRising R (remove ks i)
   rising_remove [] zero h = refl
   rising_remove [] (suc i) h = refl
@@ -64,7 +64,7 @@ module _ {K : Type 0} {R : K → K → Ordering} (o : IsTotalOrder R) where
   rising_remove (k ∷ ks) (suc i) h = and_from _ _ (below_remove k ks i (and_parts _ _ h).0) (rising_remove ks i (and_parts _ _ h).1)
 
   module _ (exact : CmpEqualImpliesEq R) where
-    -- a: the removed key, b: among the others
+    -- a: q is the removed key, b: q is among the others
     first_less : (a b : Bool) → (a ≡ true → b ≡ false) → b ≡ (not a && (a || b))
     first_less true b h = h refl
     first_less false b h = refl
@@ -73,11 +73,11 @@ module _ {K : Type 0} {R : K → K → Ordering} (o : IsTotalOrder R) where
     later_less true x b h = ap (λ y. y || false) (h refl)
     later_less false x b h = refl
 
-    -- a key that is below another isn't that one
+    -- a key less than another differs from it
     not_tied : (q k x : K) → R x k ≡ Less → eq_by_cmp R q k ≡ true → eq_by_cmp R q x ≡ false
     not_tied q k x p e = ap (λ y. eq_by_cmp R y x) (exact q k (tie _ e)) ∙ ap is_eq (greater o x k p)
 
-    -- all keys but the removed one are left
+    -- a removal removes exactly its key
     pub has_key-remove : (ks : List K) (i : ℕ) (k q : K) → IsRising R ks → i < length ks → R (get_or ks i k) k ≡ Equal → has_key R (remove ks i) q ≡ (not (eq_by_cmp R q k) && has_key R ks q)
     has_key-remove [] i k q h p t = absurd (omega arith)
     has_key-remove (x ∷ ks) zero k q h p t =
@@ -89,7 +89,7 @@ module _ {K : Type 0} {R : K → K → Ordering} (o : IsTotalOrder R) where
         ap (λ b. eq_by_cmp R q x || b) (has_key-remove ks i k q (and_parts _ _ h).1 (omega arith) t)
         ∙ later_less (eq_by_cmp R q k) (eq_by_cmp R q x) (has_key R ks q) (not_tied q k x before)
 
-    -- a key that isn't there leaves all
+    -- removing a key that isn't in the list changes nothing
     pub has_key-missing : (ks : List K) (k : K) → has_key R ks k ≡ false → (q : K) → has_key R ks q ≡ (not (eq_by_cmp R q k) && has_key R ks q)
     has_key-missing ks k none q = absent_less (eq_by_cmp R q k) (has_key R ks q) (λ e. ap (has_key R ks) (exact q k (tie _ e)) ∙ none)
       where

@@ -1,27 +1,27 @@
-//! Origins and dots: who issued an operation, and which of its operations it was.
+//! Origins and dots: an operation's replica, and its counter there.
 use crate::keys::MapKey;
 use dac_base::NodeId;
 
-/// One incarnation of a node: what issues operations. Each start of a node is an incarnation of its own,
-/// so a node that lost its memory never uses a dot again.
+/// A replica identifier: one incarnation of a node. Each start of a node is a new incarnation, so that a node that lost
+/// its memory never reuses a dot.
 ///
-/// Origins are ordered by node, and then by incarnation.
+/// Origins are ordered by node, then by incarnation.
 #[derive(Clone, Copy, Debug, PartialEq, Eq, PartialOrd, Ord, Hash)]
 pub struct Origin {
-    /// The node.
+    /// The node that issues operations.
     pub node: NodeId,
-    /// Which of its incarnations.
+    /// Its incarnation, which no later start reuses.
     pub inc: u64,
 }
 
 /// The name of one operation: the `n`-th of its origin. Counters begin at 1.
 ///
-/// Dots are ordered by origin, and then by counter.
+/// Dots are ordered by origin, then by counter.
 #[derive(Clone, Copy, Debug, PartialEq, Eq, PartialOrd, Ord, Hash)]
 pub struct Dot {
-    /// Who issued the operation.
+    /// The incarnation that issued the operation.
     pub origin: Origin,
-    /// Its number among the origin's operations, counted from 1.
+    /// The operation's number at its origin, from 1.
     pub n: u64,
 }
 

@@ -6,8 +6,8 @@ ghost use Rattle.dac_origins.specs.Keys.{IsRising, has_key};
 
 use dac_base::{AppId, NoMemory, NodeId};
 
-/// A type of keys: copied, and ordered so that only equal keys tie. Any type whose order is derived from
-/// numbers qualifies. Numbers that are a key already are named below, and so are pairs of keys.
+/// A type of keys: `Copy`, with an order in which only equal keys tie. Any order derived from numbers qualifies. It is
+/// implemented for integers, `bool`, numbers of nodes and applications, origins, dots, and pairs of keys.
 pub trait MapKey: Ord + Copy {
     /// Only equal keys tie.
     ghost exact: { CmpEqualImpliesEq Self.cmp };
@@ -91,7 +91,7 @@ impl MapKey for bool {
     ghost exact = { exact_bools };
 }
 
-/// Pairs are ordered by their first parts, and then by their second ones.
+/// Pairs are ordered by their first component, then by their second.
 impl<A: MapKey, B: MapKey> MapKey for (A, B) {
     ghost use Rattle.std.proofs.lemmas.Map.Lookups.{exact_pairs};
 
@@ -110,7 +110,7 @@ impl MapKey for AppId {
     ghost exact = { exact_apps };
 }
 
-/// Whether a key is in a sorted list without repeats.
+/// Whether a strictly sorted list contains the key.
 pub fn holds_key<K: MapKey>(keys: &[K], key: K) -> bool
     requires { IsRising K.cmp keys.now }
     ensures { result ≡ has_key K.cmp keys.now key }
@@ -118,8 +118,7 @@ pub fn holds_key<K: MapKey>(keys: &[K], key: K) -> bool
     keys.binary_search(&key).is_ok()
 }
 
-/// Puts a key in its place in a sorted list without repeats, unless it is there. Where memory is refused
-/// the list stays as it was.
+/// Inserts a key into a strictly sorted list, unless it is there. After [`NoMemory`] the list is unchanged.
 pub fn insert_key<K: MapKey>(keys: &mut Vec<K>, key: K) -> Result<(), NoMemory>
     requires { IsRising K.cmp keys.old.items }
     ensures rising { IsRising K.cmp keys.new.items }
@@ -135,7 +134,7 @@ pub fn insert_key<K: MapKey>(keys: &mut Vec<K>, key: K) -> Result<(), NoMemory>
     Ok(())
 }
 
-/// Takes a key out of a sorted list without repeats, if it is there. It takes no memory.
+/// Removes a key from a strictly sorted list, if it is there.
 pub fn remove_key<K: MapKey>(keys: &mut Vec<K>, key: K)
     requires { IsRising K.cmp keys.old.items }
     ensures rising { IsRising K.cmp keys.new.items }

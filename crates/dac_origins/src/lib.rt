@@ -1,7 +1,9 @@
 //! Dots, the names of operations, and the keys of maps and sets.
 //!
-//! Each operation that a node issues has a dot: the node, its incarnation and a counter from 1. Contracts speak of
-//! finite sets of dots. Which dots an origin may use next, and which sets are version vectors, is said of those sets.
+//! The dot of an operation is the node, its incarnation, and a counter from 1. Contracts are about finite sets of dots,
+//! for which they define an origin's next dot and version vectors.
+//!
+//! Functions that don't return `Result<_, NoMemory>` allocate nothing.
 #![tactic(auto)]
 
 pub use dac_base::NoMemory;

@@ -1,4 +1,4 @@
--- The page that was laid ready last.
+-- The page that was prepared last.
 use Rattle.std.proofs.Common.{◌≡◌, List, [], ◌∷◌, ◌++◌, fold, Option, None, Some, Result, Ok, Err, IsOk, MatchResult, refl, sym, ap, ◌∙◌}
 use Rattle.dac_pages.specs.declared.page.Page.{Page}
 use Rattle.dac_pages.specs.Published.{last_of}
@@ -8,7 +8,7 @@ last_of-push [] p = refl
 last_of-push (q ∷ []) p = refl
 last_of-push (q ∷ r ∷ ps) p = last_of-push (r ∷ ps) p
 
--- taking in pages leaves the last of them
+-- absorbing pages leaves the last of them
 pub taken_in : (ps : List Page) (x p : Page) → last_of ps ≡ Some p → fold (λ _ n. n) x ps ≡ p
 taken_in [] x p e = absurd (cc)
 taken_in (q ∷ []) x p e = cc
@@ -17,7 +17,7 @@ taken_in (q ∷ r ∷ ps) x p e = taken_in (r ∷ ps) q p e
 pub last_of-none : (ps : List Page) → ps ≡ [] → last_of ps ≡ None
 last_of-none ps e = ap last_of e
 
--- what holds at `Ok` of a call that succeeds
+-- the clause for `Ok` holds of a call that succeeds
 pub if_ok : {A B P : Type 0} (Q : B → Type 0) (r : Result A B) → IsOk r → MatchResult r (λ _. P) Q → P
 if_ok Q (Ok a) ok m = m
 if_ok Q (Err b) ok m = absurd (cc)

@@ -1,4 +1,4 @@
--- A step that does not lower the place keeps the rule.
+-- A step that doesn't lower the place keeps the rule.
 use Rattle.std.proofs.Common.{◌≡◌, ℕ, ◌≤◌, ◌≢◌, refl, subst, ⊎_elim, le_refl, le_trans, zero-le}
 use mathlib.Core.Option.{some}
 use lib.ListN.{get_elem?}

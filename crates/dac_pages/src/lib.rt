@@ -1,8 +1,10 @@
-//! Pages: what readers see of a node beside its lock.
+//! Pages: snapshots of a node that are read without taking its lock.
 //!
-//! A [`Page`] says how many records the journal of a node has, as which incarnation the node runs, and what it knows in
-//! short. [`Pages`] publishes them, one after another. A [`Follower`] reads the page that was published last, and waits
-//! for nobody. Places never go back: each page that a follower reads stands at least at the place of the one before.
+//! A [`Page`] contains the number of records in the node's journal, the node's incarnation, and a summary of its state.
+//! [`Pages`] publishes pages one after another. A [`Follower`] reads the newest published page without waiting, and
+//! never one with a lesser place than the page before it.
+//!
+//! Functions that don't return `Result<_, NoMemory>` allocate nothing. Those that do have no other error.
 #![tactic(auto)]
 
 mod page;

@@ -1,22 +1,22 @@
-//! What is published.
+//! The published snapshot of a node.
 
 use dac_origins::Origin;
 use dac_status::Summary;
 use left_right::Absorb;
 use std::alloc::AllocError;
 
-/// What readers see of a node: plain data of a fixed size.
+/// A snapshot of a node: plain data of a fixed size.
 #[derive(Clone, Copy, Debug, PartialEq, Eq)]
 pub struct Page {
-    /// How many records the journal has.
+    /// The number of records in the journal.
     pub place: u64,
-    /// The present incarnation, where the node runs.
+    /// The present incarnation, or `None` if the node is off.
     pub origin: Option<Origin>,
-    /// What the node knows, in short. Of a node that is off it is the summary of the state that knows nothing.
+    /// The summary of the node's state; of the bottom state if the node is off.
     pub summary: Summary,
 }
 
-/// A page takes the place of the one before.
+/// A page replaces the one before it.
 impl Absorb<Page> for Page {
     type State = Page;
 

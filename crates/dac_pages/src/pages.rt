@@ -12,11 +12,11 @@ use std::alloc::Global;
 use std::marker::Model;
 use std::sync::Wait;
 
-/// The writer of pages under their rule.
+/// The writer of pages, bound to their rule.
 pub type PageWriter = Writer<Page, Page, u64, Rises>;
 
-/// Publishes pages. Contracts see the page that readers take, and the one that is laid ready, if any. It isn't `Drop`: end
-/// it by [`Pages::end`].
+/// Publishes pages. Contracts see the page that readers get, and the prepared one, if any. It can't be dropped: end it
+/// with [`Pages::end`].
 pub struct Pages {
     writer: Option<PageWriter>,
 }
@@ -31,7 +31,7 @@ impl Model for Pages {
     ghost invariant = { λ s. IsWriterReady s.writer };
 }
 
-// The place is empty, and the writer goes back.
+// Puts the writer back into its empty place.
 fn put_back<R: Wait>(rt: &R, home: &mut Option<PageWriter>, writer: PageWriter)
     ensures { home.new ≡ Some writer }
 {
@@ -41,7 +41,7 @@ fn put_back<R: Wait>(rt: &R, home: &mut Option<PageWriter>, writer: PageWriter)
 }
 
 impl Pages {
-    /// Pages for so many readers, of which this is the first.
+    /// Pages for up to `readers` readers. Readers get `first` until another page is published.
     pub fn open(alloc: Global, first: Page, readers: usize) -> Result<Pages, NoMemory>
         requires { (0 < readers) × (readers < 2 ^ 32) }
         ensures { IfOk result (λ p. p ≡ record { shown = first; ready = None }) }
@@ -54,7 +54,7 @@ impl Pages {
         }
     }
 
-    /// The page that readers take.
+    /// The page that readers get.
     pub fn shown(&self) -> &Page
         ensures { result.now ≡ self.now.shown }
     {
@@ -64,8 +64,8 @@ impl Pages {
         }
     }
 
-    /// Lays a page ready, so that it can be published without memory. Readers take what they took. [`NoMemory`] is the only
-    /// error, and leaves all as it was.
+    /// Prepares a page, so that [`Pages::publish`] can't fail. Readers still get the published page. A failed call
+    /// changes nothing.
     pub fn prepare(&mut self, page: Page) -> Result<(), NoMemory>
         ensures { MatchResult result
             (λ _. self.new ≡ record { shown = self.old.shown; ready = Some page })
@@ -80,7 +80,7 @@ impl Pages {
         }
     }
 
-    /// Readers take the page that was laid ready from now on.
+    /// Publishes the prepared page: from now on readers get it.
     pub fn publish<R: Wait>(&mut self, rt: &R)
         requires { Follows self.old }
         ensures { (Some self.new.shown ≡ self.old.ready) × (self.new.ready ≡ None) }
@@ -91,7 +91,8 @@ impl Pages {
         put_back(rt, home, writer);
     }
 
-    /// A reader, which has seen nothing. `None` where each place for one is in use.
+    /// A reader that has read nothing yet, or `None` if all places for readers are in use, or the count of owners is
+    /// full.
     pub fn reader(&self) -> Option<RawReader> {
         match &self.writer {
             Some(writer) => writer.factory().reader().ok(),
@@ -99,7 +100,7 @@ impl Pages {
         }
     }
 
-    /// Ends it. Readers that come now find no page.
+    /// Ends publishing, and returns the last page. A read that begins later finds no page.
     pub fn end<R: Wait>(self, rt: &R) -> Page
         ensures { result ≡ self.shown }
     {

@@ -7,10 +7,10 @@ use crate::rule::{Rises, Sees};
 use left_right::reader::Reader;
 use std::marker::Model;
 
-/// A reader of pages under their rule.
+/// A reader of pages, bound to their rule.
 pub type RawReader = Reader<Page, u64, Rises>;
 
-/// Reads pages, and waits for nobody. Contracts see the least place that its next page may have.
+/// Reads pages without waiting. Contracts see the least place that its next page can have.
 #[derive(Drop)]
 pub struct Follower {
     reader: Option<RawReader>,
@@ -29,7 +29,7 @@ impl Model for Follower {
 }
 
 impl Follower {
-    /// A follower over a reader.
+    /// A follower that reads by this reader.
     pub fn over(reader: RawReader) -> Follower {
         Follower {
             reader: Some(reader),
@@ -37,9 +37,9 @@ impl Follower {
         }
     }
 
-    /// The page that was published last. It stands at least at the place of each page that was read before, and at each
-    /// place that was learned before. `None` where the page structure refuses the entry, as it may once the pages have
-    /// ended. It would be answered too if the structure gave a page that is older than what was learned.
+    /// The newest published page. Its place is at least that of each page read before, and at least each place passed
+    /// to [`Follower::learn`]. `None` if the reader can't enter the pages, as after [`Pages::end`](crate::Pages::end),
+    /// or if the page is older than a learned place.
     pub fn read(&mut self) -> Option<Page>
         ensures some { IfSome result (λ p. (self.old ≤ p.place) × (self.new ≡ p.place)) }
         ensures none { IfNone result (self.new ≡ self.old) }
@@ -59,7 +59,7 @@ impl Follower {
         Some(page)
     }
 
-    /// The pages read from now on stand at least at this place.
+    /// Requires that later pages have at least this place.
     pub fn learn(&mut self, place: u64)
         ensures { self.new ≡ max self.old place }
     {

@@ -1,9 +1,9 @@
-//! The rule of the pages: places never go back.
+//! The rule of the pages: places never decrease.
 
 use crate::page::Page;
 use crossbeam_utils::rule::{Outcome, Protocol};
 
-/// A view is a place that the pages have reached.
+/// The protocol of the pages. A view is a place that was reached.
 pub struct Rises;
 
 impl Protocol<Page, u64> for Rises {
@@ -14,7 +14,7 @@ impl Protocol<Page, u64> for Rises {
     ghost first = { 0 };
 }
 
-/// A page was seen or published: it isn't below what the view had reached.
+/// A page was read or published, and its place isn't below the view.
 pub(crate) struct Sees;
 
 impl Outcome<Page, u64> for Sees {

@@ -16,7 +16,7 @@ abbrev numbered : ℕ → AppId
 numbered n = record { 0 = n }
 
 module _ (apps : ℕ) where
-  -- An application that is read is one that there is.
+  -- An application that is read exists.
   pub app_takes : TakesAs (app_at apps) app_bytes (λ app. app.0 < apps)
   unfolding app_at
   app_takes r x fits e =

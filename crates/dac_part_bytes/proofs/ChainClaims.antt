@@ -21,7 +21,7 @@ use Rattle.dac_bytes.specs.Spelling.{origin_bytes}
 use Rattle.dac_bytes.specs.Takes.{TakesAs, Again}
 use Rattle.dac_bytes.specs.laws.Takes.{TakesAs-more, TakesAs-made, TakesAs-both, TakesAs-guard, TakesAs-wanted, Again-made, Again-both, Again-guard, Again-wanted}
 use Rattle.dac_bytes.specs.laws.Ascending.{IsNext}
-use Rattle.dac_part_bytes.specs.ChainForm.{IsFromFor, IsClaimInForm}
+use Rattle.dac_part_bytes.specs.ChainForm.{IsConsistentOrigin, IsClaimInForm}
 use Rattle.dac_part_bytes.specs.Reading.{app_at, is_listed, how_of, how_at, from_code_at, is_from_of, fitting_code_at, from_of, from_at, manner_at, claimer_at, claim_of, term_and_claimer_at, claim_fields_at, listed_claim_at, claim_at}
 use Rattle.dac_part_bytes.specs.Spelling.{app_bytes, how_code, from_code, manner_bytes, claim_bytes}
 use Rattle.dac_part_bytes.proofs.Apps.{app_takes, app_again}
@@ -65,7 +65,7 @@ how_again how =
     subst (λ (h : How). Again how_at (how_bytes how) h) (code_of_how how)
     (Again-made (λ r. range_at w8 1 3 r) how_of (how_bytes how) (how_code how) (u8_in_again 1 3 (omega arith) (how_code how) (code_from how) (code_to how)))
 
--- ---- where it came from
+-- ---- the node that it came from
 
 abbrev from_bytes : Option NodeId → List ℕ
 from_bytes from = u8_bytes (from_code from)
@@ -84,8 +84,8 @@ some_from : (nodes n : ℕ) → n ≤ nodes → 0 < n → (node : NodeId) × (fr
 some_from nodes zero le some = absurd (omega arith)
 some_from nodes (suc n) le some = (record { 0 = n }, refl, omega arith)
 
--- a code that fits is that of a node that fits
-fits_from : (nodes : ℕ) (how : How) (n : ℕ) → n ≤ nodes → is_from_of how n ≡ true → IsFromFor nodes how (from_of n)
+-- a consistent code is that of a consistent node
+fits_from : (nodes : ℕ) (how : How) (n : ℕ) → n ≤ nodes → is_from_of how n ≡ true → IsConsistentOrigin nodes how (from_of n)
 fits_from nodes Normal n le fits = ap from_of (eqb-true n 0 fits)
 fits_from nodes Failover n le fits = some_from nodes n le (ltb-true 0 n fits)
 fits_from nodes Takeover n le fits = some_from nodes n le (ltb-true 0 n fits)
@@ -96,8 +96,8 @@ some_code nodes from is =
     let below = is.2 in
     (omega arith, lt-ltb 0 (from_code from) (omega arith))
 
--- a node that fits has a code that fits
-fits_code : (nodes : ℕ) (how : How) (from : Option NodeId) → IsFromFor nodes how from → (from_code from ≤ nodes) × (is_from_of how (from_code from) ≡ true)
+-- a consistent node has a consistent code
+fits_code : (nodes : ℕ) (how : How) (from : Option NodeId) → IsConsistentOrigin nodes how from → (from_code from ≤ nodes) × (is_from_of how (from_code from) ≡ true)
 fits_code nodes Normal from is = let same : from_code from ≡ 0 = ap from_code is in (omega arith, ap (λ n. is_from_of Normal n) same)
 fits_code nodes Failover from is = some_code nodes from is
 fits_code nodes Takeover from is = some_code nodes from is
@@ -111,7 +111,7 @@ module _ (nodes : ℕ) where
       (TakesAs-guard (number_at w8) u8_bytes (λ n. n < 2 ^ 8) (λ n. nat_lt nodes n) BadName u8_takes) (λ n is. ltb-false nodes n is.1)
 
   abbrev IsManner : How × Option NodeId → Type 0
-  IsManner m = IsFromFor nodes m.0 m.1
+  IsManner m = IsConsistentOrigin nodes m.0 m.1
 
   abbrev manner : How × Option NodeId → List ℕ
   manner m = manner_bytes m.0 m.1
@@ -124,16 +124,16 @@ module _ (nodes : ℕ) where
     unfolding fitting_code_at
     fitting_code_takes = TakesAs-wanted (from_code_at nodes) u8_bytes (λ n. n ≤ nodes) (is_from_of how) BadNumber from_code_takes
 
-    from_takes : TakesAs (from_at nodes how) from_bytes (IsFromFor nodes how)
+    from_takes : TakesAs (from_at nodes how) from_bytes (IsConsistentOrigin nodes how)
     unfolding from_at
     from_takes =
-        TakesAs-made (fitting_code_at nodes how) u8_bytes IsFitting from_of from_bytes (IsFromFor nodes how)
+        TakesAs-made (fitting_code_at nodes how) u8_bytes IsFitting from_of from_bytes (IsConsistentOrigin nodes how)
         fitting_code_takes (λ n is. (ap u8_bytes (from_of_code n), fits_from nodes how n is.0 is.1))
 
   pub manner_takes : TakesAs (manner_at nodes) manner IsManner
   unfolding manner_at manner_bytes
   manner_takes =
-      TakesAs-both how_at how_bytes (λ _. Unit {0}) (λ how r. from_at nodes how r) (λ _. from_bytes) (λ how from. IsFromFor nodes how from)
+      TakesAs-both how_at how_bytes (λ _. Unit {0}) (λ how r. from_at nodes how r) (λ _. from_bytes) (λ how from. IsConsistentOrigin nodes how from)
       (λ how from. (how, from)) manner IsManner
       how_takes (λ how _. from_takes how) (λ how from p q. (refl, q))
 
@@ -142,7 +142,7 @@ module _ (nodes : ℕ) where
     unfolding from_code_at
     from_code_again n le = Again-guard (number_at w8) (λ n. nat_lt nodes n) BadName (u8_bytes n) n (u8_again n (omega arith)) (le-ltb nodes n le)
 
-    from_again : (how : How) (from : Option NodeId) → IsFromFor nodes how from → Again (from_at nodes how) (from_bytes from) from
+    from_again : (how : How) (from : Option NodeId) → IsConsistentOrigin nodes how from → Again (from_at nodes how) (from_bytes from) from
     unfolding from_at fitting_code_at
     from_again how from is =
         let n = from_code from in
@@ -166,16 +166,16 @@ abbrev term_and_claimer_bytes : Version → Claim → List ℕ
 term_and_claimer_bytes version c = u64_bytes c.term ++ (origin_bytes version c.origin ++ manner_bytes c.how c.from)
 
 abbrev IsClaimer : Version → ℕ → Origin × (How × Option NodeId) → Type 0
-IsClaimer version nodes c = IsOrigin version nodes c.0 × IsFromFor nodes c.1.0 c.1.1
+IsClaimer version nodes c = IsOrigin version nodes c.0 × IsConsistentOrigin nodes c.1.0 c.1.1
 
 abbrev IsTermAndClaimer : Version → ℕ → Claim → Type 0
-IsTermAndClaimer version nodes c = ((1 ≤ c.term) × (c.term ≤ MAX_COUNTER)) × (IsOrigin version nodes c.origin × IsFromFor nodes c.how c.from)
+IsTermAndClaimer version nodes c = ((1 ≤ c.term) × (c.term ≤ MAX_COUNTER)) × (IsOrigin version nodes c.origin × IsConsistentOrigin nodes c.how c.from)
 
 module _ (version : Version) (nodes : ℕ) where
   claimer_takes : TakesAs (claimer_at version nodes) (claimer_bytes version) (IsClaimer version nodes)
   unfolding claimer_at
   claimer_takes =
-      TakesAs-both (origin_at version nodes) (origin_bytes version) (IsOrigin version nodes) (λ _ r. manner_at nodes r) (λ _ m. manner_bytes m.0 m.1) (λ _ m. IsFromFor nodes m.0 m.1)
+      TakesAs-both (origin_at version nodes) (origin_bytes version) (IsOrigin version nodes) (λ _ r. manner_at nodes r) (λ _ m. manner_bytes m.0 m.1) (λ _ m. IsConsistentOrigin nodes m.0 m.1)
       (λ origin m. (origin, m)) (claimer_bytes version) (IsClaimer version nodes)
       (origin_takes version nodes) (λ _ _. manner_takes nodes) (λ origin m p q. (refl, (p, q)))
 
@@ -225,7 +225,8 @@ module _ (version : Version) (t : Table) where
   has_all : (e : AppId × Claim) → HasFields e × (is_claimer_listed e ≡ true) → IsClaimInForm version t e
   has_all e is = record { app = is.0.0; first = is.0.1.0.0; last = is.0.1.0.1; origin = is.0.1.1.0; listed = is.1; from = is.0.1.1.1 }
 
-  -- What is read is spelled so, and is the claim of an application above the one before.
+  -- A claim that is read is well-formed, with these bytes as its spelling, and its application is greater than the
+  -- previous one.
   pub claim_takes : (before : Option AppId) → TakesAs (claim_at version t before) (claim_bytes version) (IsNext app_cmp (λ (e : AppId × Claim). e.0) (IsClaimInForm version t) before)
   unfolding claim_at
   claim_takes before =
@@ -242,7 +243,7 @@ module _ (version : Version) (t : Table) where
         (Again-both (app_at (app_count t)) (λ _ r. term_and_claimer_at version (node_count t) r) (λ app claim. (app, claim)) (app_bytes e.0) (term_and_claimer_bytes version c) e.0 c
         (app_again (app_count t) apps_fit e.0 is.app) (term_and_claimer_again version (node_count t) nodes_fit c ((is.first, is.last), (is.origin, is.from))))
 
-    -- And it is read again.
+    -- A well-formed claim is read from its spelling.
     pub claim_again : (before : Option AppId) (e : AppId × Claim) → IsNext app_cmp (λ (e : AppId × Claim). e.0) (IsClaimInForm version t) before e → Again (claim_at version t before) (claim_bytes version e) e
     unfolding claim_at listed_claim_at
     claim_again before e is =

@@ -75,7 +75,8 @@ module _ (version : Version) (nodes : ℕ) (before : Option NodeId) where
   unfolding node_above_at
   node_above_again fit node is = Again-wanted (node_at nodes) (is_above node_cmp before) BadOrder (node_bytes node) node (node_again version nodes fit node is.0) is.1
 
-  -- What is read is spelled so, and is the life of a node above the one before.
+  -- A life that is read is well-formed, with these bytes as its spelling, and its node is greater than the previous
+  -- one.
   pub life_takes : TakesAs (life_at version nodes before) (life_bytes version) (IsNext node_cmp (λ (e : NodeId × Life). e.0) (IsLifeInForm version nodes) before)
   unfolding life_at life_bytes
   life_takes =
@@ -84,7 +85,7 @@ module _ (version : Version) (nodes : ℕ) (before : Option NodeId) where
       node_above_takes (λ _ _. inc_and_flag_takes version)
       (λ node life p q. (sym (append_assoc (u8_bytes node.0) (incarnation_bytes version life.inc) (u8_bytes (down_code life.flag))), (record { node = p.0; inc = q }, p.1)))
 
-  -- And it is read again.
+  -- A well-formed life is read from its spelling.
   pub life_again : nodes ≤ 2 ^ 8 → (e : NodeId × Life) → IsNext node_cmp (λ (e : NodeId × Life). e.0) (IsLifeInForm version nodes) before e → Again (life_at version nodes before) (life_bytes version e) e
   unfolding life_at life_bytes
   life_again fit e is =

@@ -1,5 +1,5 @@
--- Entries in the order of their keys. Their keys rise, and what holds of each entry holds of each that is found. A
--- map is that of its entries.
+-- Entries in order: their keys ascend, a property of all entries holds of those that are found, and a map is that of
+-- its entries.
 use Rattle.std.specs.Prelude.{◌≡◌, Bool, true, false, cond, ◌&&◌, T, List, [], ◌∷◌, map as list_map, Option, None, Some, is_some, unwrap_or, refl}
 use Rattle.std.proofs.Common.{sym, ap, subst, ◌∙◌, inl, inr}
 use Rattle.std.specs.declared.cmp.Ordering.{Ordering}
@@ -23,7 +23,6 @@ is_true false h = absurd h
 none_some : {A : Type 0} (x : A) → None ≡ Some x → ⊥
 none_some {A} x e = false≢true (ap (λ (o : Option A). is_some o) e)
 
--- the keys of entries
 abbrev keys : {K X : Type 0} → List (K × X) → List K
 keys {K} {X} es = list_map (λ (e : K × X). e.0) es
 
@@ -44,9 +43,9 @@ module _ {K X : Type 0} (R : K → K → Ordering) where
 
 module _ {K : Type 0} {R : K → K → Ordering} where
   module _ (o : IsTotalOrder R) (exact : CmpEqualImpliesEq R) where
-    -- ---- of keys
+    -- ---- keys
 
-    -- what holds of each key of a list
+    -- a property of each key of a list holds of all
     pub all_has : (P : K → Type 0) (ks : List K) → ((q : K) → has_key R ks q ≡ true → P q) → AllByRecursion P ks
     all_has P [] f = tt
     all_has P (k ∷ ks) f = (f k (or_left _ _ (ap is_eq (tied_itself o k))), all_has P ks (λ q h. f q (or_right _ _ h)))
@@ -58,10 +57,10 @@ module _ {K : Type 0} {R : K → K → Ordering} where
       | inr later ↦ has_all P ks all.1 q later
     ]
 
-    -- ---- of entries
+    -- ---- entries
 
     module _ {X : Type 0} where
-      -- what holds of each entry holds of what is found
+      -- a property of each entry holds of those that are found
       pub found : (P : K × X → Type 0) (es : List (K × X)) → AllByRecursion P es → (k : K) (x : X) → find R k es ≡ Some x → P (k, x)
       found P [] all k x h = absurd (none_some x h)
       found P (e ∷ es) all k x h = elim (eq_by_cmp R k e.0) as (λ b. eq_by_cmp R k e.0 ≡ b → cond b (Some e.1) (find R k es) ≡ Some x → P (k, x)) [
@@ -73,7 +72,7 @@ module _ {K : Type 0} {R : K → K → Ordering} where
         | false ↦ λ t h. found P es all.1 k x h
       ] refl h
 
-      -- what holds of each key holds of one at which something is found
+      -- a property of each key holds of those that are found
       pub found_key : (P : K → Type 0) (es : List (K × X)) → AllByRecursion (λ (e : K × X). P e.0) es → (k : K) → is_some (find R k es) ≡ true → P k
       found_key P [] all k h = absurd (false≢true h)
       found_key P (e ∷ es) all k h = elim (eq_by_cmp R k e.0) as (λ b. eq_by_cmp R k e.0 ≡ b → is_some (cond b (Some e.1) (find R k es)) ≡ true → P k) [
@@ -92,22 +91,22 @@ module _ {K : Type 0} {R : K → K → Ordering} where
         | false ↦ λ t. p
       ] refl
 
-      -- what holds of all that is found holds of each entry
+      -- a property of those that are found holds of each entry
       pub all_found : (P : K × X → Type 0) (es : List (K × X)) → T (is_sorted R es) → ((k : K) (x : X) → find R k es ≡ Some x → P (k, x)) → AllByRecursion P es
       all_found P [] h f = tt
       all_found P (e ∷ es) h f = (f e.0 e.1 (find_first e es), all_found P es (second _ _ h) (λ k x p. f k x (find_later e es (first _ _ h) k x p)))
 
-      -- ---- of maps
+      -- ---- maps
 
-      -- the entries of a map rise by their keys
+      -- the entries of a map ascend by key
       pub entries_rise : (m : map.FinMap R X) → IsRising R (keys (map.entries m))
       entries_rise m = rising_keys R (map.entries m) (map.entries_sorted m)
 
-      -- a map is that of its entries
+      -- a map is the one made of its entries
       pub map_of_entries : (m : map.FinMap R X) → map.from_entries (map.entries m) ≡ m
       map_of_entries m = map.same_map o exact _ m (λ q. map.get-from_entries o (map.entries m) q ∙ sym (map.get-entries m q))
 
-      -- entries that rise are those of their map
+      -- ascending entries are those of the map made of them
       pub entries_of_map : (es : List (K × X)) → IsRising R (keys es) → es ≡ map.entries (map.from_entries {R = R} es)
       entries_of_map es rising =
           let m : map.FinMap R X = map.from_entries es in

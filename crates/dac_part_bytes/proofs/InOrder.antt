@@ -1,4 +1,4 @@
--- Lists and sets that aren't empty, and the dots of sets in order.
+-- Nonempty lists and sets, and the dots of sets in order.
 use Rattle.std.specs.Prelude.{◌≡◌, ◌≤◌, false, List, [], ◌∷◌, length, refl}
 use Rattle.std.proofs.Common.{sym, ap, ◌∙◌, arith}
 use Rattle.std.specs.Ordering.{is_eq}

@@ -1,4 +1,4 @@
--- What is written of a map to greatest values, entry by entry, is what is written of the map.
+-- The spelling of a map to `Max` values, entry by entry, is the spelling of the map.
 use Rattle.std.proofs.Common.{◌≡◌, ℕ, ◌≤◌, List, ◌++◌, length, take, sym, ap, ◌∙◌, append_assoc}
 use Rattle.std.specs.List.{flat_map}
 use Rattle.std.proofs.lemmas.List.{take_all, length-map}
@@ -7,7 +7,7 @@ use Rattle.dac_lattice.specs.declared.chain.Max.{Max}
 use Rattle.dac_chains.specs.Kept.{unwrapped}
 
 module _ {K T : Type 0} (count : ℕ → List ℕ) (text : K × T → List ℕ) where
-  -- the text of an entry as it is kept
+  -- the spelling of a stored entry
   abbrev pub text_kept : K × Max T → List ℕ
   text_kept e = text (e.0, e.1.value)
 

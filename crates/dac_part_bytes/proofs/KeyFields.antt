@@ -1,5 +1,4 @@
--- The laws of the fields of permits, drains and start wishes: keys, and dots that are known. What is read is spelled
--- so and in form, and what is in form is read from its spelling.
+-- The codecs of keys and known dots, the fields of permits, drains and start wishes.
 use Rattle.std.specs.Prelude.{◌≡◌, ℕ, ◌^◌, ◌<◌, ◌≤◌, true, Option, refl}
 use Rattle.std.specs.FinSet as set
 use Rattle.dac_origins.specs.declared.dot.Dot.{Dot}
@@ -23,7 +22,7 @@ use Rattle.dac_bytes.specs.declared.version.Version.{Version}
 
 -- ---- keys
 
--- the application and the node are there
+-- the application and the node exist
 abbrev IsNamed : Version → Table → Key → Type 0
 IsNamed version t key = (key.app.0 < app_count t) × IsOrigin version (node_count t) (key_origin key)
 
@@ -63,7 +62,7 @@ module _ (version : Version) (t : Table) where
 
 -- ---- dots
 
--- a known dot above the one before it
+-- a known dot greater than the previous one
 abbrev pub IsDotAbove : Version → Table → Dots → Option Dot → Dot → Type 0
 IsDotAbove version t known = IsNext dot_cmp (λ (d : Dot). d) (IsKnownDot version t known)
 

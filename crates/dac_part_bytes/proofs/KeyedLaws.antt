@@ -1,5 +1,5 @@
--- The laws of permits, drains and start wishes. What is read is spelled so and in form, and what is in form is read
--- from its spelling.
+-- The codecs of permits, drains and start wishes: a part that is read is well-formed, with these bytes as its spelling,
+-- and each well-formed one is read from its spelling.
 use Rattle.std.specs.Prelude.{◌≡◌, ℕ, ◌+◌, ◌^◌, ◌≤◌, List, Option, Ok, refl}
 use Rattle.std.proofs.Common.{sym, ap, subst, arith}
 use Rattle.std.specs.declared.cmp.Ordering.{Ordering}
@@ -42,7 +42,7 @@ use Rattle.dac_part_bytes.proofs.KeyedStarts as starts_parts
 
 module _ {K : Type 0} {R : K → K → Ordering} (total : IsTotalOrder R) (exact : CmpEqualImpliesEq R) (key_above : Option K → Rest → Field K) (key_text : K → List ℕ) (IsKeyOf : K → Type 0)
     (keys : (before : Option K) → IsCodec (key_above before) key_text (Passes IsKeyOf (is_above R before))) where
-  -- Votes and their spellings are one to one, where their keys are.
+  -- Votes have a codec if their keys have one.
   pub votes_codec : (version : Version) (t : Table) (known : Dots) (truth : Flag) → node_count t ≤ 2 ^ 8
       → IsCodec (all_votes_at R key_above (votes_of_key_at version (node_count t) known truth)) (votes_bytes R key_text version truth) (AreVotesInForm R IsKeyOf version t known)
   unfolding all_votes_at votes_bytes
@@ -59,7 +59,7 @@ module _ (t : Table) (known : Dots) (few_nodes : node_count t ≤ 2 ^ 8) where
       votes_codec keys_total exact_keys (key_above_at version t) (key_bytes version) (IsKey version t)
       (λ before. record { takes = key_takes version t before; again = key_again version t few_nodes few_apps before }) version t known Up few_nodes
 
-  -- version one has no drains, and no byte of them
+  -- version one has neither drains nor bytes for them
   no_drains_codec : IsCodec (all_drains_at One t known) (drains_bytes One) (AreDrainsInForm One t known)
   no_drains_codec = record {
     takes = λ r x fits e. subst (λ (x : Drains × Rest). Takes r (drains_bytes One x.0) x.1 × AreDrainsInForm One t known x.0) (ok_is (map.empty, r) x e) (Takes-none r fits, refl);
@@ -68,7 +68,7 @@ module _ (t : Table) (known : Dots) (few_nodes : node_count t ≤ 2 ^ 8) where
         λ i. Ok (sym none i, record { at = start i; bytes = rest });
   }
 
-  -- Drains and their spellings are one to one in each version.
+  -- Drains have a codec in each version.
   pub drains_codec : (version : Version) → FieldCodecs version (node_count t) → IsCodec (all_drains_at version t known) (drains_bytes version) (AreDrainsInForm version t known)
   drains_codec One fields = no_drains_codec
   drains_codec Two fields = votes_codec origins_total exact_origins (origin_above_at Two (node_count t)) (origin_bytes Two) (IsOrigin Two (node_count t)) fields.origin_above Two t known Down few_nodes
@@ -76,16 +76,16 @@ module _ (t : Table) (known : Dots) (few_nodes : node_count t ≤ 2 ^ 8) where
 -- ---- start wishes
 
 module _ (version : Version) (t : Table) (known : Dots) where
-  -- What is read is spelled so, and can be read.
+  -- Start wishes that are read are well-formed, with these bytes as their spelling.
   pub starts_takes : TakesAs (all_starts_at version t known) (starts_bytes version) (AreStartsInForm version t known)
   unfolding all_starts_at starts_bytes
   starts_takes =
       TakesAs-made (starts_by_key_at version t known) (starts_list_bytes version) (AreStartsByKey version t known) (λ m. writes_of m) (starts_bytes version) (AreStartsInForm version t known)
       (starts_list_takes version t known) (λ m is. (ap (starts_list_bytes version) (sym (starts_parts.list_again version t known m is)), starts_parts.starts_in_form version t known m is))
 
-  -- nodes are numbered in one byte, and applications in two
+  -- node numbers fit one byte, and application numbers two
   module _ (few_nodes : node_count t ≤ 2 ^ 8) (few_apps : app_count t ≤ 2 ^ 16) where
-    -- What can be read is read from its spelling.
+    -- Well-formed start wishes are read from their spelling.
     pub starts_again : (writes : Writes) → AreStartsInForm version t known writes → Again (all_starts_at version t known) (starts_bytes version writes) writes
     unfolding all_starts_at starts_bytes
     starts_again writes is =

@@ -1,4 +1,4 @@
--- The laws of start wishes by key, as the lists that are read.
+-- The codec of start wishes by key, as the lists that are read.
 use Rattle.std.specs.Prelude.{◌≡◌, ℕ, ◌-◌, ◌^◌, ◌<◌, ◌≤◌, List, ◌++◌, length, map as list_map, Option, refl}
 use Rattle.std.specs.List.{flat_map, AllByRecursion}
 use Rattle.std.specs.Int.{w32}
@@ -28,19 +28,18 @@ use Rattle.dac_part_bytes.specs.KeyedForm.{IsKey, IsKeyAbove, IsKnownDot}
 use Rattle.dac_part_bytes.proofs.KeyFields.{key_takes, key_again, known_dot_takes, known_dot_again}
 use Rattle.dac_bytes.specs.declared.version.Version.{Version}
 
--- some, and a number that fits its field
+-- at least one, and a number that fits its field
 abbrev pub IsSome : ℕ → Type 0
 IsSome n = (1 ≤ n) × (n ≤ 2 ^ 32 - 1)
 
--- the dots of a key: some, known, and rising
+-- the dots of a key: at least one, known, and ascending
 abbrev pub AreDotsOfKey : Version → Table → Dots → List Dot → Type 0
 AreDotsOfKey version t known ds = IsSome (length ds) × AllByRecursion (IsKnownDot version t known) ds × IsRising dot_cmp (list_map (λ (d : Dot). d) ds)
 
--- a key with its dots
 abbrev pub IsKeyedDots : Version → Table → Dots → Key × Dots → Type 0
 IsKeyedDots version t known e = IsKey version t e.0 × AreDotsOfKey version t known (in_order e.1)
 
--- keys that rise, each with its dots
+-- ascending keys, each with its dots
 abbrev pub AreStartsByKey : Version → Table → Dots → List (Key × Dots) → Type 0
 AreStartsByKey version t known m = (length m < 2 ^ 32) × AllByRecursion (IsKeyedDots version t known) m × IsRising key_cmp (list_map (λ (e : Key × Dots). e.0) m)
 
@@ -57,7 +56,7 @@ dots_regroup : (version : Version) (key : Key) (ds : List Dot) → key_bytes ver
 unfolding keyed_dots_bytes
 dots_regroup version key ds = sym (append_assoc (key_bytes version key) (u32_bytes (length ds)) (flat_map (dot_bytes version) ds))
 
--- dots that rise are those of their set, in order
+-- ascending dots are those of their set, in order
 pub dots_again : (ds : List Dot) → IsRising dot_cmp (list_map (λ (d : Dot). d) ds) → ds ≡ in_order (set.from_list {R = dot_cmp} ds)
 dots_again ds rising = in_order-one dots_total exact_dots (set.from_list ds) ds (subst (λ (ds : List Dot). IsRising dot_cmp ds) (map-id ds) rising) refl
 
@@ -89,7 +88,7 @@ module _ (version : Version) (t : Table) (known : Dots) where
       counted_takes keys_total (λ (e : Key × Dots). e.0) (IsKeyedDots version t known) (keyed_dots_at version t known) (number_at w32) u32_bytes (keyed_starts_bytes version) (λ n. n < 2 ^ 32)
       u32_takes keyed_dots_takes
 
-  -- nodes are numbered in one byte, and applications in two
+  -- node numbers fit one byte, and application numbers two
   module _ (few_nodes : node_count t ≤ 2 ^ 8) (few_apps : app_count t ≤ 2 ^ 16) where
     some_again : (n : ℕ) → IsSome n → Again some_at (u32_bytes n) n
     some_again n is = u32_in_again 1 (2 ^ 32 - 1) (omega arith) n is.0 is.1

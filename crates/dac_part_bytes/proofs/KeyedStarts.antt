@@ -1,4 +1,4 @@
--- Start wishes that are in form, and their lists by key: what holds of the one holds of the other.
+-- Start wishes are well-formed exactly if their lists by key are.
 use Rattle.std.specs.Prelude.{◌≡◌, ◌^◌, ◌<◌, ◌≤◌, true, false, List, [], ◌∷◌, length, nat_eq, Option, None, Some, refl}
 use Rattle.std.proofs.Common.{sym, ap, subst, ◌∙◌, arith}
 use Rattle.std.specs.Ordering.{is_eq}
@@ -43,7 +43,7 @@ first_has d ds = or_left _ _ (ap is_eq (tied_itself dots_total d))
 empty_is : is_empty_set (set.empty {R = dot_cmp}) ≡ true
 empty_is = ap (λ n. nat_eq n 0) (set.len-empty dot_cmp)
 
--- one of the dots of a set that isn't empty
+-- one of the dots of a nonempty set
 record HasSome (s : Dots) : Type 0 where
   one : Dot
   held : set.contains s one ≡ true
@@ -61,10 +61,10 @@ some_from s (d ∷ ds) e h =
     }
 
 module _ (version : Version) (t : Table) (known : Dots) where
-  -- ---- of a list by key
+  -- ---- from the list by key
 
   module _ (m : List (Key × Dots)) (is : AreStartsByKey version t known m) where
-    -- what is found at a key is in form
+    -- the entry of a key is well-formed
     at_key : (key : Key) (s : Dots) → find key_cmp key m ≡ Some s → IsKeyedDots version t known (key, s)
     at_key key s e = found keys_total exact_keys (IsKeyedDots version t known) m is.1 key s e
 
@@ -72,11 +72,11 @@ module _ (version : Version) (t : Table) (known : Dots) where
     kept_at key None e = tt
     kept_at key (Some s) e = (tt, has_dots s (at_key key s e).1.0.0)
 
-    -- it is kept as start wishes are
+    -- the list satisfies the invariant of start wishes
     are_kept : AreStarts m
     are_kept = record { in_order = sorted_of key_cmp m is.2; stores = λ key. kept_at key (find key_cmp key m) refl }
 
-    -- and is the list by key of its writes
+    -- the list is the one of its own start wishes
     pub list_again : starts_by_key (writes_of m) ≡ m
     list_again = starts_again m are_kept
 
@@ -90,7 +90,6 @@ module _ (version : Version) (t : Table) (known : Dots) where
     few_at key None e = subst (λ (ds : List Dot). length ds < 2 ^ 32) no_dots (omega arith)
     few_at key (Some s) e = omega (arith, (at_key key s e).1.0.1)
 
-    -- its writes are in form
     pub starts_in_form : AreStartsInForm version t known (writes_of m)
     starts_in_form = record {
       each = λ w h. known_at w (find key_cmp w.key m) refl (sym (contains-writes_of m are_kept.in_order w) ∙ h);
@@ -98,10 +97,10 @@ module _ (version : Version) (t : Table) (known : Dots) where
       dots = λ key. subst (λ (s : Dots). length (in_order s) < 2 ^ 32) (dots_stored m are_kept.in_order key) (few_at key (find key_cmp key m) refl);
     }
 
-  -- ---- of start wishes in form
+  -- ---- from the start wishes
 
   module _ (writes : Writes) (is : AreStartsInForm version t known writes) where
-    -- what the list by key has at a key are the dots there
+    -- the entry of a key in the list contains its dots
     stored_at : (key : Key) (s : Dots) → find key_cmp key (starts_by_key writes) ≡ Some s → s ≡ dots_at key writes
     stored_at key s e =
         ap (store_at set.empty) (sym e) ∙ dots_stored (starts_by_key writes) (are_starts writes).in_order key ∙ ap (dots_at key) (writes_again writes)
@@ -120,7 +119,7 @@ module _ (version : Version) (t : Table) (known : Dots) where
         let rising = subst (λ (ds : List Dot). IsRising dot_cmp ds) (sym (map-id (in_order s))) (in_order-rising dots_total exact_dots s) in
         ((stands key s same has.one has.held).key, ((has.some, omega (arith, few)), each, rising))
 
-    -- their list by key is in form
+    -- their list by key is well-formed
     pub list_in_form : AreStartsByKey version t known (starts_by_key writes)
     list_in_form =
         let sorted = (are_starts writes).in_order in

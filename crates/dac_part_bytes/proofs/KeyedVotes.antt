@@ -1,4 +1,4 @@
--- Votes that are in form, and their lists by key: what holds of the one holds of the other.
+-- Votes are well-formed exactly if their lists by key are.
 use Rattle.std.specs.Prelude.{◌≡◌, ◌^◌, ◌<◌, ◌≤◌, true, false, cond, List, [], ◌∷◌, length, Option, None, Some, is_some, refl}
 use Rattle.std.proofs.Common.{sym, ap, subst, ◌∙◌, arith}
 use Rattle.std.specs.declared.cmp.Ordering.{Ordering}
@@ -36,7 +36,7 @@ any_flag : (v : Option Flag) → IsOptionOf {T = Flag} IsAny v
 any_flag None = tt
 any_flag (Some f) = tt
 
--- a list of votes has one
+-- a nonempty list of votes contains one
 some_vote : (ps : DotFlags) → is_empty_list ps ≡ false → (d : Dot) × (is_some (find dot_cmp d ps) ≡ true)
 some_vote [] e = absurd (true≢false e)
 some_vote (p ∷ ps) e = (p.0, ap (λ r. is_some (cond (is_eq r) (Some p.1) (find dot_cmp p.0 ps))) (tied_itself dots_total p.0))
@@ -54,10 +54,10 @@ module _ {K : Type 0} {R : K → K → Ordering} (total : IsTotalOrder R) (exact
   abbrev IsKnown : KeyedWrite K → Type 0
   IsKnown = IsKnownWrite IsKeyOf version t known
 
-  -- ---- of a list by key
+  -- ---- from the list by key
 
   module _ (m : List (K × DotFlags)) (is : AreByKey m) where
-    -- what is found at a key is in form
+    -- the entry of a key is well-formed
     at_key : (key : K) (ps : DotFlags) → find R key m ≡ Some ps → IsKeyed (key, ps)
     at_key key ps e = found total exact IsKeyed m is.1 key ps e
 
@@ -67,11 +67,11 @@ module _ {K : Type 0} {R : K → K → Ordering} (total : IsTotalOrder R) (exact
         let at = at_key key ps e in
         (record { in_order = sorted_of dot_cmp ps at.1.2; values = λ d. any_flag (find dot_cmp d ps) }, not_empty ps at.1.0.0)
 
-    -- it is kept as votes are
+    -- the list satisfies the invariant of votes
     are_kept : AreKeyedVotes R m
     are_kept = record { in_order = sorted_of R m is.2; stores = λ key. kept_at key (find R key m) refl }
 
-    -- and is the list by key of its votes
+    -- the list is the one of its own votes
     pub list_again : votes_by_key R (votes_of R m) ≡ m
     list_again = votes_again total exact m are_kept
 
@@ -85,7 +85,6 @@ module _ {K : Type 0} {R : K → K → Ordering} (total : IsTotalOrder R) (exact
     few_at key None e = omega arith
     few_at key (Some ps) e = omega (arith, (at_key key ps e).1.0.1)
 
-    -- its votes are in form
     pub votes_in_form : InForm (votes_of R m)
     votes_in_form = record {
       each = λ w h. known_at w (find R w.key m) refl (ap (λ (v : Option Flag). is_some v) (sym (get-votes_of total exact m are_kept.in_order w)) ∙ h);
@@ -93,10 +92,10 @@ module _ {K : Type 0} {R : K → K → Ordering} (total : IsTotalOrder R) (exact
       dots = λ key. subst (λ (ps : DotFlags). length ps < 2 ^ 32) (votes_stored total exact m are_kept key) (few_at key (find R key m) refl);
     }
 
-  -- ---- of votes in form
+  -- ---- from the votes
 
   module _ (votes : Votes R) (is : InForm votes) where
-    -- what the list by key has at a key are the votes there
+    -- the entry of a key in the list contains its votes
     stored_at : (key : K) (ps : DotFlags) → find R key (votes_by_key R votes) ≡ Some ps → ps ≡ votes_at R key votes
     stored_at key ps e =
         ap (store_at []) (sym e) ∙ votes_stored total exact (votes_by_key R votes) (are_votes total exact votes) key ∙ ap (votes_at R key) (votes_by_key_again total exact votes)
@@ -114,7 +113,7 @@ module _ {K : Type 0} {R : K → K → Ordering} (total : IsTotalOrder R) (exact
         (λ d f h. (stands key ps same d (ap (λ (v : Option Flag). is_some v) h)).dot) in
         ((stands key ps same one.0 one.1).key, ((not_none ps kept.1, omega (arith, few)), each, rising_keys dot_cmp ps kept.0.in_order))
 
-    -- their list by key is in form
+    -- their list by key is well-formed
     pub list_in_form : AreByKey (votes_by_key R votes)
     list_in_form =
         let sorted = (are_votes total exact votes).in_order in

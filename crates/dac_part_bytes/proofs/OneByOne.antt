@@ -1,16 +1,14 @@
--- Entries that are written one after the other, behind their number.
+-- Entries that are written in sequence, after their number.
 use Rattle.std.proofs.Common.{◌≡◌, ℕ, ◌<◌, List, [], ◌∷◌, ◌++◌, length, sym, ap, ◌∙◌, arith, add-one, append_assoc, append-nil}
 use Rattle.std.specs.List.{flat_map}
 
 module _ {E : Type 0} where
-  -- one fewer is left
   pub one_fewer : (now next : List E) (e : E) → now ≡ e ∷ next → length next < length now
   one_fewer now next e is =
       let long = ap length is ∙ sym (add-one (length next)) in
       omega (arith, long)
 
   module _ (text : E → List ℕ) where
-    -- one more is written
     pub one_written : (now next : List E) (e : E) (old new whole : List ℕ) → now ≡ e ∷ next → old ++ flat_map text now ≡ whole → new ≡ old ++ text e → new ++ flat_map text next ≡ whole
     one_written now next e old new whole is so_far written =
         ap (λ l. l ++ flat_map text next) written
@@ -18,7 +16,6 @@ module _ {E : Type 0} where
         ∙ ap (λ (l : List E). old ++ flat_map text l) (sym is)
         ∙ so_far
 
-    -- all are
     pub all_written : (count : ℕ → List ℕ) (writer head written : List ℕ) (n : ℕ) (entries left es : List E) → entries ≡ es → n ≡ length es → head ≡ writer ++ count n → left ≡ [] → written ++ flat_map text left ≡ head ++ flat_map text entries
         → written ≡ writer ++ (count (length es) ++ flat_map text es)
     all_written count writer head written n entries left es same long begun none so_far =

@@ -1,5 +1,4 @@
--- The values and the spellings of each field and each part are one to one. This asks that nodes are numbered in one
--- byte and applications in two.
+-- Each field and each part has a codec, provided that node numbers fit one byte and application numbers two.
 use Rattle.std.specs.Prelude.{◌<◌, ◌≤◌, ◌^◌}
 use Rattle.std.proofs.Common.{arith}
 use Rattle.dac_config.specs.Table.{Table, node_count, app_count}

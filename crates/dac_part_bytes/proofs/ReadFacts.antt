@@ -1,4 +1,5 @@
--- What is known of an item that was read. It is above the one before it, its dots are known, and a key has some.
+-- The facts about an item that was read: it is greater than the previous one, its dots are known, and a key has at
+-- least one.
 use Rattle.std.proofs.Common.{◌≡◌, ℕ, ◌≤◌, ◌-◌, ◌^◌, Bool, true, false, cond, ◌||◌, nat_lt, List, [], ◌∷◌, Option, None, Some, Ok, is_some, refl, sym, ap, subst, ◌∙◌, inl, inr}
 use Rattle.std.specs.declared.cmp.Ordering.{Ordering}
 use Rattle.std.specs.Cmp.{IsTotalOrder}
@@ -34,7 +35,7 @@ use Rattle.dac_config.specs.Table.{Table, node_count}
 use Rattle.dac_bytes.specs.declared.fault.ReadFaultKind.TheVariants.{BadNumber, BadOrder, NotKnown}
 use Rattle.dac_bytes.specs.Reading.{Rest, Field, fault, ◌>>=◌, number_at, range_at, node_at, origin_at, origin_above_at, dot_at, dot_above_at, items_at, is_above}
 use Rattle.dac_bytes.specs.laws.Takes.{bind_ok, guard_ok, wanted_ok, ok_is}
-use Rattle.dac_part_bytes.specs.Reading.{known_dot_at, said_flag, vote_at, some_at, votes_of_key_at, key_above_at, listed_key_at, keyed_votes_at, permits_of_key_at, drains_of_key_at, dots_of_key_at, keyed_dots_at, node_above_at, inc_and_flag_at, life_at, claim_at, listed_claim_at}
+use Rattle.dac_part_bytes.specs.Reading.{known_dot_at, flag_of_code, vote_at, some_at, votes_of_key_at, key_above_at, listed_key_at, keyed_votes_at, permits_of_key_at, drains_of_key_at, dots_of_key_at, keyed_dots_at, node_above_at, inc_and_flag_at, life_at, claim_at, listed_claim_at}
 use Rattle.dac_bytes.specs.laws.Ascending.{IsNext, counted_chain, items_chain, chain_each}
 use Rattle.dac_part_bytes.proofs.InOrder.{not_empty, not_empty_set}
 use Rattle.dac_bytes.specs.declared.version.Version.{Version}
@@ -42,7 +43,6 @@ use Rattle.dac_bytes.specs.declared.version.Version.TheVariants.{Two}
 
 -- ---- dots
 
--- the dot is known
 abbrev pub IsKnown : Dots → Dot → Type 0
 IsKnown known d = set.contains known d ≡ true
 
@@ -58,9 +58,9 @@ known_dot_next version nodes known s r x e =
 pub vote_next : (version : Version) (nodes : ℕ) (known : Dots) (truth : Flag) (s : Option Dot) (r : Rest) (x : (Dot × Flag) × Rest) → vote_at version nodes known truth s r ≡ Ok x → IsNext dot_cmp (λ (p : Dot × Flag). p.0) (λ p. IsKnown known p.0) s x.0
 unfolding vote_at
 vote_next version nodes known truth s r x e =
-    let a = bind_ok (known_dot_at version nodes known s r) (λ d. range_at w8 0 1 d.1 >>= λ value. Ok ((d.0, said_flag truth value.0), value.1)) x e in
-    let b = bind_ok (range_at w8 0 1 a.0.1) (λ value. Ok ((a.0.0, said_flag truth value.0), value.1)) x a.2 in
-    let made : (Dot × Flag) × Rest = ((a.0.0, said_flag truth b.0.0), b.0.1) in
+    let a = bind_ok (known_dot_at version nodes known s r) (λ d. range_at w8 0 1 d.1 >>= λ value. Ok ((d.0, flag_of_code truth value.0), value.1)) x e in
+    let b = bind_ok (range_at w8 0 1 a.0.1) (λ value. Ok ((a.0.0, flag_of_code truth value.0), value.1)) x a.2 in
+    let made : (Dot × Flag) × Rest = ((a.0.0, flag_of_code truth b.0.0), b.0.1) in
     subst (λ (y : (Dot × Flag) × Rest). IsNext dot_cmp (λ (p : Dot × Flag). p.0) (λ p. IsKnown known p.0) s y.0) (ok_is made x b.2) (known_dot_next version nodes known s r a.0 a.1)
 
 or_none : (a b : Bool) → (a || b) ≡ false → a ≡ false
@@ -90,7 +90,7 @@ origin_next version nodes s r x e =
     let g = wanted_ok (is_above origin_cmp s a.0.0) BadOrder r a.0 x a.2 in
     ap (λ (y : Origin × Rest). is_above origin_cmp s y.0) (sym g.1) ∙ g.0
 
--- the votes of a key: some, by dots that are known
+-- the votes of a key: at least one, with known dots
 abbrev pub AreVotesKnown : {K : Type 0} → Dots → K × DotFlags → Type 0
 AreVotesKnown known e = AllByRecursion (λ (p : Dot × Flag). IsKnown known p.0) e.1 × (is_empty_list e.1 ≡ false)
 
@@ -108,7 +108,7 @@ module _ {K : Type 0} (R : K → K → Ordering) (key_above : Option K → Rest 
       subst (λ (y : (K × DotFlags) × Rest). IsNext R (λ (e : K × DotFlags). e.0) (AreVotesKnown known) s y.0) (ok_is made x b.2)
       ((c.1, not_empty b.0.0 c.0), next s r a.0 a.1)
 
--- the dots of a key: some, and known
+-- the dots of a key: at least one, all known
 abbrev pub AreDotsKnown : Dots → Key × Dots → Type 0
 AreDotsKnown known e = IsHeld (set.contains e.1) known × (is_empty_set e.1 ≡ false)
 
@@ -125,7 +125,7 @@ keyed_dots_next version t known s r x e =
     subst (λ (y : (Key × Dots) × Rest). IsNext key_cmp (λ (e : Key × Dots). e.0) (AreDotsKnown known) s y.0) (ok_is made x b.2)
     ((held, not_empty_set b.0.0 c.0), key_next version t s r a.0 a.1)
 
--- ---- what is read by key is known
+-- ---- the dots of all keys are known
 
 held_flags : (known : Dots) (ps : DotFlags) → AllByRecursion (λ (p : Dot × Flag). IsKnown known p.0) ps → IsHeld (has_dot ps) known
 held_flags known [] all x h = absurd (false≢true h)
@@ -186,11 +186,11 @@ starts_held version t known n r x e =
 
 -- ---- permits and drains
 
--- a key with its permits, as it is read
+-- reads a key with its permits
 abbrev pub permit_item : Version → Table → Dots → Option Key → Rest → Field (Key × DotFlags)
 permit_item version t known = keyed_votes_at (key_above_at version t) (permits_of_key_at version t known)
 
--- an incarnation of a node with its drains, as it is read
+-- reads an incarnation of a node with its drains
 abbrev pub drain_item : Table → Dots → Option Origin → Rest → Field (Origin × DotFlags)
 drain_item t known = keyed_votes_at (origin_above_at Two (node_count t)) (drains_of_key_at t known)
 

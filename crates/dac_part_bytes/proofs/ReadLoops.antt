@@ -1,4 +1,4 @@
--- What the loops that read items keep: they begin with nothing, and append one item at a time.
+-- The invariants of loops that read items: they begin with nothing, and append one item at a time.
 use Rattle.std.proofs.Common.{◌≡◌, ℕ, Bool, true, false, cond, List, [], ◌∷◌, ◌++◌, Option, None, Some, Ok, Err, refl, sym, ap, subst, ◌∙◌}
 use Rattle.std.specs.Prelude.{Result, IsOk, IfOk, IfErr}
 use Rattle.std.specs.declared.cmp.Ordering.{Ordering}
@@ -29,14 +29,14 @@ with_none : {X : Type 0} (read : Field (List X)) → with_front [] read ≡ read
 with_none (Ok y) = refl
 with_none (Err e) = refl
 
--- where nothing was read
+-- before any item was read
 pub starts_with : {K X : Type 0} (R : K → K → Ordering) (key : X → K) (item : Option K → Rest → Field X) (next : X → Option K) (front : List X) (n m : ℕ) (r : Rest) → front ≡ [] → n ≡ m
     → (with_front front (items_at item next n None r) ≡ items_at item next m None r) × Reaches R key None front
 starts_with {K} {X} R key item next front n m r none same =
     subst (λ (f : List X). (with_front f (items_at item next n None r) ≡ items_at item next m None r) × Reaches R key None f) (sym none)
     (with_none (items_at item next n None r) ∙ ap (λ (k : ℕ). items_at item next k None r) same, λ k. refl)
 
--- what is above all is appended
+-- an item greater than all is appended
 pub pushed_is : {A : Type 0} (pushed above : Bool) (new more old : A) → pushed ≡ above → above ≡ true → new ≡ cond pushed more old → new ≡ more
 pushed_is pushed above new more old p q e = e ∙ ap (λ b. cond b more old) (p ∙ q)
 
@@ -67,7 +67,7 @@ module _ {K V : Type 0} {R : K → K → Ordering} (o : IsTotalOrder R) (exact :
   joined_one join false None v none = refl
   joined_one join false (Some w) v none = refl
 
-  -- the greater of a map and of one entry above all of its is the map with that entry
+  -- the join of a map with an entry greater than all of its entries appends that entry
   pub entries_joined : (cmp : V → V → Ordering) (m : map.FinMap R V) (k : K) (v : V) → is_above_entries R (map.entries m) k ≡ true → map.entries (greater cmp m (map.insert map.empty k v)) ≡ map.entries m ++ (k, v) ∷ []
   entries_joined cmp m k v above =
       let one : map.FinMap R V = map.insert map.empty k v in
@@ -81,13 +81,13 @@ module _ {K V : Type 0} {R : K → K → Ordering} (o : IsTotalOrder R) (exact :
       ∙ joined_one (ord_max cmp) (eq_by_cmp R q k) (find R q (map.entries m)) v (λ t. ap (λ x. find R x (map.entries m)) (exact q k (tie _ t)) ∙ none)
       ∙ sym (find-append R o (map.entries m) k v q none))
 
--- ---- where no error can be
+-- ---- errors that can't occur
 
--- where each error says that a fact fails, and it holds, there is none
+-- there is no error if each error contradicts a fact that holds
 pub no_error : {X E : Type 0} (P : E → Type 0) (H : Type 0) (r : Result X E) → IfErr r (λ e. P e × ¬ H) → H → IsOk r
 no_error P H (Ok x) f h = refl
 no_error P H (Err e) f h = absurd (f.1 h)
 
--- what is said of a value holds of the one that a result has
+-- a property of each possible value holds of the value of a result
 pub said_of : {X E : Type 0} (P : X → Type 0) (r : Result X E) (x : X) → IfOk r P → r ≡ Ok x → P x
 said_of P r x f e = subst (λ s. IfOk s P) e f

@@ -1,4 +1,4 @@
--- Votes by key, as the lists that are read, and their spellings are one to one.
+-- The codec of votes by key, as the lists that are read.
 use Rattle.std.specs.Prelude.{◌≡◌, ℕ, zero, suc, ◌-◌, ◌^◌, ◌<◌, ◌≤◌, List, ◌++◌, length, map as list_map, Option, refl}
 use Rattle.std.proofs.Common.{ap, arith}
 use Rattle.std.specs.declared.cmp.Ordering.{Ordering}
@@ -22,13 +22,13 @@ use Rattle.dac_bytes.specs.laws.Ascending.{IsNext, counted_codec}
 use Rattle.dac_bytes.specs.laws.Codecs.{codec_both}
 use Rattle.dac_bytes.specs.laws.Fields.{u8_in_takes, u8_in_again, u32_takes, u32_again, u32_in_takes, u32_in_again}
 use Rattle.dac_part_bytes.specs.KeyedForm.{IsKnownDot}
-use Rattle.dac_part_bytes.specs.Reading.{known_dot_at, some_at, said_flag, vote_at, votes_of_key_at, keyed_votes_at, votes_by_key_at}
-use Rattle.dac_part_bytes.specs.Spelling.{said_code, vote_bytes, votes_of_key_bytes, keyed_votes_bytes}
+use Rattle.dac_part_bytes.specs.Reading.{known_dot_at, some_at, flag_of_code, vote_at, votes_of_key_at, keyed_votes_at, votes_by_key_at}
+use Rattle.dac_part_bytes.specs.Spelling.{code_of_flag, vote_bytes, votes_of_key_bytes, keyed_votes_bytes}
 use Rattle.dac_part_bytes.proofs.KeyFields.{IsDotAbove, known_dot_takes, known_dot_again}
 
--- ---- what a vote says
+-- ---- the value of a vote
 
-code_again : (truth : Flag) (n : ℕ) → n ≤ 1 → n ≡ said_code truth (said_flag truth n)
+code_again : (truth : Flag) (n : ℕ) → n ≤ 1 → n ≡ code_of_flag truth (flag_of_code truth n)
 code_again Up zero h = refl
 code_again Up (suc zero) h = refl
 code_again Up (suc (suc n)) h = absurd (omega arith)
@@ -36,13 +36,13 @@ code_again Down zero h = refl
 code_again Down (suc zero) h = refl
 code_again Down (suc (suc n)) h = absurd (omega arith)
 
-flag_again : (truth flag : Flag) → said_flag truth (said_code truth flag) ≡ flag
+flag_again : (truth flag : Flag) → flag_of_code truth (code_of_flag truth flag) ≡ flag
 flag_again Up Up = refl
 flag_again Up Down = refl
 flag_again Down Up = refl
 flag_again Down Down = refl
 
-code_small : (truth flag : Flag) → (0 ≤ said_code truth flag) × (said_code truth flag ≤ 1)
+code_small : (truth flag : Flag) → (0 ≤ code_of_flag truth flag) × (code_of_flag truth flag ≤ 1)
 code_small Up Up = (omega arith, omega arith)
 code_small Up Down = (omega arith, omega arith)
 code_small Down Up = (omega arith, omega arith)
@@ -50,27 +50,25 @@ code_small Down Down = (omega arith, omega arith)
 
 -- ---- the votes of a key
 
--- some, and a number that fits its field
+-- at least one, and a number that fits its field
 abbrev IsSome : ℕ → Type 0
 IsSome n = (1 ≤ n) × (n ≤ 2 ^ 32 - 1)
 
--- a vote's dot
 abbrev dot_of : Dot × Flag → Dot
 dot_of p = p.0
 
--- the votes of a key: some, by known dots that rise
+-- the votes of a key: at least one, with known ascending dots
 abbrev pub AreVotesOfKey : Version → Table → Dots → DotFlags → Type 0
 AreVotesOfKey version t known ps = IsSome (length ps) × AllByRecursion (λ (p : Dot × Flag). IsKnownDot version t known p.0) ps × IsRising dot_cmp (list_map (λ (p : Dot × Flag). p.0) ps)
 
--- a key with its votes
 abbrev pub IsKeyedVotes : {K : Type 0} → (K → Type 0) → Version → Table → Dots → K × DotFlags → Type 0
 IsKeyedVotes IsKeyOf version t known e = IsKeyOf e.0 × AreVotesOfKey version t known e.1
 
--- keys that rise, each with its votes
+-- ascending keys, each with its votes
 abbrev pub AreVotesByKey : {K : Type 0} → (K → K → Ordering) → (K → Type 0) → Version → Table → Dots → List (K × DotFlags) → Type 0
 AreVotesByKey {K = K} R IsKeyOf version t known m = (length m < 2 ^ 32) × AllByRecursion (IsKeyedVotes IsKeyOf version t known) m × IsRising R (list_map (λ (e : K × DotFlags). e.0) m)
 
--- how many keys have votes, and the votes of each
+-- the number of keys with votes, and the votes of each
 abbrev pub votes_list_bytes : {K : Type 0} → (K → List ℕ) → Version → Flag → List (K × DotFlags) → List ℕ
 votes_list_bytes key_text version truth m = u32_bytes (length m) ++ flat_map (keyed_votes_bytes key_text version truth) m
 
@@ -78,7 +76,7 @@ module _ (version : Version) (t : Table) (known : Dots) (truth : Flag) (few_node
   abbrev nodes : ℕ
   nodes = node_count t
 
-  -- the vote of a known dot above the one before it
+  -- the vote of a known dot greater than the previous one
   abbrev IsVoteAbove : Option Dot → Dot × Flag → Type 0
   IsVoteAbove = IsNext dot_cmp dot_of (λ (p : Dot × Flag). IsKnownDot version t known p.0)
 
@@ -88,9 +86,9 @@ module _ (version : Version) (t : Table) (known : Dots) (truth : Flag) (few_node
       codec_both (known_dot_at version nodes known before) (dot_bytes version) (IsDotAbove version t known before)
       (record { takes = known_dot_takes version t known before; again = known_dot_again version t known few_nodes before })
       (λ _ r. range_at w8 0 1 r) (λ _. u8_bytes) (λ _ n. (0 ≤ n) × (n ≤ 1)) (λ _ _. record { takes = u8_in_takes 0 1; again = λ n is. u8_in_again 0 1 (omega arith) n is.0 is.1 })
-      (λ d n. (d, said_flag truth n)) (vote_bytes version truth) (IsVoteAbove before)
+      (λ d n. (d, flag_of_code truth n)) (vote_bytes version truth) (IsVoteAbove before)
       (λ d n is so. (ap (λ (n : ℕ). dot_bytes version d ++ u8_bytes n) (code_again truth n so.1), is))
-      (λ p is. (p.0, said_code truth p.1, is, code_small truth p.1, (λ i. (p.0, flag_again truth p.1 i))))
+      (λ p is. (p.0, code_of_flag truth p.1, is, code_small truth p.1, (λ i. (p.0, flag_again truth p.1 i))))
 
   votes_of_key_codec : IsCodec (votes_of_key_at version nodes known truth) (votes_of_key_bytes version truth) (AreVotesOfKey version t known)
   unfolding votes_of_key_at votes_of_key_bytes

@@ -1,4 +1,4 @@
--- What lives and claims have to be so that they can be read. Lives go by how many nodes there are, and claims by a
+-- Well-formed lives and claims, which are those that can be read. Lives depend on the number of nodes, and claims on a
 -- configuration.
 use Rattle.std.specs.Prelude.{◌≡◌, ℕ, ◌<◌, ◌≤◌, ◌^◌, true, length, Option, None, Some}
 use Rattle.std.specs.List.{AllByRecursion}
@@ -19,45 +19,38 @@ use Rattle.dac_bytes.specs.declared.version.Version.{Version}
 
 -- ---- lives
 
--- the life of a node
+-- the life of a node is well-formed
 pub record IsLifeInForm (version : Version) (nodes : ℕ) (e : NodeId × Life) : Type 0 where
-  -- there is such a node
   pub node : e.0.0 < nodes
-  -- its incarnation is one that there can be
   pub inc : IsIncarnation version e.1.inc
 
--- the lives of some nodes
+-- the lives of some nodes are well-formed
 pub record AreLivesInForm (version : Version) (nodes : ℕ) (lives : Lives) : Type 0 where
-  -- each is in form
   pub each : AllByRecursion (IsLifeInForm version nodes) (map.entries lives)
-  -- and their number fits its field
   pub count : length (map.entries lives) < 2 ^ 8
 
 -- ---- claims
 
--- What was started came from no node, and all else from one that there is.
-abbrev pub IsFromFor : ℕ → How → Option NodeId → Type 0
-IsFromFor nodes Normal from = from ≡ None
-IsFromFor nodes Failover from = (node : NodeId) × (from ≡ Some node) × (node.0 < nodes)
-IsFromFor nodes Takeover from = (node : NodeId) × (from ≡ Some node) × (node.0 < nodes)
+-- A manner is consistent: `Normal` has no previous node, and the others have an existing one.
+abbrev pub IsConsistentOrigin : ℕ → How → Option NodeId → Type 0
+IsConsistentOrigin nodes Normal from = from ≡ None
+IsConsistentOrigin nodes Failover from = (node : NodeId) × (from ≡ Some node) × (node.0 < nodes)
+IsConsistentOrigin nodes Takeover from = (node : NodeId) × (from ≡ Some node) × (node.0 < nodes)
 
--- the claim of an application
+-- the claim of an application is well-formed
 pub record IsClaimInForm (version : Version) (t : Table) (e : AppId × Claim) : Type 0 where
-  -- there is such an application
   pub app : e.0.0 < app_count t
-  -- its term is one that can be issued
+  -- its term can be issued
   pub first : 1 ≤ e.1.term
   pub last : e.1.term ≤ MAX_COUNTER
-  -- who claims it is an incarnation of a node that there is
+  -- the claiming incarnation is of an existing node
   pub origin : IsOrigin version (node_count t) e.1.origin
-  -- and that node is in the application's list
+  -- that node is in the application's list
   pub listed : is_listed t e.0 e.1.origin.node ≡ true
-  -- where it came from fits how it came
-  pub from : IsFromFor (node_count t) e.1.how e.1.from
+  -- its manner is consistent
+  pub from : IsConsistentOrigin (node_count t) e.1.how e.1.from
 
--- the claims of some applications
+-- the claims of some applications are well-formed
 pub record AreClaimsInForm (version : Version) (t : Table) (claims : Claims) : Type 0 where
-  -- each is in form
   pub each : AllByRecursion (IsClaimInForm version t) (map.entries claims)
-  -- and their number fits its field
   pub count : length (map.entries claims) < 2 ^ 16

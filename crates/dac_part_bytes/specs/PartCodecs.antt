@@ -1,4 +1,4 @@
--- The fields and the parts whose values and spellings are one to one under a configuration.
+-- The codecs of fields and parts, given a version and a configuration.
 use Rattle.std.specs.Prelude.{◌<◌, Option}
 use Rattle.dac_base.specs.declared.NodeId.{NodeId}
 use Rattle.dac_chains.specs.declared.claims.How.{How}
@@ -7,7 +7,7 @@ use Rattle.dac_wishes.specs.declared.key.Key.{Key}
 use Rattle.dac_config.specs.Table.{Table, node_count, app_count}
 use Rattle.dac_bytes.specs.FieldCodecs.{FieldCodecs}
 use Rattle.dac_bytes.specs.Takes.{IsCodec}
-use Rattle.dac_part_bytes.specs.ChainForm.{IsFromFor, AreLivesInForm, AreClaimsInForm}
+use Rattle.dac_part_bytes.specs.ChainForm.{IsConsistentOrigin, AreLivesInForm, AreClaimsInForm}
 use Rattle.dac_part_bytes.specs.KeyedForm.{IsKeyAbove, ArePermitsInForm, AreStartsInForm, AreDrainsInForm}
 use Rattle.dac_part_bytes.specs.Reading.{app_at, key_above_at, manner_at, all_permits_at, all_starts_at, all_lives_at, all_claims_at, all_drains_at}
 use Rattle.dac_part_bytes.specs.Spelling.{app_bytes, key_bytes, manner_bytes, permits_bytes, starts_bytes, lives_bytes, claims_bytes, drains_bytes}
@@ -16,12 +16,12 @@ use Rattle.dac_bytes.specs.declared.version.Version.{Version}
 pub record PartCodecs (version : Version) (t : Table) : Type 0 where
   pub fields : FieldCodecs version (node_count t)
   pub app : IsCodec (app_at (app_count t)) app_bytes (λ app. app.0 < app_count t)
-  -- a key above the one before it
+  -- a key greater than the previous one
   pub key : (before : Option Key)
       → IsCodec (key_above_at version t before) (key_bytes version) (IsKeyAbove version t before)
   pub manner : IsCodec (manner_at (node_count t)) (λ (m : How × Option NodeId). manner_bytes m.0 m.1)
-      (λ m. IsFromFor (node_count t) m.0 m.1)
-  -- what stands among the dots known
+      (λ m. IsConsistentOrigin (node_count t) m.0 m.1)
+  -- the parts that depend on the known dots
   pub permits : (known : Dots)
       → IsCodec (all_permits_at version t known) (permits_bytes version) (ArePermitsInForm version t known)
   pub starts : (known : Dots)

@@ -1,18 +1,17 @@
 //! The parts of a state as bytes: permits, start wishes, lives, claims and drains.
 //!
-//! All numbers are big-endian. A part is a count and its items in ascending order, so equal parts have equal
-//! bytes. Of permits, start wishes and drains an item is a key with the dots that stand there, at least one. Each
-//! call that writes appends exactly the bytes that this crate's `specs/` give the part.
+//! All numbers are big-endian. A part is a count and its items in ascending order, so that equal parts have equal
+//! bytes. An item of permits, start wishes and drains is a key with its standing dots, of which there is at least one.
+//! Each `write` function appends exactly the bytes that this crate's `specs/` define for the part. `NoMemory` is its
+//! only error, and discards the writer. A count that doesn't fit its field is truncated to its low bits.
 //!
-//! A count that doesn't fit its field is written by its lowest bits.
-//!
-//! Each call that reads answers the part and what is after it, or the first fault from left to right with its offset.
-//! It does so exactly as the reading functions of `specs/Reading` say. Only `NoMemory`, at 0, may come in place of
-//! either. The names are those of a configuration, and the dots that stand are known. The contract of each call that
-//! reads says that what is read is spelled so and is in the form of `specs/ChainForm` and `specs/KeyedForm`. It also
-//! says that what is in that form is read from its bytes. That of [`laws::parts_have_one_spelling`] says so wherever
-//! the bytes stand. Items are read one after another, so no count makes a reader take memory that the bytes don't pay
-//! for.
+//! Each `read` function returns the part and the reader after it, or the first fault from left to right with its
+//! offset, exactly as `specs/Reading` defines them, unless it fails with `NoMemory` at 0, which carries no information
+//! about the bytes. It accepts only names of the configuration, and only known dots. By its contract a part that is
+//! read is well-formed by `specs/ChainForm` and `specs/KeyedForm` and has the bytes read as its spelling, and each
+//! well-formed part is read from its spelling; [`laws::parts_have_one_spelling`] states this for all offsets. Items are
+//! read one by one, so that a false count can't reserve more memory than the bytes justify. Functions that neither take
+//! an allocator nor return a writer allocate nothing.
 #![tactic(auto)]
 
 pub use dac_config::Config;

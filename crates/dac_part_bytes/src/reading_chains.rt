@@ -1,4 +1,4 @@
-//! The reading side: lives and claims.
+//! Reads lives and claims.
 ghost use Rattle.std.specs.Prelude.{◌≡◌, ◌<◌, None, Some, IfOk};
 ghost use Rattle.std.specs.FinMap as map;
 ghost use Rattle.dac_config.specs.Table.{app_count, node_count};
@@ -17,7 +17,7 @@ use dac_lattice::{Bottom, Lattice};
 use dac_origins::Origin;
 use std::alloc::Global;
 
-/// The life of a node above the one before it.
+/// The life of a node greater than the previous one.
 #[tactic(auto, unfolding(crate::specs::Reading::life_at))]
 fn read_life<'a>(
     reader: ByteReader<'a>,
@@ -33,7 +33,7 @@ fn read_life<'a>(
     Ok(((node, life), rest))
 }
 
-/// So many lives.
+/// `count` lives.
 fn read_counted_lives<'a>(
     reader: ByteReader<'a>,
     alloc: Global,
@@ -57,7 +57,6 @@ fn read_counted_lives<'a>(
     Ok((lives, rest))
 }
 
-/// The lives.
 #[tactic(auto, unfolding(crate::specs::Reading::all_lives_at, crate::specs::Reading::lives_in_order_at, dac_bytes::specs::Reading::counted_at))]
 fn read_all_lives<'a>(
     reader: ByteReader<'a>,
@@ -72,12 +71,14 @@ fn read_all_lives<'a>(
     Ok(read)
 }
 
-/// The lives: how many nodes have one, and for each in ascending order its life. That is the node, its incarnation,
-/// and 0 for up or 1 for down.
+/// The lives: the number of nodes with a life, and for each in ascending order the node, its incarnation, and 0 for up
+/// or 1 for down.
 ///
-/// Each field is checked as it is read, so the fault is the first from left to right. A node is `BadName` where the
-/// configuration hasn't it and then `BadOrder` where it isn't above the one before it. An incarnation of 0 is
-/// `BadNumber` at its first byte, and so is a flag above 1. `NoMemory` says nothing of the bytes.
+/// # Errors
+///
+/// Fields are checked as they are read, so that the fault is the first from left to right. A node is `BadName` if the
+/// configuration doesn't contain it, and `BadOrder` if it isn't greater than the previous one. An incarnation of 0 is
+/// `BadNumber` at its first byte, and so is a flag above 1.
 pub fn read_lives<'a>(
     reader: ByteReader<'a>,
     alloc: Global,
@@ -86,14 +87,14 @@ pub fn read_lives<'a>(
 ) -> Result<(Lives, ByteReader<'a>), ReadFault>
     ensures exact { Gives (λ x. x) result
         (all_lives_at version (node_count config.now) reader.entry) }
-    // What is read is spelled so, and in form.
+    // The returned lives are well-formed, with these bytes as their spelling.
     ensures found { IsFoundAs (λ x. x) (lives_bytes version)
         (AreLivesInForm version (node_count config.now)) reader.entry result }
-    // What is spelled so and in form is read, unless memory runs out.
+    // Well-formed lives are read from their spelling, unless memory runs out.
     ensures again { IsReadAgain (λ x. x) (lives_bytes version)
         (AreLivesInForm version (node_count config.now)) reader.entry result }
 {
-    // For the prover: nodes are numbered in one byte.
+    // For the prover: node numbers fit one byte.
     let _nodes = config.nodes();
     read_all_lives(reader, alloc, version, config)
 }
@@ -170,7 +171,7 @@ fn read_listed_claim<'a>(
     }
 }
 
-/// The claim of an application above the one before it.
+/// The claim of an application greater than the previous one.
 #[tactic(auto, unfolding(crate::specs::Reading::claim_at))]
 fn read_claim<'a>(
     reader: ByteReader<'a>,
@@ -194,7 +195,7 @@ fn read_claim<'a>(
     }
 }
 
-/// So many claims.
+/// `count` claims.
 fn read_counted_claims<'a>(
     reader: ByteReader<'a>,
     alloc: Global,
@@ -218,7 +219,6 @@ fn read_counted_claims<'a>(
     Ok((claims, rest))
 }
 
-/// The claims.
 #[tactic(auto, unfolding(crate::specs::Reading::all_claims_at, crate::specs::Reading::claims_in_order_at, dac_bytes::specs::Reading::counted_at))]
 fn read_all_claims<'a>(
     reader: ByteReader<'a>,
@@ -233,14 +233,16 @@ fn read_all_claims<'a>(
     Ok(read)
 }
 
-/// The claims: how many applications are claimed, and for each in ascending order its claim. That is the application,
-/// the term of its claim, who claims it, and how it came there.
+/// The claims: the number of claimed applications, and for each in ascending order the application, the term of its
+/// claim, the claiming incarnation, and how the application came there.
 ///
-/// Each field is checked as it is read, so the fault is the first from left to right. An application and a node that
-/// the configuration hasn't are `BadName` at their first byte. A term and an incarnation out of range are
-/// `BadNumber`, and the last two fields are as in [`read_manner`](crate::read_manner). Then the claim is `NotInList`
-/// at its first byte where the node isn't in the application's list. Last it is `BadOrder` there where the
-/// application isn't above the one before it. `NoMemory` says nothing of the bytes.
+/// # Errors
+///
+/// Fields are checked as they are read, so that the fault is the first from left to right. An application or node that
+/// the configuration doesn't contain is `BadName` at its first byte. A term or incarnation out of range is `BadNumber`,
+/// and the last two fields are checked as in [`read_manner`](crate::read_manner). Then the claim is `NotInList` at its
+/// first byte if the node isn't in the application's list, and `BadOrder` if the application isn't greater than the
+/// previous one.
 pub fn read_claims<'a>(
     reader: ByteReader<'a>,
     alloc: Global,
@@ -248,14 +250,14 @@ pub fn read_claims<'a>(
     config: &Config,
 ) -> Result<(Claims, ByteReader<'a>), ReadFault>
     ensures exact { Gives (λ x. x) result (all_claims_at version config.now reader.entry) }
-    // What is read is spelled so, and in form.
+    // The returned claims are well-formed, with these bytes as their spelling.
     ensures found { IsFoundAs (λ x. x) (claims_bytes version) (AreClaimsInForm version config.now)
         reader.entry result }
-    // What is spelled so and in form is read, unless memory runs out.
+    // Well-formed claims are read from their spelling, unless memory runs out.
     ensures again { IsReadAgain (λ x. x) (claims_bytes version) (AreClaimsInForm version config.now)
         reader.entry result }
 {
-    // For the prover: nodes are numbered in one byte, and applications in two.
+    // For the prover: node numbers fit one byte, and application numbers two.
     let _nodes = config.nodes();
     let _apps = config.apps();
     read_all_claims(reader, alloc, version, config)

@@ -1,9 +1,9 @@
-//! The reading side: keys, dots that stand, and codes.
+//! Reads keys, known dots, and codes.
 ghost use Rattle.std.specs.Prelude.{◌≡◌, ◌<◌, IfOk};
 ghost use Rattle.dac_config.specs.Table.{app_count};
 ghost use Rattle.dac_bytes.specs.Reading.{IsOfBytes};
 ghost use Rattle.dac_bytes.specs.Takes.{IsFoundAs, IsReadAgain};
-ghost use Rattle.dac_part_bytes.specs.ChainForm.{IsFromFor};
+ghost use Rattle.dac_part_bytes.specs.ChainForm.{IsConsistentOrigin};
 ghost use Rattle.dac_part_bytes.specs.KeyedForm.{IsKeyAbove};
 ghost use Rattle.dac_part_bytes.specs.Spelling.{app_bytes, key_bytes, manner_bytes};
 ghost use Rattle.dac_part_bytes.specs.Reading.{app_at, fitting_code_at, flag_of, from_at, from_code_at, from_of, how_at, how_of, inc_and_flag_at, is_from_of, is_listed, key_above_at, key_fields_at, known_dot_at, listed_key_at, manner_at, node_above_at, some_at};
@@ -38,15 +38,14 @@ fn read_app_below<'a>(
     }
 }
 
-/// An application in two bytes. One that isn't below the number of applications is `BadName` at its first
-/// byte.
+/// An application in two bytes. A number of `apps` or more is `BadName` at its first byte.
 pub fn read_app<'a>(reader: ByteReader<'a>, apps: u16) -> Result<(AppId, ByteReader<'a>), ReadFault>
     ensures exact { result ≡ app_at apps reader.entry }
     ensures real { IsOfBytes result }
     ensures below { IfOk result (λ x. x.0.0 < apps) }
-    // What is read is spelled so, and one that there is.
+    // The returned application exists, with these bytes as its spelling.
     ensures found { IsFoundAs (λ x. x) app_bytes (λ app. app.0 < apps) reader.entry result }
-    // One that there is is read from its spelling.
+    // An existing application is read from its spelling.
     ensures again { IsReadAgain (λ x. x) app_bytes (λ app. app.0 < apps) reader.entry result }
 {
     read_app_below(reader, apps)
@@ -123,10 +122,13 @@ fn read_key_above<'a>(
     }
 }
 
-/// A key above the one before it, where there is one. Its application and its node are `BadName` at their
-/// first byte where the configuration hasn't them, and its incarnation `BadNumber` where it is 0. Then the
-/// key is `NotInList` at its first byte where the node isn't in the application's list, and `BadOrder`
-/// there where it isn't above.
+/// A key greater than the previous one, if any.
+///
+/// # Errors
+///
+/// Application and node are `BadName` at their first byte if the configuration doesn't contain them, and the
+/// incarnation is `BadNumber` if it is 0. Then the key is `NotInList` at its first byte if the node isn't in the
+/// application's list, and `BadOrder` if it isn't greater.
 pub fn read_key<'a>(
     reader: ByteReader<'a>,
     version: Version,
@@ -135,20 +137,20 @@ pub fn read_key<'a>(
 ) -> Result<(Key, ByteReader<'a>), ReadFault>
     ensures exact { result ≡ key_above_at version config.now before reader.entry }
     ensures real { IsOfBytes result }
-    // What is read is spelled so, and in form.
+    // The returned key is well-formed, with these bytes as its spelling.
     ensures found { IsFoundAs (λ x. x) (key_bytes version) (IsKeyAbove version config.now before)
         reader.entry result }
-    // What is spelled so and in form is read.
+    // A well-formed key is read from its spelling.
     ensures again { IsReadAgain (λ x. x) (key_bytes version) (IsKeyAbove version config.now before)
         reader.entry result }
 {
-    // For the prover: nodes are numbered in one byte, and applications in two.
+    // For the prover: node numbers fit one byte, and application numbers two.
     let _nodes = config.nodes();
     let _apps = config.apps();
     read_key_above(reader, version, config, before)
 }
 
-/// A dot above the one before it, which is known.
+/// A known dot, greater than the previous one.
 #[tactic(auto, unfolding(crate::specs::Reading::known_dot_at))]
 pub(crate) fn read_known_dot<'a>(
     reader: ByteReader<'a>,
@@ -172,7 +174,7 @@ pub(crate) fn read_known_dot<'a>(
     }
 }
 
-/// A number of dots of a key, which is at least one.
+/// The number of a key's dots, at least one.
 pub(crate) fn read_some<'a>(reader: ByteReader<'a>) -> Result<(u32, ByteReader<'a>), ReadFault>
     ensures exact { result ≡ some_at reader.entry }
     ensures real { IsOfBytes result }
@@ -181,7 +183,7 @@ pub(crate) fn read_some<'a>(reader: ByteReader<'a>) -> Result<(u32, ByteReader<'
     Ok(read)
 }
 
-/// A node above the one before it.
+/// A node greater than the previous one.
 #[tactic(auto, unfolding(crate::specs::Reading::node_above_at))]
 pub(crate) fn read_node_above<'a>(
     reader: ByteReader<'a>,
@@ -247,7 +249,7 @@ fn read_how<'a>(reader: ByteReader<'a>) -> Result<(How, ByteReader<'a>), ReadFau
     Ok((how_of(code), rest))
 }
 
-/// The code of no node, or of a node below the number of nodes.
+/// The code of no node, or of a node whose number is below `nodes`.
 #[tactic(auto, unfolding(crate::specs::Reading::from_code_at))]
 fn read_from_code<'a>(reader: ByteReader<'a>, nodes: u8) -> Result<(u8, ByteReader<'a>), ReadFault>
     ensures exact { result ≡ from_code_at nodes reader.entry }
@@ -264,7 +266,7 @@ fn read_from_code<'a>(reader: ByteReader<'a>, nodes: u8) -> Result<(u8, ByteRead
     Ok((code, rest))
 }
 
-/// Whether the code is that of no node exactly for normal.
+/// Whether the code fits: that of no node for `Normal`, that of a node otherwise.
 fn is_from_of(how: How, code: u8) -> bool
     ensures { result ≡ is_from_of how code }
 {
@@ -331,20 +333,23 @@ fn read_how_and_from<'a>(
     Ok(((how, from), rest))
 }
 
-/// How an application came to its node, and from which. The first is `BadNumber` at its byte where it isn't 1 to 3.
-/// The second is `BadName` at its byte where it is above the number of nodes. Else it is `BadNumber` where it isn't 0
-/// exactly for normal.
+/// How an application came to its node, and from which node.
+///
+/// # Errors
+///
+/// The first is `BadNumber` at its byte unless it is 1 to 3. The second is `BadName` at its byte if it is above
+/// `nodes`, and otherwise `BadNumber` unless it is 0 exactly for normal.
 pub fn read_manner<'a>(
     reader: ByteReader<'a>,
     nodes: u8,
 ) -> Result<((How, Option<NodeId>), ByteReader<'a>), ReadFault>
     ensures exact { result ≡ manner_at nodes reader.entry }
     ensures real { IsOfBytes result }
-    // What is read is spelled so, and where it came from fits how it came.
-    ensures found { IsFoundAs (λ x. x) (λ m. manner_bytes m.0 m.1) (λ m. IsFromFor nodes m.0 m.1)
+    // The returned manner is consistent, with these bytes as its spelling.
+    ensures found { IsFoundAs (λ x. x) (λ m. manner_bytes m.0 m.1) (λ m. IsConsistentOrigin nodes m.0 m.1)
         reader.entry result }
-    // What fits is read from its spelling.
-    ensures again { IsReadAgain (λ x. x) (λ m. manner_bytes m.0 m.1) (λ m. IsFromFor nodes m.0 m.1)
+    // A consistent manner is read from its spelling.
+    ensures again { IsReadAgain (λ x. x) (λ m. manner_bytes m.0 m.1) (λ m. IsConsistentOrigin nodes m.0 m.1)
         reader.entry result }
 {
     read_how_and_from(reader, nodes)

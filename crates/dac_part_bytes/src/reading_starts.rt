@@ -1,4 +1,4 @@
-//! The reading side: start wishes.
+//! Reads start wishes.
 ghost use Rattle.std.specs.Prelude.{◌≡◌, None, Some, IfOk};
 ghost use Rattle.dac_bytes.specs.Reading.{Gives, items_at};
 ghost use Rattle.dac_bytes.specs.Takes.{IsFoundAs, IsReadAgain};
@@ -18,7 +18,7 @@ use dac_store::{Context, DotMap, DotSet, DotStore};
 use dac_wishes::{Key, Wishes};
 use std::alloc::Global;
 
-/// So many dots of a key.
+/// `count` dots of a key.
 fn read_dots<'a>(
     reader: ByteReader<'a>,
     alloc: Global,
@@ -42,7 +42,7 @@ fn read_dots<'a>(
     Ok((dots, rest))
 }
 
-/// The dots of a key.
+/// The dots of a key, with their number.
 #[tactic(auto, unfolding(crate::specs::Reading::dots_of_key_at, dac_bytes::specs::Reading::counted_at))]
 fn read_dots_of_key<'a>(
     reader: ByteReader<'a>,
@@ -59,7 +59,7 @@ fn read_dots_of_key<'a>(
     Ok(read)
 }
 
-/// A key above the one before it, with its dots.
+/// A key greater than the previous one, with its dots.
 #[tactic(auto, unfolding(crate::specs::Reading::keyed_dots_at))]
 fn read_keyed_dots<'a>(
     reader: ByteReader<'a>,
@@ -77,7 +77,7 @@ fn read_keyed_dots<'a>(
     Ok(((key, dots), rest))
 }
 
-/// So many keys with their dots.
+/// `count` keys with their dots.
 fn read_keys_of_dots<'a>(
     reader: ByteReader<'a>,
     alloc: Global,
@@ -102,7 +102,7 @@ fn read_keys_of_dots<'a>(
     Ok((store, rest))
 }
 
-/// The start wishes, by key.
+/// The start wishes by key, with the number of keys.
 #[tactic(auto, unfolding(crate::specs::Reading::starts_by_key_at, dac_bytes::specs::Reading::counted_at))]
 fn read_starts_by_key<'a>(
     reader: ByteReader<'a>,
@@ -120,7 +120,6 @@ fn read_starts_by_key<'a>(
     Ok(read)
 }
 
-/// The start wishes that stand, beside the dots that are known.
 #[tactic(auto, unfolding(crate::specs::Reading::all_starts_at))]
 fn read_all_starts<'a>(
     reader: ByteReader<'a>,
@@ -138,10 +137,12 @@ fn read_all_starts<'a>(
     Ok((Wishes::new(causal), rest))
 }
 
-/// The start wishes that stand, beside the dots that are known: how many keys have wishes, and for each in ascending
-/// order an entry. An entry is the key, how many wishes it has, at least one, and their dots in ascending order.
+/// The standing start wishes, paired with the known dots: the number of keys with wishes, and for each in ascending
+/// order the key, the number of its wishes, at least one, and their dots in ascending order.
 ///
-/// The faults are those of [`read_permissions`](crate::read_permissions), but for those of values.
+/// # Errors
+///
+/// Those of [`read_permissions`](crate::read_permissions), except those of values.
 pub fn read_wishes<'a>(
     reader: ByteReader<'a>,
     alloc: Global,
@@ -152,14 +153,14 @@ pub fn read_wishes<'a>(
     ensures exact { Gives (λ x. (x.0.standing, x.1)) result
         (all_starts_at version config.now known.now reader.entry) }
     ensures known { IfOk result (λ x. x.0.known ≡ known.now) }
-    // What is read is spelled so, and in form.
+    // The returned wishes are well-formed, with these bytes as their spelling.
     ensures found { IsFoundAs (λ x. (x.0.standing, x.1)) (starts_bytes version)
         (AreStartsInForm version config.now known.now) reader.entry result }
-    // What is spelled so and in form is read, unless memory runs out.
+    // Well-formed wishes are read from their spelling, unless memory runs out.
     ensures again { IsReadAgain (λ x. (x.0.standing, x.1)) (starts_bytes version)
         (AreStartsInForm version config.now known.now) reader.entry result }
 {
-    // For the prover: nodes are numbered in one byte, and applications in two.
+    // For the prover: node numbers fit one byte, and application numbers two.
     let _nodes = config.nodes();
     let _apps = config.apps();
     read_all_starts(reader, alloc, version, config, known)

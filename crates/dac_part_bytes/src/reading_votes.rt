@@ -1,4 +1,4 @@
-//! The reading side: permits and drains.
+//! Reads permits and drains.
 ghost use Rattle.std.specs.Prelude.{◌≡◌, None, Some, IfOk};
 ghost use Rattle.dac_bytes.specs.Reading.{Gives, IsOfBytes, items_at, origin_above_at};
 ghost use Rattle.dac_bytes.specs.Takes.{IsFoundAs, IsReadAgain};
@@ -6,7 +6,7 @@ ghost use Rattle.dac_bytes.specs.declared.version.Version.TheVariants.{Two};
 ghost use Rattle.dac_config.specs.Table.{node_count};
 ghost use Rattle.dac_origins.specs.Dots.{origin_cmp};
 ghost use Rattle.dac_part_bytes.specs.KeyedForm.{AreDrainsInForm, ArePermitsInForm};
-ghost use Rattle.dac_part_bytes.specs.Reading.{all_drains_at, all_permits_at, all_votes_at, drains_of_key_at, key_above_at, keyed_votes_at, permits_of_key_at, said_flag, vote_at, votes_by_key_at, votes_of_key_at};
+ghost use Rattle.dac_part_bytes.specs.Reading.{all_drains_at, all_permits_at, all_votes_at, drains_of_key_at, key_above_at, keyed_votes_at, permits_of_key_at, flag_of_code, vote_at, votes_by_key_at, votes_of_key_at};
 ghost use Rattle.dac_part_bytes.specs.Spelling.{drains_bytes, permits_bytes};
 ghost use Rattle.dac_store.specs.DotFuns.{has_dot};
 ghost use Rattle.dac_store.specs.DotMaps.{has_in};
@@ -22,9 +22,9 @@ use dac_store::{Causal, Context, DotFun, DotMap, DotStore};
 use dac_wishes::{Drains, Key, Permissions};
 use std::alloc::Global;
 
-/// The flag of a vote by the code of what it says, where `truth` is the flag that stands for true.
-fn said_flag(truth: Flag, code: u8) -> Flag
-    ensures { result ≡ said_flag truth code }
+/// The flag of a vote's code, given the flag `truth` that represents true.
+fn flag_of_code(truth: Flag, code: u8) -> Flag
+    ensures { result ≡ flag_of_code truth code }
 {
     match truth {
         Flag::Up => match code {
@@ -38,7 +38,7 @@ fn said_flag(truth: Flag, code: u8) -> Flag
     }
 }
 
-/// A vote with a dot above the one before it.
+/// A vote, whose dot is greater than the previous one.
 #[tactic(auto, unfolding(crate::specs::Reading::vote_at))]
 fn read_vote<'a>(
     reader: ByteReader<'a>,
@@ -53,10 +53,10 @@ fn read_vote<'a>(
 {
     let (dot, rest) = read_known_dot(reader, version, nodes, known, before)?;
     let (value, rest) = rest.read_u8_in(0, 1)?;
-    Ok(((dot, said_flag(truth, value)), rest))
+    Ok(((dot, flag_of_code(truth, value)), rest))
 }
 
-/// So many votes of a key.
+/// `count` votes of a key.
 fn read_votes<'a>(
     reader: ByteReader<'a>,
     alloc: Global,
@@ -82,7 +82,7 @@ fn read_votes<'a>(
     Ok((votes, rest))
 }
 
-/// The votes of a key.
+/// The votes of a key, with their number.
 #[tactic(auto, unfolding(crate::specs::Reading::votes_of_key_at, dac_bytes::specs::Reading::counted_at))]
 fn read_votes_of_key<'a>(
     reader: ByteReader<'a>,
@@ -99,7 +99,7 @@ fn read_votes_of_key<'a>(
     Ok(read)
 }
 
-/// A store beside a context that has all its dots.
+/// A store paired with a context that contains all its dots.
 pub(crate) fn beside<S: DotStore>(store: S, context: Context) -> Causal<S>
     requires { IsHeld (S.has store) context }
     ensures { result ≡ record { store = store; context = context } }
@@ -107,7 +107,7 @@ pub(crate) fn beside<S: DotStore>(store: S, context: Context) -> Causal<S>
     Causal::new(store, context).unwrap()
 }
 
-/// A key above the one before it, with its permits.
+/// A key greater than the previous one, with its permits.
 #[tactic(auto, unfolding(crate::specs::Reading::keyed_votes_at))]
 fn read_keyed_permits<'a>(
     reader: ByteReader<'a>,
@@ -125,7 +125,7 @@ fn read_keyed_permits<'a>(
     Ok(((key, permits), rest))
 }
 
-/// So many keys with their permits.
+/// `count` keys with their permits.
 fn read_keys_of_permits<'a>(
     reader: ByteReader<'a>,
     alloc: Global,
@@ -152,7 +152,7 @@ fn read_keys_of_permits<'a>(
     Ok((store, rest))
 }
 
-/// The permits, by key.
+/// The permits by key, with the number of keys.
 #[tactic(auto, unfolding(crate::specs::Reading::votes_by_key_at, dac_bytes::specs::Reading::counted_at))]
 fn read_permits_by_key<'a>(
     reader: ByteReader<'a>,
@@ -170,7 +170,6 @@ fn read_permits_by_key<'a>(
     Ok(read)
 }
 
-/// The permits that stand, beside the dots that are known.
 #[tactic(auto, unfolding(crate::specs::Reading::all_votes_at))]
 fn read_all_permits<'a>(
     reader: ByteReader<'a>,
@@ -188,15 +187,17 @@ fn read_all_permits<'a>(
     Ok((Permissions::new(causal), rest))
 }
 
-/// The permits that stand, beside the dots that are known: how many keys have permits, and for each in ascending
-/// order an entry. An entry is the key, how many permits it has, at least one, and these in the order of their dots.
-/// Each permit is a dot and 0 or 1.
+/// The standing permits, paired with the known dots: the number of keys with permits, and for each in ascending order
+/// the key, the number of its permits, at least one, and these in the order of their dots. Each permit is a dot and 0
+/// or 1.
 ///
-/// Each field is checked as it is read, so the fault is the first from left to right. The fields of a key are checked
-/// as [`read_key`](crate::read_key) does. A number of permits that is 0 is `BadNumber` at its first byte. A dot's
-/// node is `BadName` where the configuration hasn't it, and its incarnation and counter are `BadNumber` where they
-/// are out of range. Then the dot is `BadOrder` at its first byte where it isn't above the one before it, and
-/// `NotKnown` there where it isn't known. A value above 1 is `BadNumber`. `NoMemory` says nothing of the bytes.
+/// # Errors
+///
+/// Fields are checked as they are read, so that the fault is the first from left to right. A key is checked as by
+/// [`read_key`](crate::read_key). A number of permits of 0 is `BadNumber` at its first byte. A dot's node is `BadName`
+/// if the configuration doesn't contain it, and its incarnation and counter are `BadNumber` if they are out of range.
+/// Then the dot is `BadOrder` at its first byte if it isn't greater than the previous one, and `NotKnown` if it isn't
+/// known. A value above 1 is `BadNumber`.
 pub fn read_permissions<'a>(
     reader: ByteReader<'a>,
     alloc: Global,
@@ -207,10 +208,10 @@ pub fn read_permissions<'a>(
     ensures exact { Gives (λ x. (x.0.standing, x.1)) result
         (all_permits_at version config.now known.now reader.entry) }
     ensures known { IfOk result (λ x. x.0.known ≡ known.now) }
-    // What is read is spelled so, and in form.
+    // The returned permits are well-formed, with these bytes as their spelling.
     ensures found { IsFoundAs (λ x. (x.0.standing, x.1)) (permits_bytes version)
         (ArePermitsInForm version config.now known.now) reader.entry result }
-    // What is spelled so and in form is read, unless memory runs out.
+    // Well-formed permits are read from their spelling, unless memory runs out.
     ensures again { IsReadAgain (λ x. (x.0.standing, x.1)) (permits_bytes version)
         (ArePermitsInForm version config.now known.now) reader.entry result }
 {
@@ -218,7 +219,7 @@ pub fn read_permissions<'a>(
     read_all_permits(reader, alloc, version, config, known)
 }
 
-/// An incarnation of a node above the one before it, with its drains.
+/// An incarnation of a node, greater than the previous one, with its drains.
 #[tactic(auto, unfolding(crate::specs::Reading::keyed_votes_at))]
 fn read_keyed_drains<'a>(
     reader: ByteReader<'a>,
@@ -242,7 +243,7 @@ fn read_keyed_drains<'a>(
     Ok(((at, drains), rest))
 }
 
-/// So many incarnations of nodes with their drains.
+/// `count` incarnations with their drains.
 fn read_keys_of_drains<'a>(
     reader: ByteReader<'a>,
     alloc: Global,
@@ -267,7 +268,7 @@ fn read_keys_of_drains<'a>(
     Ok((store, rest))
 }
 
-/// The drains, by incarnation.
+/// The drains by incarnation, with the number of incarnations.
 #[tactic(auto, unfolding(crate::specs::Reading::votes_by_key_at, dac_bytes::specs::Reading::counted_at))]
 fn read_drains_by_key<'a>(
     reader: ByteReader<'a>,
@@ -285,7 +286,7 @@ fn read_drains_by_key<'a>(
     Ok(read)
 }
 
-/// The drains that stand, as version two has them, beside the dots that are known.
+/// The standing drains in version two.
 #[tactic(auto, unfolding(crate::specs::Reading::all_votes_at))]
 fn read_all_drains<'a>(
     reader: ByteReader<'a>,
@@ -303,7 +304,6 @@ fn read_all_drains<'a>(
     Ok((Drains::new(causal), rest))
 }
 
-/// The drains that stand, as a version has them, beside the dots that are known.
 fn read_drains_in<'a>(
     reader: ByteReader<'a>,
     alloc: Global,
@@ -324,14 +324,16 @@ fn read_drains_in<'a>(
     }
 }
 
-/// The drains that stand, beside the dots that are known. [`Version::One`] has none, and no byte of them. In
-/// [`Version::Two`] it is how many incarnations have drains, and for each in ascending order an entry. An entry is the
-/// node and the incarnation, how many drains it has, at least one, and these in the order of their dots. Each drain is
-/// a dot and 0 or 1.
+/// The standing drains, paired with the known dots. [`Version::One`] has no drains and no bytes for them. In
+/// [`Version::Two`] it is the number of incarnations with drains, and for each in ascending order the node and the
+/// incarnation, the number of its drains, at least one, and these in the order of their dots. Each drain is a dot and 0
+/// or 1.
 ///
-/// A node is `BadName` where the configuration hasn't it, and an incarnation `BadNumber` where it is out of range. Then
-/// the two are `BadOrder` at their first byte where they aren't above those before. What follows is checked as
-/// [`read_permissions`] does.
+/// # Errors
+///
+/// A node is `BadName` if the configuration doesn't contain it, and an incarnation is `BadNumber` if it is out of
+/// range. Then both are `BadOrder` at their first byte if they aren't greater than the previous ones. The other fields
+/// are checked as by [`read_permissions`].
 pub fn read_drains<'a>(
     reader: ByteReader<'a>,
     alloc: Global,
@@ -342,10 +344,10 @@ pub fn read_drains<'a>(
     ensures exact { Gives (λ x. (x.0.standing, x.1)) result
         (all_drains_at version config.now known.now reader.entry) }
     ensures known { IfOk result (λ x. x.0.known ≡ known.now) }
-    // What is read is spelled so, and in form.
+    // The returned drains are well-formed, with these bytes as their spelling.
     ensures found { IsFoundAs (λ x. (x.0.standing, x.1)) (drains_bytes version)
         (AreDrainsInForm version config.now known.now) reader.entry result }
-    // What is spelled so and in form is read, unless memory runs out.
+    // Well-formed drains are read from their spelling, unless memory runs out.
     ensures again { IsReadAgain (λ x. (x.0.standing, x.1)) (drains_bytes version)
         (AreDrainsInForm version config.now known.now) reader.entry result }
 {

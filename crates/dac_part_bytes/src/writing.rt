@@ -1,6 +1,6 @@
-//! The writing side: each part after what a writer has.
+//! Writes the parts: each function appends one to a writer.
 ghost use Rattle.std.specs.Prelude.{◌≡◌, ◌++◌, IfOk};
-ghost use Rattle.dac_part_bytes.specs.Spelling.{claim_bytes, claims_bytes, down_code, drains_bytes, from_code, how_code, key_bytes, keyed_dots_bytes, keyed_votes_bytes, life_bytes, lives_bytes, manner_bytes, permits_bytes, said_code, starts_bytes, vote_bytes, votes_bytes, votes_of_key_bytes};
+ghost use Rattle.dac_part_bytes.specs.Spelling.{claim_bytes, claims_bytes, down_code, drains_bytes, from_code, how_code, key_bytes, keyed_dots_bytes, keyed_votes_bytes, life_bytes, lives_bytes, manner_bytes, permits_bytes, code_of_flag, starts_bytes, vote_bytes, votes_bytes, votes_of_key_bytes};
 ghost use Rattle.dac_bytes.specs.declared.version.Version.TheVariants.{One, Two};
 ghost use Rattle.dac_bytes.specs.Spelling.{origin_bytes};
 ghost use Rattle.dac_origins.specs.Dots.{origin_cmp};
@@ -13,8 +13,7 @@ use dac_lattice::Flag;
 use dac_origins::{Dot, Origin};
 use dac_wishes::{Drains, Key, Permissions, Wishes};
 
-/// A key: its application in two bytes, its node in one, and the incarnation as the version has it. [`NoMemory`] is the
-/// only error; the writer is gone then.
+/// A key: its application in two bytes, its node in one, and its incarnation in four or eight.
 pub fn write_key(writer: ByteWriter, version: Version, key: Key) -> Result<ByteWriter, NoMemory>
     ensures { IfOk result (λ written. written ≡ writer ++ key_bytes version key) }
 {
@@ -24,7 +23,6 @@ pub fn write_key(writer: ByteWriter, version: Version, key: Key) -> Result<ByteW
     }
 }
 
-/// A key as version one has it.
 #[tactic(auto, unfolding(crate::specs::Spelling::key_bytes, dac_bytes::specs::Spelling::origin_bytes, dac_bytes::specs::Spelling::incarnation_bytes, dac_bytes::specs::Numbers::u8_bytes, dac_bytes::specs::Numbers::u16_bytes))]
 fn short_key(key: Key) -> [u8; 7]
     ensures { result ≡ key_bytes One key }
@@ -35,7 +33,6 @@ fn short_key(key: Key) -> [u8; 7]
     [app[0], app[1], node[0], inc[4], inc[5], inc[6], inc[7]]
 }
 
-/// A key as version two has it.
 #[tactic(auto, unfolding(crate::specs::Spelling::key_bytes, dac_bytes::specs::Spelling::origin_bytes, dac_bytes::specs::Spelling::incarnation_bytes, dac_bytes::specs::Numbers::u8_bytes, dac_bytes::specs::Numbers::u16_bytes))]
 fn long_key(key: Key) -> [u8; 11]
     ensures { result ≡ key_bytes Two key }
@@ -48,9 +45,9 @@ fn long_key(key: Key) -> [u8; 11]
     ]
 }
 
-/// What a vote says, 0 for false and 1 for true, where `truth` is the flag that stands for true.
-fn said_code(truth: Flag, flag: Flag) -> u8
-    ensures { result ≡ said_code truth flag }
+/// The code of a vote, 0 for false and 1 for true, given the flag `truth` that represents true.
+fn code_of_flag(truth: Flag, flag: Flag) -> u8
+    ensures { result ≡ code_of_flag truth flag }
 {
     match truth {
         Flag::Up => match flag {
@@ -76,11 +73,11 @@ fn write_vote(
 {
     let written = writer
         .write_dot(version, dot)?
-        .write_u8(said_code(truth, flag))?;
+        .write_u8(code_of_flag(truth, flag))?;
     Ok(written)
 }
 
-/// How many votes a key has, and these.
+/// The number of a key's votes, and these.
 #[tactic(auto, unfolding(crate::specs::Spelling::votes_of_key_bytes))]
 fn write_votes(
     writer: ByteWriter,
@@ -98,7 +95,6 @@ fn write_votes(
     Ok(written)
 }
 
-/// A key and its permits.
 #[tactic(auto, unfolding(crate::specs::Spelling::keyed_votes_bytes))]
 fn write_permits(
     writer: ByteWriter,
@@ -114,9 +110,8 @@ fn write_permits(
     Ok(written)
 }
 
-/// The permits that stand: how many keys have permits, and for each in ascending order an entry. An entry is the key,
-/// how many permits it has, and these, each a dot and 1 for true or 0 for false. [`NoMemory`] is the only error; the
-/// writer is gone then.
+/// The standing permits: the number of keys with permits, and for each in ascending order the key, the number of its
+/// permits, and these, each a dot and 1 for true or 0 for false.
 #[tactic(auto, unfolding(crate::specs::Spelling::votes_bytes))]
 pub fn write_permissions(
     writer: ByteWriter,
@@ -149,7 +144,7 @@ fn write_drains_of(
     Ok(written)
 }
 
-/// The drains that stand, as version two has them.
+/// The standing drains in version two.
 #[tactic(auto, unfolding(crate::specs::Spelling::votes_bytes))]
 fn write_all_drains(writer: ByteWriter, drains: &Drains) -> Result<ByteWriter, NoMemory>
     ensures { IfOk result (λ written. written
@@ -163,9 +158,9 @@ fn write_all_drains(writer: ByteWriter, drains: &Drains) -> Result<ByteWriter, N
     Ok(written)
 }
 
-/// The drains that stand: how many incarnations have drains, and for each in ascending order an entry. An entry is the
-/// node and the incarnation, how many drains it has, and these, each a dot and 1 for true or 0 for false. In
-/// [`Version::One`] there is no byte. [`NoMemory`] is the only error; the writer is gone then.
+/// The standing drains: the number of incarnations with drains, and for each in ascending order the node and the
+/// incarnation, the number of its drains, and these, each a dot and 1 for true or 0 for false. [`Version::One`] has no
+/// bytes for them.
 pub fn write_drains(
     writer: ByteWriter,
     version: Version,
@@ -202,8 +197,8 @@ fn write_dots(
     Ok(written)
 }
 
-/// The start wishes that stand: how many keys have wishes, and for each in ascending order an entry. An entry is the
-/// key, how many wishes it has, and their dots. [`NoMemory`] is the only error; the writer is gone then.
+/// The standing start wishes: the number of keys with wishes, and for each in ascending order the key, the number of
+/// its wishes, and their dots.
 #[tactic(auto, unfolding(crate::specs::Spelling::starts_bytes))]
 pub fn write_wishes(
     writer: ByteWriter,
@@ -246,8 +241,8 @@ fn write_life(
     Ok(written)
 }
 
-/// The lives: how many nodes have one, and for each in ascending order its life. That is the node, its incarnation,
-/// and 0 for up or 1 for down. [`NoMemory`] is the only error; the writer is gone then.
+/// The lives: the number of nodes with a life, and for each in ascending order the node, its incarnation, and 0 for up
+/// or 1 for down.
 #[tactic(auto, unfolding(crate::specs::Spelling::lives_bytes))]
 pub fn write_lives(
     writer: ByteWriter,
@@ -283,8 +278,8 @@ fn from_code(from: Option<NodeId>) -> usize
     }
 }
 
-/// How an application came to its node: 1 for normal, 2 for a failover or 3 for a takeover. Then comes 0 or one more
-/// than the node that it was taken from, by its lowest bits. [`NoMemory`] is the only error; the writer is gone then.
+/// How an application came to its node: 1 for normal, 2 for a failover or 3 for a takeover; then 0, or one more than
+/// the node that it was taken from, truncated to its low bits.
 #[tactic(auto, unfolding(crate::specs::Spelling::manner_bytes))]
 pub fn write_manner(
     writer: ByteWriter,
@@ -316,9 +311,8 @@ fn write_claim(
     Ok(written)
 }
 
-/// The claims: how many applications are claimed, and for each in ascending order its claim. That is the application,
-/// the term of its claim, who claims it, and how it came there. [`NoMemory`] is the only error; the writer is gone
-/// then.
+/// The claims: the number of claimed applications, and for each in ascending order the application, the term of its
+/// claim, the claiming incarnation, and how the application came there.
 #[tactic(auto, unfolding(crate::specs::Spelling::claims_bytes))]
 pub fn write_claims(
     writer: ByteWriter,

@@ -1,4 +1,4 @@
--- What is read once a change is done, and which changes change nothing.
+-- Reads with a pending change, and changes without effect.
 use Rattle.std.proofs.Common.{◌≡◌, ◌≤◌, ◌&&◌, ◌||◌, ℕ, true, false, not, cond, nat_eq, Option, None, Some, refl, inl, inr, arith, ap, sym, ◌∙◌, eq-eqb}
 use Rattle.std.proofs.lemmas.Bool.{eqb-true}
 use Rattle.std.specs.Ordering.{eq_by_cmp}
@@ -56,7 +56,7 @@ origin_test a q = elim (same_origin_or_not q a) [
   ] refl
 ]
 
--- ---- what is read once a change is done
+-- ---- reads with a pending change
 pub number_is : (acked : Numbers) (ack : Option (Origin × ℕ)) (q : Origin)
     → number_then ack q (map.get acked q) ≡ map.get (ack_done acked ack) q
 number_is acked None q = refl
@@ -91,8 +91,8 @@ is_owed_is owed None q = refl
 is_owed_is owed (Some (Owed to)) q = ap (λ b. b || set.contains owed q) (node_test to q) ∙ sym (set.contains-insert nodes_total owed to q)
 is_owed_is owed (Some (Given to)) q = ap (λ b. not b && set.contains owed q) (node_test to q) ∙ sym (set.contains-remove nodes_total owed to q)
 
--- ---- changes that change nothing
--- a number that is no greater than the one before
+-- ---- changes without effect
+-- a number no greater than the one before
 pub nothing_raised : (acked : Numbers) (origin : Origin) (before n : ℕ) → map.get acked origin ≡ Some before → n ≤ before
     → acked ≡ raised acked origin n
 nothing_raised acked origin before n is few = map.same_map origins_total exact_origins acked (raised acked origin n) (λ q. there q ∙ sym (map.get-insert origins_total acked origin (greater (map.get acked origin) n) q))
@@ -106,7 +106,7 @@ nothing_raised acked origin before n is few = map.same_map origins_total exact_o
       | inr apart ↦ rw apart.1
     ]
 
--- a node that is owed an answer already
+-- a reply that is due already
 pub owed_already : (owed : set.FinSet node_cmp) (node : NodeId) → set.contains owed node ≡ true → owed ≡ set.insert owed node
 owed_already owed node is = set.same_set nodes_total exact_nodes owed (set.insert owed node) (λ q. there q ∙ sym (set.contains-insert nodes_total owed node q))
   where
@@ -116,7 +116,7 @@ owed_already owed node is = set.same_set nodes_total exact_nodes owed (set.inser
       | inr apart ↦ rw apart.1
     ]
 
--- a node that is owed none
+-- a reply that isn't due
 pub never_owed : (owed : set.FinSet node_cmp) (node : NodeId) → set.contains owed node ≡ false → owed ≡ set.remove owed node
 never_owed owed node is = set.same_set nodes_total exact_nodes owed (set.remove owed node) (λ q. there q ∙ sym (set.contains-remove nodes_total owed node q))
   where
@@ -126,7 +126,7 @@ never_owed owed node is = set.same_set nodes_total exact_nodes owed (set.remove 
       | inr apart ↦ rw apart.1
     ]
 
--- ---- lists that are kept or not
+-- ---- lists that exist or not
 pub of_lists : {Z A : Type 0} (f : PeersValue → A) (kept : Option (Arc PeersValue Z)) (lists : Arc PeersValue Z) → kept ≡ Some lists
     → f (arc_value lists) ≡ f (lists_kept kept)
 of_lists f kept lists is = ap (λ k. f (lists_kept k)) (sym is)

@@ -1,4 +1,4 @@
--- What is noted at places stays what was acknowledged, once a number is raised.
+-- The cache stays right after a number is raised.
 use Rattle.std.proofs.Common.{◌≡◌, ◌≢◌, ℕ, List, cond, Option, Some, inl, inr, refl, ap, sym, ◌∙◌}
 use Rattle.std.specs.FinMap as map
 use Rattle.dac_base.specs.declared.NodeId.{NodeId}
@@ -10,11 +10,11 @@ use Rattle.dac_peers.specs.Newest.{noted, AreLatest, IsNoted}
 use Rattle.dac_peers.specs.laws.Acked.{same_or_not as same_origin_or_not}
 use Rattle.dac_peers.specs.laws.Onward.{same_or_not}
 
--- what an incarnation of a node acknowledged
+-- the number that an incarnation of a node acknowledged
 abbrev pub of_node : Numbers → NodeId → ℕ → Option ℕ
 of_node acked node inc = map.get acked (record { node = node; inc = inc })
 
--- what an origin acknowledged, once its number is raised
+-- the number of an origin after it is raised
 pub raised_at : (acked : Numbers) (origin : Origin) (n : ℕ) → map.get (raised acked origin n) origin ≡ Some (greater (map.get acked origin) n)
 raised_at acked origin n = elim (same_origin_or_not origin origin) [
   | inl same ↦ map.get-insert origins_total acked origin (greater (map.get acked origin) n) origin
@@ -22,7 +22,7 @@ raised_at acked origin n = elim (same_origin_or_not origin origin) [
   | inr other ↦ absurd (other.0 refl)
 ]
 
--- another node's numbers stay
+-- another node's numbers are unchanged
 other_stays : (acked : Numbers) (origin : Origin) (n : ℕ) (node : NodeId) (inc : ℕ) → node ≢ origin.node
     → of_node (raised acked origin n) node inc ≡ of_node acked node inc
 other_stays acked origin n node inc apart = elim (same_origin_or_not (record { node = node; inc = inc }) origin) [

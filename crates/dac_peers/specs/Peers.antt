@@ -1,4 +1,4 @@
--- What a controller keeps of its peers, and from where it ships to them. (After the anti-entropy algorithm for delta
+-- The peer table of a controller, and where an interval for a peer begins. (After the anti-entropy algorithm for delta
 -- intervals of Almeida, Shoker and Baquero. That acknowledgements belong to incarnations is this project's own.)
 use Rattle.std.specs.Prelude.{ℕ, zero, suc, Bool, false, cond, nat_eq, nat_le, nat_lt, ◌&&◌, min, max, List, [], ◌∷◌, ◌++◌, not, map as list_map, fold, Option, Some, None, unwrap_or, refl}
 use Rattle.std.specs.Option.{option_map, option_and_then}
@@ -17,8 +17,8 @@ use Rattle.dac_messages.specs.declared.message.Body.{Body}
 use Rattle.dac_messages.specs.declared.message.Body.TheVariants.{Nothing}
 use Rattle.dac_messages.specs.declared.message.Message.{Message}
 
--- Of each incarnation of another node, how many of the own deltas it acknowledged. Of each node, the position in its
--- deltas up to which something was got from it last. Beside these, the nodes that are owed an answer.
+-- `acked`: how many of this node's deltas each incarnation of another node acknowledged. `got`: for each node, the
+-- latest position in its deltas that was received. `owed`: the nodes to which a reply is due.
 pub record PeersValue : Type 0 where
   pub acked : Numbers
   pub got : map.FinMap node_cmp Position
@@ -35,50 +35,49 @@ coded_peers =
     (λ p. record { acked = p.0; got = p.1.0; owed = p.1.1 })
     (λ _. refl)
 
--- nothing is kept
+-- the empty table
 abbrev pub no_peers : PeersValue
 no_peers = record { acked = map.empty; got = map.empty; owed = set.empty }
 
--- ---- what was acknowledged
--- how many deltas an incarnation of a node acknowledged, if it acknowledged any
+-- ---- acknowledged numbers
+-- how many deltas this incarnation of a node acknowledged, if any
 abbrev pub acked_by : PeersValue → NodeId → Life → Option Position
 acked_by p node life = option_map (λ (n : ℕ). record { inc = life.inc; number = n })
     (map.get p.acked (record { node = node; inc = life.inc }))
 
--- how many deltas a node acknowledged, as the incarnation that has its greatest life
+-- how many deltas a node acknowledged as its present incarnation, that of its greatest life
 abbrev pub acked_at : PeersValue → StateValue → NodeId → Option Position
 acked_at p s node = option_and_then (acked_by p node) (map.get s.lives node)
 
--- ---- from where is shipped
--- the position, unless deltas from there on are no longer kept
+-- ---- where an interval begins
+-- the position, unless the log has dropped deltas after it
 abbrev pub kept_from : ℕ → Option Position → Option Position
 kept_from base None = None
 kept_from base (Some p) = cond (nat_le base p.number) (Some p) None
 
--- from where an interval for a node begins, and the incarnation that it is for; none where the whole state
--- has to be shipped
+-- where an interval for a node begins, and for which incarnation; none if the whole state must be shipped
 abbrev pub begins : PeersValue → StateValue → ℕ → NodeId → Option Position
 begins p s base to = kept_from base (acked_at p s to)
 
--- what was got from a node last, as it is acknowledged
+-- the acknowledgement for a node: the latest position got from it
 abbrev pub ack_for : PeersValue → NodeId → Option (Origin × ℕ)
 ack_for p node = option_map (λ (g : Position). (record { node = node; inc = g.inc }, g.number)) (map.get p.got node)
 
--- the node has acknowledged all deltas, of which there are so many
+-- the node has acknowledged all `count` deltas
 abbrev pub has_all : ℕ → Option Position → Bool
 has_all count None = false
 has_all count (Some p) = nat_le count p.number
 
--- nothing is to be shipped to the node: it has acknowledged all deltas, and is owed no answer
+-- nothing needs to be shipped to the node: it has acknowledged all deltas, and no reply to it is due
 abbrev pub is_up_to_date : PeersValue → StateValue → ℕ → ℕ → NodeId → Bool
 is_up_to_date p s base count to = has_all count (begins p s base to) && not (set.contains p.owed to)
 
--- something is shipped to a node: it is owed no answer any more
+-- after a ship to a node, no reply to it is due
 abbrev pub shipped_to : PeersValue → NodeId → PeersValue
 shipped_to p to = record { acked = p.acked; got = p.got; owed = set.remove p.owed to }
 
--- ---- what is heard
--- the later of two positions: that of the greater incarnation, and of one incarnation the greater number
+-- ---- incoming messages
+-- the later of two positions: the one of the greater incarnation, and within an incarnation the greater number
 abbrev pub later : Position → Position → Position
 later old new = cond (nat_lt old.inc new.inc) new
     (cond (nat_eq old.inc new.inc) (record { inc = old.inc; number = max old.number new.number }) old)
@@ -87,17 +86,17 @@ abbrev pub got_after : Option Position → Position → Position
 got_after None new = new
 got_after (Some old) new = later old new
 
--- an acknowledgement counts where it is of this origin and of no more deltas than there are
+-- an acknowledgement counts if it names this node's origin and no more deltas than there are
 abbrev pub counts : Origin → ℕ → Origin × ℕ → Bool
 counts own count ack = nat_eq ack.0.node.0 own.node.0 && (nat_eq ack.0.inc own.inc && nat_le ack.1 count)
 
--- what is acknowledged after this acknowledgement from an origin comes, where there are so many deltas
+-- the acknowledged numbers after an incoming acknowledgement
 abbrev pub acked_after : Origin → ℕ → Numbers → Origin → Option (Origin × ℕ) → Numbers
 acked_after own count acked from None = acked
 acked_after own count acked from (Some ack) = cond (counts own count ack) (raised acked from ack.1) acked
 
--- what was got, and who is owed an answer, after a body of so many deltas of its sender comes. One that brings
--- nothing says nothing
+-- the positions got and the replies due after an incoming body, whose sender has `up_to` deltas; a body without a state
+-- changes neither
 abbrev pub got_by : PeersValue → Origin → ℕ → Body → PeersValue
 got_by p from up_to Nothing = p
 got_by p from up_to _ = record {
@@ -106,27 +105,27 @@ got_by p from up_to _ = record {
   owed = set.insert p.owed from.node;
 }
 
--- what is kept after a message is heard by this origin, which had so many deltas before
+-- the table after an incoming message, at an origin that has `count` deltas
 abbrev pub heard_from : Origin → ℕ → PeersValue → Message → PeersValue
 heard_from own count p m =
     let after = got_by p m.from m.up_to m.body in
     record { acked = acked_after own count p.acked m.from m.ack; got = after.got; owed = after.owed }
 
--- ---- what all have
--- the nodes below a number but one, in order
+-- ---- acknowledgements of all nodes
+-- the nodes below a number, without this one, in order
 abbrev pub others : ℕ → NodeId → List NodeId
 others zero own = []
 others (suc n) own = others n own ++ cond (nat_eq n own.0) [] (record { 0 = n } ∷ [])
 
--- the lesser of a number and the least before it, if there was one
+-- the lesser of a number and the least before it, if there is one
 abbrev pub lesser : Option ℕ → ℕ → Option ℕ
 lesser None n = Some n
 lesser (Some least) n = Some (min least n)
 
--- how many deltas a node acknowledged, 0 where it acknowledged none
+-- how many deltas a node acknowledged, 0 if none
 abbrev pub number_acked : PeersValue → StateValue → NodeId → ℕ
 number_acked p s node = unwrap_or (option_map (λ (g : Position). g.number) (acked_at p s node)) 0
 
--- how many deltas each of the other nodes acknowledged, 0 where there are no others
+-- how many deltas every other node acknowledged, 0 if there are no others
 abbrev pub acked_by_all : PeersValue → StateValue → ℕ → NodeId → ℕ
 acked_by_all p s nodes own = unwrap_or (fold lesser None (list_map (number_acked p s) (others nodes own))) 0

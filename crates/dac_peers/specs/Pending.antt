@@ -1,4 +1,4 @@
--- Lists that may be shared, and one change that they don't have yet.
+-- Lists that may be shared, with one pending change.
 use Rattle.std.specs.Prelude.{ℕ, Bool, cond, not, nat_eq, ◌&&◌, ◌||◌, Option, None, Some}
 use Rattle.std.specs.FinSet as set
 use Rattle.std.specs.FinMap as map
@@ -14,7 +14,7 @@ use Rattle.dac_peers.specs.declared.pending.Answer.TheVariants.{Owed, Given}
 use Rattle.dac_peers.specs.declared.pending.Pending.{Pending}
 use Rattle.dac_peers.specs.Peers.{PeersValue, no_peers, got_after}
 
--- what the lists have: nothing where there are none
+-- the value of the lists, or the empty table if there are none
 abbrev pub lists_kept : {Z : Type 0} → Option (Arc PeersValue Z) → PeersValue
 lists_kept None = no_peers
 lists_kept (Some lists) = arc_value lists
@@ -23,17 +23,17 @@ lists_kept (Some lists) = arc_value lists
 abbrev pub none_pending : Pending
 none_pending = record { ack = None; position = None; answer = None }
 
--- what was acknowledged, once it is done
+-- the acknowledged numbers with the change
 abbrev pub ack_done : Numbers → Option (Origin × ℕ) → Numbers
 ack_done acked None = acked
 ack_done acked (Some ack) = raised acked ack.0 ack.1
 
--- what was got, once it is done
+-- the positions got with the change
 abbrev pub position_done : map.FinMap node_cmp Position → Option (NodeId × Position) → map.FinMap node_cmp Position
 position_done got None = got
 position_done got (Some p) = map.insert got p.0 (got_after (map.get got p.0) p.1)
 
--- who is owed an answer, once it is done
+-- the replies due with the change
 abbrev pub answer_done : set.FinSet node_cmp → Option Answer → set.FinSet node_cmp
 answer_done owed None = owed
 answer_done owed (Some (Owed node)) = set.insert owed node
@@ -46,24 +46,24 @@ done p change = record {
   owed = answer_done p.owed change.answer;
 }
 
--- ---- what is read once it is done
+-- ---- reads with the pending change
 abbrev pub same_node : NodeId → NodeId → Bool
 same_node a b = nat_eq a.0 b.0
 
 abbrev pub same_origin : Origin → Origin → Bool
 same_origin a b = same_node a.node b.node && nat_eq a.inc b.inc
 
--- the number of an origin, where the lists have this one
+-- the number of an origin, given the listed one
 abbrev pub number_then : Option (Origin × ℕ) → Origin → Option ℕ → Option ℕ
 number_then None origin listed = listed
 number_then (Some ack) origin listed = cond (same_origin ack.0 origin) (Some (greater listed ack.1)) listed
 
--- the position of a node, where the lists have this one
+-- the position of a node, given the listed one
 abbrev pub position_then : Option (NodeId × Position) → NodeId → Option Position → Option Position
 position_then None node listed = listed
 position_then (Some p) node listed = cond (same_node p.0 node) (Some (got_after listed p.1)) listed
 
--- whether a node is owed an answer, where the lists say this
+-- whether a reply to a node is due, given whether the lists have it
 abbrev pub is_owed_then : Option Answer → NodeId → Bool → Bool
 is_owed_then None node listed = listed
 is_owed_then (Some (Owed to)) node listed = same_node to node || listed

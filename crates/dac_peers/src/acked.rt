@@ -1,4 +1,4 @@
-//! What was acknowledged, with a shorter way to what is asked most.
+//! Acknowledged numbers, with a cache of the latest for each node.
 ghost use Rattle.std.specs.Prelude.{◌≡◌, ◌↔◌, ◌<◌, ℕ, length, IsTrue, IfOk, OnOk, OnErr};
 ghost use Rattle.std.specs.FinMap as map;
 ghost use Rattle.dac_deltas.specs.Numbers.{greater, raised};
@@ -13,8 +13,8 @@ use std::marker::Model;
 
 /// The greatest number that each origin acknowledged. Contracts see it as a finite map from origins to numbers.
 ///
-/// Mostly the same incarnation of a node is asked for. So what a node acknowledged last is noted at the node's place
-/// too, where it is found without a search.
+/// Most reads are of a node's present incarnation. So the position that a node acknowledged last is also cached at the
+/// node's place, where it is read without a search.
 #[derive(Drop)]
 pub(crate) struct Acked {
     numbers: Acks,
@@ -37,7 +37,7 @@ impl Model for Acked {
     ghost invariant = { λ a. AreLatest a.numbers a.latest.items };
 }
 
-/// The greater of a number and the one before it, if there was one.
+/// The greater of a number and the one before it, if there is one.
 fn greater(before: Option<u64>, number: u64) -> u64
     ensures { result ≡ greater before number }
 {
@@ -47,8 +47,8 @@ fn greater(before: Option<u64>, number: u64) -> u64
     }
 }
 
-/// Makes room up to a node's place, and notes nothing there. Where memory is refused the answer is false, and all is as
-/// before.
+/// Extends the cache up to a node's place, with empty places. Returns false, with the cache unchanged, if an allocation
+/// fails.
 fn reach(latest: &mut Vec<Option<Position>>, node: NodeId) -> bool
     ensures same { (q : ℕ) → noted latest.new.items q ≡ noted latest.old.items q }
     ensures there { IsTrue result ↔ (node.0 < length latest.new.items) }
@@ -57,7 +57,7 @@ fn reach(latest: &mut Vec<Option<Position>>, node: NodeId) -> bool
     place < latest.len() || latest.resize(place + 1, None).is_ok()
 }
 
-/// Notes a position at a node's place. Where memory is refused for more places, nothing is noted there.
+/// Caches a position at a node's place, or nothing if the place is missing and an allocation fails.
 fn note(latest: &mut Vec<Option<Position>>, node: NodeId, position: Option<Position>)
     ensures { IsNoted latest.old.items node.0 position latest.new.items }
 {
@@ -66,7 +66,7 @@ fn note(latest: &mut Vec<Option<Position>>, node: NodeId, position: Option<Posit
     }
 }
 
-/// What is noted at a node's place.
+/// The cached position of a node.
 fn noted_at(latest: &[Option<Position>], node: NodeId) -> Option<Position>
     ensures { result ≡ noted latest.now node.0 }
 {
@@ -79,7 +79,7 @@ fn noted_at(latest: &[Option<Position>], node: NodeId) -> Option<Position>
 }
 
 impl Acked {
-    /// Nothing is acknowledged. It takes no memory.
+    /// No acknowledgements.
     pub(crate) fn new(alloc: Global) -> Self
         ensures { result ≡ map.empty }
     {
@@ -89,7 +89,7 @@ impl Acked {
         }
     }
 
-    /// The greatest number that an origin acknowledged, if it acknowledged any.
+    /// The greatest number that an origin acknowledged, if any.
     pub(crate) fn get(&self, origin: Origin) -> Option<u64>
         ensures { result ≡ map.get self.now origin }
     {
@@ -99,8 +99,8 @@ impl Acked {
         }
     }
 
-    /// An origin acknowledges a number. A lesser one than before changes nothing. [`NoMemory`] is the only error, and
-    /// leaves all as it was.
+    /// Records that an origin acknowledged a number, unless it acknowledged a greater one. `NoMemory` leaves the table
+    /// unchanged.
     pub(crate) fn raise(&mut self, origin: Origin, number: u64) -> Result<(), NoMemory>
         ensures ok { OnOk result (self.new ≡ raised self.old origin number) }
         ensures err { OnErr result (self.new ≡ self.old) }
@@ -115,7 +115,7 @@ impl Acked {
         Ok(())
     }
 
-    /// An equal table, with memory of its own. [`NoMemory`] is the only error.
+    /// An equal table that shares nothing with this one.
     pub(crate) fn copy(&self) -> Result<Self, NoMemory>
         ensures { IfOk result (λ copied. copied ≡ self.now) }
     {

@@ -1,18 +1,16 @@
-//! The laws of what is kept of peers, as the contract of a function that does nothing.
-//!
-//! A proof that needs a law calls it. It takes nothing and answers nothing.
+//! The laws of the peer table, as the contract of a function that does nothing. A proof calls it to use them.
 ghost use Rattle.dac_peers.specs.InWords.{NothingIsKept, BeginsWhereAcked, AcksAreGot, UpToDateHaveAll, AllHaveTheLeast, GotGoesOnward, AckedIsGreatest, HeardAreOwed, ShippedAreNotOwed, AcksAreWithin};
 
-/// What is kept of peers, in words.
+/// The peer table in words.
 ///
-/// At first nothing is kept. An interval for a node begins after what its present incarnation acknowledged, where
-/// all deltas from there on are kept. What a node is told to have been got is what was got of it last. Nothing is
-/// shipped to a node that has acknowledged all and is owed no answer.
+/// The new table is empty. An interval for a node begins after the deltas that its present incarnation acknowledged, if
+/// the log has all later ones. The acknowledgement for a node is the latest position got from it. Nothing needs to be
+/// shipped to a node that has acknowledged everything, unless a reply to it is due.
 ///
-/// What all have acknowledged is the least of what each other node did as its present incarnation. What was got
-/// of a node never goes back. Of each incarnation the greatest number is kept that it acknowledged. A node is owed
-/// an answer from when something came of it until something is shipped to it. No more deltas are acknowledged than
-/// there are.
+/// The number that all nodes have acknowledged is the least of the other nodes' numbers, each as its present
+/// incarnation. Positions got never go back. The greatest number that each incarnation acknowledged is recorded. A
+/// reply to a node is due after a message with a state from it, until something is shipped to it. No more deltas are
+/// acknowledged than there are.
 pub fn peers_in_words()
     ensures new { NothingIsKept }
     ensures begins { BeginsWhereAcked }

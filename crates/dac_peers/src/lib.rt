@@ -1,9 +1,12 @@
-//! What a controller keeps of its peers, and from where it ships to them.
+//! The peer table of a controller, which determines its messages to each peer.
 //!
-//! A controller numbers its own deltas. Each message tells how many its sender had, and acknowledges how many
-//! of the receiver's the sender got. [`Peers`] keeps what came of both, and by incarnations: a node that lost its
-//! memory has acknowledged nothing. From there it says from which delta on a node is to be shipped an interval,
-//! and whether anything at all.
+//! A controller numbers its own deltas. Each message carries its sender's delta count and a cumulative acknowledgement
+//! of the receiver's deltas. [`Peers`] records both by incarnation, because a node that lost its memory has
+//! acknowledged nothing. From these it computes where an interval for a node begins, and whether anything must be
+//! shipped to it.
+//!
+//! Functions that don't return `Result<_, NoMemory>` allocate nothing, except [`Peers::settle`], which tolerates a
+//! failed allocation. `NoMemory` is the only error, and leaves a public function's arguments unchanged.
 #![tactic(auto)]
 
 pub use peers::Peers;

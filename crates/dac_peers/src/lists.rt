@@ -1,4 +1,4 @@
-//! What is kept of peers, in lists.
+//! The lists of a peer table.
 ghost use Rattle.std.specs.Prelude.{◌≡◌, None, IfOk, OnOk};
 ghost use Rattle.std.specs.FinSet as set;
 ghost use Rattle.std.specs.FinMap as map;
@@ -14,7 +14,7 @@ use dac_origins::Origin;
 use std::alloc::Global;
 use std::marker::Model;
 
-/// What is kept of peers, in three lists.
+/// The lists of a peer table: acknowledged numbers, positions got, and nodes to which a reply is due.
 #[derive(Drop)]
 pub(crate) struct Lists {
     acks: Acked,
@@ -32,7 +32,7 @@ impl Model for Lists {
     ghost view = { λ a. record { acked = a.acks; got = a.got; owed = a.owed } };
 }
 
-/// Raises the number that is to be raised. Where memory is refused it is still to be raised.
+/// Applies a pending acknowledgement. It stays pending if an allocation fails.
 fn raise_ack(acks: &mut Acked, ack: &mut Option<(Origin, u64)>) -> Result<(), NoMemory>
     ensures same { ack_done acks.new ack.new ≡ ack_done acks.old ack.old }
     ensures done { OnOk result (ack.new ≡ None) }
@@ -44,7 +44,7 @@ fn raise_ack(acks: &mut Acked, ack: &mut Option<(Origin, u64)>) -> Result<(), No
     Ok(())
 }
 
-/// Raises the position that is to be raised. Where memory is refused it is still to be raised.
+/// Applies a pending position. It stays pending if an allocation fails.
 fn raise_position(
     got: &mut Positions,
     position: &mut Option<(NodeId, Position)>,
@@ -59,7 +59,7 @@ fn raise_position(
     Ok(())
 }
 
-/// Notes who is owed an answer, or isn't any more. Where memory is refused it is still to be noted.
+/// Applies a pending reply. It stays pending if an allocation fails.
 fn note_answer(owed: &mut NodeSet, answer: &mut Option<Answer>) -> Result<(), NoMemory>
     ensures same { answer_done owed.new answer.new ≡ answer_done owed.old answer.old }
     ensures done { OnOk result (answer.new ≡ None) }
@@ -74,7 +74,7 @@ fn note_answer(owed: &mut NodeSet, answer: &mut Option<Answer>) -> Result<(), No
 }
 
 impl Lists {
-    /// Nothing is kept. It takes no memory.
+    /// The empty lists.
     pub(crate) fn new(alloc: Global) -> Self
         ensures { result ≡ no_peers }
     {
@@ -85,7 +85,7 @@ impl Lists {
         }
     }
 
-    /// Equal lists, with memory of their own. [`NoMemory`] is the only error.
+    /// Equal lists that share nothing with these.
     fn copy(&self) -> Result<Self, NoMemory>
         ensures { IfOk result (λ copied. copied ≡ self.now) }
     {
@@ -95,28 +95,29 @@ impl Lists {
         Ok(Lists { acks, got, owed })
     }
 
-    /// The number that an origin acknowledged, if it acknowledged any.
+    /// The number that an origin acknowledged, if any.
     pub(crate) fn number(&self, origin: Origin) -> Option<u64>
         ensures { result ≡ map.get self.now.acked origin }
     {
         self.acks.get(origin)
     }
 
-    /// The position of a node, if it has one.
+    /// The position got from a node, if any.
     pub(crate) fn position(&self, node: NodeId) -> Option<Position>
         ensures { result ≡ map.get self.now.got node }
     {
         self.got.get(node)
     }
 
-    /// Whether a node is owed an answer.
+    /// Whether a reply to a node is due.
     pub(crate) fn is_owed(&self, node: NodeId) -> bool
         ensures { result ≡ set.contains self.now.owed node }
     {
         self.owed.contains(node)
     }
 
-    /// Does a change. What isn't done where memory is refused stays pending.
+    /// Applies a pending change. A part whose allocation fails stays pending, so that lists and change together mean
+    /// the same.
     pub(crate) fn settle(&mut self, pending: &mut Pending) -> Result<(), NoMemory>
         ensures same { done self.new pending.new ≡ done self.old pending.old }
         ensures done { OnOk result (done self.new pending.new ≡ self.new) }
@@ -126,7 +127,7 @@ impl Lists {
         note_answer(&mut self.owed, &mut pending.answer)
     }
 
-    /// Lists with memory of their own in which a change is done. [`NoMemory`] is the only error.
+    /// Lists with a change applied, which share nothing with these.
     pub(crate) fn with(&self, change: Pending) -> Result<Self, NoMemory>
         ensures { IfOk result (λ lists. lists ≡ done self.now change) }
     {

@@ -7,7 +7,7 @@ use dac_origins::keys::{holds_key, insert_key, remove_key};
 use std::alloc::Global;
 use std::marker::Model;
 
-/// Some nodes, kept as one list in their order. Contracts see them as a finite set.
+/// A set of nodes, stored as one sorted list. Contracts see it as a finite set.
 #[derive(Drop)]
 pub(crate) struct NodeSet {
     nodes: Vec<NodeId>,
@@ -28,7 +28,7 @@ impl Model for NodeSet {
 }
 
 impl NodeSet {
-    /// No nodes. It takes no memory.
+    /// The empty set.
     pub(crate) fn new(alloc: Global) -> Self
         ensures { result ≡ set.empty }
     {
@@ -37,14 +37,14 @@ impl NodeSet {
         }
     }
 
-    /// Whether a node is among them.
+    /// Whether the set has a node.
     pub(crate) fn contains(&self, node: NodeId) -> bool
         ensures { result ≡ set.contains self.now node }
     {
         holds_key(&self.nodes, node)
     }
 
-    /// One node more. [`NoMemory`] is the only error, and leaves all as it was.
+    /// Adds a node. `NoMemory` leaves the set unchanged.
     pub(crate) fn insert(&mut self, node: NodeId) -> Result<(), NoMemory>
         ensures ok { OnOk result (self.new ≡ set.insert self.old node) }
         ensures err { OnErr result (self.new ≡ self.old) }
@@ -53,14 +53,14 @@ impl NodeSet {
         Ok(())
     }
 
-    /// All but one node.
+    /// Removes a node.
     pub(crate) fn remove(&mut self, node: NodeId)
         ensures { self.new ≡ set.remove self.old node }
     {
         remove_key(&mut self.nodes, node);
     }
 
-    /// Equal nodes, with memory of their own. [`NoMemory`] is the only error.
+    /// An equal set that shares nothing with this one.
     pub(crate) fn copy(&self) -> Result<Self, NoMemory>
         ensures { IfOk result (λ copied. copied ≡ self.now) }
     {

@@ -1,4 +1,4 @@
-//! What a controller keeps of its peers.
+//! The peer table of a controller.
 ghost use Rattle.std.specs.Prelude.{◌≡◌, IfOk, Some, max};
 ghost use Rattle.std.specs.FinSet as set;
 ghost use Rattle.std.specs.FinMap as map;
@@ -16,14 +16,14 @@ use std::alloc::Global;
 use std::marker::Model;
 use std::sync::Arc;
 
-/// Whether an acknowledgement counts: it is of this origin, and of no more deltas than there are.
+/// Whether an acknowledgement counts: it names this node's origin and no more deltas than there are.
 fn counts(own: Origin, count: u64, origin: Origin, number: u64) -> bool
     ensures { result ≡ counts own count (origin, number) }
 {
     origin.node.0 == own.node.0 && origin.inc == own.inc && number <= count
 }
 
-/// The lesser of a number and the least before it, if there was one.
+/// The lesser of a number and the least before it, if there is one.
 fn lesser(least: Option<u64>, number: u64) -> u64
     ensures { Some result ≡ lesser least number }
 {
@@ -33,8 +33,8 @@ fn lesser(least: Option<u64>, number: u64) -> u64
     }
 }
 
-/// Does a change in lists that nobody else has. Lists that others have too stay as they are, and the change stays
-/// pending. So does what isn't done where memory is refused.
+/// Applies a change to unshared lists. The change stays pending if the lists are shared, or partly if an allocation
+/// fails.
 fn settle_alone(kept: &mut Arc<Lists, Global>, pending: &mut Pending)
     ensures { done (arc_value kept.new) pending.new ≡ done (arc_value kept.old) pending.old }
 {
@@ -43,19 +43,18 @@ fn settle_alone(kept: &mut Arc<Lists, Global>, pending: &mut Pending)
     }
 }
 
-/// What a controller keeps of its peers: how many of its own deltas each of their incarnations acknowledged. It also
-/// keeps the latest position in the deltas of each node up to which it got something, and which nodes it owes an
-/// answer.
+/// The peer table of a controller: how many of its deltas each incarnation of a peer acknowledged, the latest position
+/// in each node's deltas that it received, and the nodes to which a reply is due.
 ///
-/// Copies share their lists, so a copy costs as much as a pointer. What changes in one event is kept beside them
-/// until [`Peers::settle`].
+/// Copies share their lists, so that a copy costs as much as a pointer. The change of one event is stored with the
+/// pointer until [`Peers::settle`].
 pub struct Peers {
     alloc: Global,
     kept: Option<Arc<Lists, Global>>,
     pending: Pending,
 }
 
-/// Written out: a drop is one call for a proof, wherever it stands.
+/// Written out so that a drop is one call in every proof.
 impl Drop for Peers {
     fn drop(self) {
         let Peers {
@@ -78,7 +77,7 @@ impl Model for Peers {
 }
 
 impl Peers {
-    /// Nothing is kept. It takes no memory.
+    /// The empty table.
     pub fn new(alloc: Global) -> Self
         ensures { result ≡ no_peers }
     {
@@ -89,8 +88,7 @@ impl Peers {
         }
     }
 
-    /// Equal ones. They share memory with these, which never changes while both are there. [`NoMemory`] is the only
-    /// error.
+    /// An equal table. It shares its lists with this one, which is safe because shared lists never change.
     pub fn copy(&self) -> Result<Self, NoMemory>
         ensures { IfOk result (λ copied. copied ≡ self.now) }
     {
@@ -105,8 +103,8 @@ impl Peers {
         })
     }
 
-    /// Does what changed last in the lists, where nobody else has them. Otherwise, and where memory is refused, it
-    /// stays pending. Contracts see no difference.
+    /// Applies the last change to the lists if they are unshared. It stays pending if they are shared or an allocation
+    /// fails; contracts see no difference.
     pub fn settle(&mut self)
         ensures { self.new ≡ self.old }
     {
@@ -118,7 +116,7 @@ impl Peers {
         }
     }
 
-    /// Lists that have all, with memory of their own. [`NoMemory`] is the only error.
+    /// The lists with the pending change applied, which share nothing with these.
     fn settled(&self) -> Result<Lists, NoMemory>
         ensures { IfOk result (λ lists. lists ≡ self.now) }
     {
@@ -128,7 +126,7 @@ impl Peers {
         }
     }
 
-    /// Lists that have all. They are shared where no change is pending. [`NoMemory`] is the only error.
+    /// The lists with the pending change applied. They are shared if no change is pending.
     fn shared(&self) -> Result<Arc<Lists, Global>, NoMemory>
         ensures { IfOk result (λ lists. arc_value lists ≡ self.now) }
     {
@@ -141,7 +139,7 @@ impl Peers {
         Ok(Arc::new(self.alloc, settled)?)
     }
 
-    /// What is kept once this changes. [`NoMemory`] is the only error.
+    /// The table after a change.
     fn with(&self, change: Pending) -> Result<Self, NoMemory>
         ensures { IfOk result (λ peers. peers ≡ done self.now change) }
     {
@@ -156,7 +154,7 @@ impl Peers {
         })
     }
 
-    /// The number of deltas that an origin acknowledged, if it acknowledged any.
+    /// The number of deltas that an origin acknowledged, if any.
     fn number(&self, origin: Origin) -> Option<u64>
         ensures { result ≡ map.get self.now.acked origin }
     {
@@ -167,7 +165,7 @@ impl Peers {
         self.pending.number(origin, listed)
     }
 
-    /// The position up to which something was got from a node, if anything was.
+    /// The latest position got from a node, if any.
     fn position(&self, node: NodeId) -> Option<Position>
         ensures { result ≡ map.get self.now.got node }
     {
@@ -178,7 +176,7 @@ impl Peers {
         self.pending.position(node, listed)
     }
 
-    /// Whether a node is owed an answer.
+    /// Whether a reply to a node is due.
     fn is_owed(&self, node: NodeId) -> bool
         ensures { result ≡ set.contains self.now.owed node }
     {
@@ -189,7 +187,7 @@ impl Peers {
         self.pending.is_owed(node, listed)
     }
 
-    /// How many deltas a node acknowledged, as the incarnation that has its greatest life.
+    /// How many deltas a node acknowledged as its present incarnation, that of its greatest life.
     fn acked_at(&self, state: &State, node: NodeId) -> Option<Position>
         ensures { result ≡ acked_at self.now state.now node }
     {
@@ -198,8 +196,8 @@ impl Peers {
         Some(Position { inc, number })
     }
 
-    /// From where an interval for a node begins, and the incarnation that it is for, where deltas from `base`
-    /// on are kept. There is none where the whole state has to be shipped.
+    /// Where an interval for a node begins, and for which incarnation, if the log has the deltas after number `base`.
+    /// Returns `None` if the whole state must be shipped.
     pub fn begins(&self, state: &State, base: u64, to: NodeId) -> Option<Position>
         ensures { result ≡ begins self.now state.now base to }
     {
@@ -211,8 +209,8 @@ impl Peers {
         }
     }
 
-    /// The latest position up to which something was got from a node, as it is acknowledged. It is which of its
-    /// incarnations it came from, and how many deltas that one had then.
+    /// The acknowledgement for a node: its latest incarnation from which a state was received, and the greatest delta
+    /// count of those messages.
     pub fn ack_for(&self, node: NodeId) -> Option<(Origin, u64)>
         ensures { result ≡ ack_for self.now node }
     {
@@ -224,8 +222,8 @@ impl Peers {
         Some((origin, position.number))
     }
 
-    /// Whether nothing is to be shipped to a node: it has acknowledged all deltas, of which there are `count`, and
-    /// is owed no answer.
+    /// Whether nothing needs to be shipped to a node, because it has acknowledged all `count` deltas and no reply to it
+    /// is due.
     pub fn is_up_to_date(&self, state: &State, base: u64, count: u64, to: NodeId) -> bool
         ensures { result ≡ is_up_to_date self.now state.now base count to }
     {
@@ -235,8 +233,7 @@ impl Peers {
         count <= position.number && !self.is_owed(to)
     }
 
-    /// What is kept once something is shipped to a node: it is owed no answer any more. [`NoMemory`] is the only
-    /// error.
+    /// The table after a ship to a node, to which then no reply is due.
     pub fn shipped_to(&self, to: NodeId) -> Result<Self, NoMemory>
         ensures { IfOk result (λ peers. peers ≡ shipped_to self.now to) }
     {
@@ -252,8 +249,7 @@ impl Peers {
         })
     }
 
-    /// What is kept once a message is heard by the origin `own`, which had `count` deltas before. [`NoMemory`] is
-    /// the only error.
+    /// The table after an incoming message, at the origin `own`, which had `count` deltas before.
     pub fn heard_from(&self, own: Origin, count: u64, message: &Message) -> Result<Self, NoMemory>
         ensures { IfOk result (λ peers. peers ≡ heard_from own count self.now message.now) }
     {
@@ -267,7 +263,7 @@ impl Peers {
         })
     }
 
-    /// The number that a message raises: it acknowledges more than its sender did before.
+    /// The acknowledgement of a message, if its sender acknowledges more than before.
     fn ack_of(&self, own: Origin, count: u64, message: &Message) -> Option<(Origin, u64)>
         ensures { ack_done self.now.acked result
             ≡ acked_after own count self.now.acked message.now.from message.now.ack }
@@ -282,7 +278,7 @@ impl Peers {
         }
     }
 
-    /// The position that a message raises: that of its sender, where it brings something.
+    /// The position that a message raises: its sender's, if it carries a state.
     fn position_of(&self, message: &Message) -> Option<(NodeId, Position)>
         ensures { position_done self.now.got result
             ≡ (got_by self.now message.now.from message.now.up_to message.now.body).got }
@@ -297,7 +293,7 @@ impl Peers {
         Some((message.from.node, position))
     }
 
-    /// Who is owed an answer from a message on: its sender, where it brings something, unless it is owed one already.
+    /// The reply that a message makes due: to its sender, if it carries a state, unless one is due already.
     fn answer_to(&self, message: &Message) -> Option<Answer>
         ensures { answer_done self.now.owed result
             ≡ (got_by self.now message.now.from message.now.up_to message.now.body).owed }
@@ -313,7 +309,7 @@ impl Peers {
         }
     }
 
-    /// How many deltas a node acknowledged, 0 where it acknowledged none.
+    /// How many deltas a node acknowledged, 0 if none.
     fn number_acked(&self, state: &State, node: NodeId) -> u64
         ensures { result ≡ number_acked self.now state.now node }
     {
@@ -323,8 +319,8 @@ impl Peers {
         }
     }
 
-    /// The greater of `base` and how many deltas each of the other nodes acknowledged, 0 where there are no others. No node
-    /// is asked after one that acknowledged no more than `base`.
+    /// The greater of `base` and the number of deltas that every other node acknowledged, which is 0 without other
+    /// nodes. It stops at the first node that acknowledged at most `base`.
     pub fn acked_past(&self, state: &State, nodes: u8, own: NodeId, base: u64) -> u64
         ensures { result ≡ max base (acked_by_all self.now state.now nodes own) }
     {

@@ -1,4 +1,4 @@
-//! A change that lists which may be shared don't have yet.
+//! A change that isn't yet applied to lists which may be shared.
 ghost use Rattle.std.specs.Prelude.{◌≡◌, ◌↔◌, IsTrue};
 ghost use Rattle.dac_peers.specs.Pending.{none_pending, number_then, position_then, is_owed_then, same_origin};
 
@@ -6,23 +6,23 @@ use crate::positions::Position;
 use dac_base::NodeId;
 use dac_origins::Origin;
 
-/// Whether a node is owed an answer.
+/// A change of whether a reply to a node is due.
 #[derive(Clone, Copy)]
 pub(crate) enum Answer {
-    /// It is owed one from then on.
+    /// A reply to this node becomes due.
     Owed(NodeId),
-    /// It isn't any more.
+    /// A reply to this node is no longer due.
     Given(NodeId),
 }
 
-/// One change of what is kept of peers.
+/// One pending change of a peer table.
 #[derive(Clone, Copy)]
 pub(crate) struct Pending {
-    /// Up to which number an incarnation acknowledged.
+    /// The number of deltas that an incarnation acknowledged.
     pub(crate) ack: Option<(Origin, u64)>,
-    /// Up to which position something was got from a node.
+    /// The position got from a node.
     pub(crate) position: Option<(NodeId, Position)>,
-    /// Which node is owed an answer from then on, or isn't any more.
+    /// The reply that becomes due, or no longer is.
     pub(crate) answer: Option<Answer>,
 }
 
@@ -52,7 +52,7 @@ impl Pending {
         self.ack.is_none() && self.position.is_none() && self.answer.is_none()
     }
 
-    /// The number that an origin acknowledged, where the lists have this one.
+    /// The number that an origin acknowledged, given the listed one.
     pub(crate) fn number(&self, origin: Origin, listed: Option<u64>) -> Option<u64>
         ensures { result ≡ number_then self.now.ack origin listed }
     {
@@ -68,7 +68,7 @@ impl Pending {
         }
     }
 
-    /// The position of a node, where the lists have this one.
+    /// The position of a node, given the listed one.
     pub(crate) fn position(&self, node: NodeId, listed: Option<Position>) -> Option<Position>
         ensures { result ≡ position_then self.now.position node listed }
     {
@@ -84,7 +84,7 @@ impl Pending {
         }
     }
 
-    /// Whether a node is owed an answer, where the lists say this.
+    /// Whether a reply to a node is due, given whether the lists have it.
     pub(crate) fn is_owed(&self, node: NodeId, listed: bool) -> bool
         ensures { result ≡ is_owed_then self.now.answer node listed }
     {

@@ -1,4 +1,4 @@
-//! Positions in the deltas of others.
+//! Positions in other nodes' deltas.
 ghost use Rattle.std.specs.Prelude.{◌≡◌, IfOk, OnOk, OnErr};
 ghost use Rattle.std.specs.FinMap as map;
 ghost use Rattle.dac_peers.specs.Peers.{got_after, later};
@@ -8,17 +8,17 @@ use dac_deltas::Entries;
 use std::alloc::Global;
 use std::marker::Model;
 
-/// A position in the deltas of one incarnation of a node: how many of them there were.
+/// A position in the deltas of one incarnation of a node.
 #[derive(Clone, Copy, Debug, PartialEq, Eq)]
 pub struct Position {
-    /// Which of the node's incarnations.
+    /// The node's incarnation.
     pub inc: u64,
-    /// How many deltas it had.
+    /// The delta count before the position.
     pub number: u64,
 }
 
 impl Position {
-    /// The later of two positions: that of the greater incarnation, and of one incarnation the greater number.
+    /// The later of two positions: the one of the greater incarnation, and within an incarnation the greater number.
     pub(crate) fn later(self, new: Position) -> Position
         ensures { result ≡ later self new }
     {
@@ -35,7 +35,7 @@ impl Position {
     }
 }
 
-/// A position in the deltas of each of some nodes. Contracts see it as a finite map from nodes to positions.
+/// A position for each of some nodes. Contracts see it as a finite map from nodes to positions.
 #[derive(Drop)]
 pub(crate) struct Positions {
     positions: Entries<NodeId, Position>,
@@ -55,7 +55,7 @@ impl Model for Positions {
 }
 
 impl Positions {
-    /// No positions. It takes no memory.
+    /// No positions.
     pub(crate) fn new(alloc: Global) -> Self
         ensures { result ≡ map.empty }
     {
@@ -64,15 +64,14 @@ impl Positions {
         }
     }
 
-    /// The position of a node, if it has one.
+    /// The position of a node, if any.
     pub(crate) fn get(&self, node: NodeId) -> Option<Position>
         ensures { result ≡ map.get self.now node }
     {
         self.positions.get(node)
     }
 
-    /// A node has got to a position, unless it was further already. [`NoMemory`] is the only error, and leaves all
-    /// as it was.
+    /// Records that a node reached a position, unless it was past it. `NoMemory` leaves the positions unchanged.
     pub(crate) fn raise(&mut self, node: NodeId, position: Position) -> Result<(), NoMemory>
         ensures ok { OnOk result
             (self.new ≡ map.insert self.old node (got_after (map.get self.old node) position)) }
@@ -86,7 +85,7 @@ impl Positions {
         Ok(())
     }
 
-    /// Equal positions, with memory of their own. [`NoMemory`] is the only error.
+    /// Equal positions that share nothing with these.
     pub(crate) fn copy(&self) -> Result<Self, NoMemory>
         ensures { IfOk result (λ copied. copied ≡ self.now) }
     {

@@ -4,15 +4,15 @@ use Rattle.std.proofs.lemmas.Bool.{eq-eqb, ne_eqb, lt-ltb, le-ltb}
 use Rattle.dac_phases.specs.Pairs.{shipper_seat, worker_seat}
 use Rattle.dac_phases.specs.Seating.{numbers_from, seats_for, AreInOrder}
 
--- these, but for the node itself
+-- the seats for a node, unless it is the node itself
 abbrev chosen : List ℕ → Bool → List ℕ
 chosen two own = if own then [] else two
 
--- the node itself has none
+-- a node has no seats for itself
 own : (n : ℕ) → seats_for n n ≡ []
 own n = ap (chosen (shipper_seat n n ∷ worker_seat n n ∷ [])) (eq-eqb n n refl)
 
--- a node before it
+-- the seats for a node before it
 before : (me k : ℕ) → k < me → seats_for me k ≡ (2 * k + 5) ∷ (2 * k + 6) ∷ []
 before me k less =
     let other : eqb k me ≡ false = ne_eqb k me (λ same. omega (arith, less, same)) in
@@ -22,7 +22,7 @@ before me k less =
     let next : worker_seat me k ≡ 2 * k + 6 = ap (λ (s : ℕ). s + 1) seat ∙ more in
     ap (chosen (shipper_seat me k ∷ worker_seat me k ∷ [])) other ∙ (λ i. seat i ∷ next i ∷ [])
 
--- a node behind it
+-- the seats for a node after it
 after : (me k : ℕ) → me < k → seats_for me k ≡ (2 * k + 3) ∷ (2 * k + 4) ∷ []
 after me k less =
     let other : eqb k me ≡ false = ne_eqb k me (λ same. omega (arith, less, same)) in
@@ -32,7 +32,7 @@ after me k less =
     let next : worker_seat me k ≡ 2 * k + 4 = ap (λ (s : ℕ). s + 1) seat ∙ more in
     ap (chosen (shipper_seat me k ∷ worker_seat me k ∷ [])) other ∙ (λ i. seat i ∷ next i ∷ [])
 
--- all nodes behind it, from one on
+-- the seats for all nodes after it, from k
 all_after : (me k n : ℕ) → me < k → flat_map (seats_for me) (numbers_from k n) ≡ numbers_from (2 * k + 3) (2 * n)
 all_after me k zero less = let none : 0 ≡ 2 * 0 = omega arith in ap (numbers_from (2 * k + 3)) none
 all_after me k (suc n) less =
@@ -44,7 +44,7 @@ all_after me k (suc n) less =
     let two : suc (suc (2 * n)) ≡ 2 * suc n = omega arith in
     (λ i. here i ++ rest i) ∙ (λ i. (2 * k + 3) ∷ second i ∷ numbers_from (third i) (2 * n)) ∙ ap (numbers_from (2 * k + 3)) two
 
--- all nodes from one before it on, or from itself: it is the one at this distance
+-- the seats for all nodes from k, where the node itself is k or later
 all_from : (distance k n me : ℕ) → me ≡ distance + k → distance ≤ n → flat_map (seats_for me) (numbers_from k (suc n)) ≡ numbers_from (2 * k + 5) (2 * n)
 all_from zero k n me at inside =
     let same : me ≡ k = omega (arith, at) in

@@ -1,4 +1,4 @@
--- What a link's two seats asked, as the program compares it.
+-- The events of a link's two seats, as the program compares them.
 use Rattle.std.proofs.Common.{◌≡◌, ℕ, ◌*◌, List, [], ◌∷◌, map, Bor, refl, sym, ap, subst, ◌∙◌}
 use Rattle.dac_base.specs.declared.NodeId.{NodeId}
 use Rattle.dac_messages.specs.declared.event.Event.TheVariants.{Hear}
@@ -19,7 +19,7 @@ linked phases wanted to s w shipper worker sender receiver sent items many at on
       ships = ships ∙ ap (ships_to to) many;
     }))
 
--- the other way: what such a link's seats asked is what the program compares
+-- if the link matches, the comparison succeeds
 pub heard_of : (phases : ℕ) (to : NodeId) (s w shipper worker : ℕ) (sender receiver : List Record) (sent items : List (Bor Message)) → s ≡ shipper → w ≡ worker → sent ≡ items → map (λ (m : Bor Message). m.now) items ≡ found (sent_one s) sender
     → Linked phases to shipper worker sender receiver → found (event_one w) receiver ≡ map (λ (m : Bor Message). Hear m.now) sent
 heard_of phases to s w shipper worker sender receiver sent items at on same by l =

@@ -1,4 +1,4 @@
--- Journals that fall into the phases of their run.
+-- Journals that consist of the phases of their run.
 use Rattle.std.specs.Prelude.{⊤, ◌≡◌, ◌≢◌, ◌<◌, ◌≤◌, ◌++◌, ℕ, All, List, [], ◌∷◌, length, map, slice_index_or}
 use Rattle.dac_crews.specs.Record.{Record}
 use Rattle.dac_crews.specs.Journals.{JournalValue}
@@ -11,7 +11,7 @@ use Rattle.dac_phases.specs.Pairs.{shipper_seat, worker_seat}
 abbrev pub part_at : List (List Record) → ℕ → List Record
 part_at all node = slice_index_or all node []
 
--- each journal is its part, and what is left of it behind that
+-- each journal is its part, followed by its rest
 abbrev pub AreParted : List (List Record) → List (List Record) → List (List Record) → Type 0
 AreParted [] [] [] = ⊤
 AreParted [] [] (r ∷ rs) = ⊥
@@ -22,23 +22,23 @@ AreParted (j ∷ js) [] (r ∷ rs) = ⊥
 AreParted (j ∷ js) (p ∷ ps) [] = ⊥
 AreParted (j ∷ js) (p ∷ ps) (r ∷ rs) = (j ≡ p ++ r) × AreParted js ps rs
 
--- the callers' seats of this node asked the phase's lines, each its own, in order
+-- the records of each caller's seat at this node are the caller's lines of the phase that call, in order
 abbrev pub AskLines : Phase → ℕ → List Record → Type 0
 AskLines phase node part = (caller : ℕ) → 1 ≤ caller → caller ≤ 4
     → found (event_one caller) part ≡ found (ask_one node caller) phase.lines.items
 
--- the links from this node were used as they are to be in one phase
+-- the records at both ends of each link from this node match in one phase
 abbrev pub UseLinks : ℕ → List (List Record) → Type 0
 UseLinks from parts = (to : ℕ) → to < length parts → to ≢ from
     → Linked 1 (record { 0 = to }) (shipper_seat from to) (worker_seat to from) (part_at parts from) (part_at parts to)
 
--- These are the records of a phase, of each node. Its callers' seats asked the phase's lines. Each shipper shipped five
--- times, and each link worker heard just what its shipper shipped in the phase.
+-- The parts are the records of one phase, of each node: callers call the phase's lines, each shipper ships five times,
+-- and each link worker hears exactly what its shipper ships in the phase.
 pub record PhaseHolds (phase : Phase) (parts : List (List Record)) : Type 0 where
   pub asked : (node : ℕ) → node < length parts → AskLines phase node (part_at parts node)
   pub links : (from : ℕ) → from < length parts → UseLinks from parts
 
--- the journals begin with the records of this phase, and what is left of them is as it is to be
+-- the journals begin with the records of this phase, and the rests satisfy `Others`
 pub record BeginWith (phase : Phase) (Others : List (List Record) → Type 0) (journals : List (List Record)) : Type 0 where
   pub parts : List (List Record)
   pub rests : List (List Record)
@@ -46,11 +46,11 @@ pub record BeginWith (phase : Phase) (Others : List (List Record) → Type 0) (j
   pub holds : PhaseHolds phase parts
   pub others : Others rests
 
--- the records are those of the phases, one phase behind the other
+-- the journals consist of the records of the phases, one phase after another
 abbrev pub ArePhased : List Phase → List (List Record) → Type 0
 ArePhased [] journals = All (λ (rs : List Record). rs ≡ []) journals
 ArePhased (phase ∷ phases) journals = BeginWith phase (ArePhased phases) journals
 
--- those of these journals are
+-- the closed journals consist of the records of the phases
 abbrev pub FallIntoPhases : List Phase → List JournalValue → Type 0
 FallIntoPhases phases closed = ArePhased phases (map (λ (j : JournalValue). j.records) closed)

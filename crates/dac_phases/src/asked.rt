@@ -1,4 +1,4 @@
-//! What the lines of callers ask.
+//! The events that callers' lines ask for.
 
 ghost use Rattle.std.specs.Prelude.{◌≡◌, ◌↔◌, ◌++◌, map, IfOk, IsTrue};
 ghost use Rattle.std.specs.Option.{option_copied};
@@ -10,14 +10,14 @@ use dac_crews::{Ask, Line, Phase, Record, event_of};
 use dac_messages::Event;
 use std::alloc::Global;
 
-/// Whether the line is this caller's of this node.
+/// Returns whether the line is for this caller of this node.
 pub fn is_of(line: &Line, node: NodeId, caller: u8) -> bool
     ensures { result ≡ is_of node.0 caller line.now }
 {
     line.node == node && line.caller == caller
 }
 
-/// The event that this caller asks by the line, if it is one that asks.
+/// The event of the line, if it is this caller's and calls the node.
 fn event_in(line: &Line, node: NodeId, caller: u8) -> Option<&Event>
     ensures { option_copied result ≡ ask_one node.0 caller line.now }
 {
@@ -30,7 +30,7 @@ fn event_in(line: &Line, node: NodeId, caller: u8) -> Option<&Event>
     }
 }
 
-/// The list, with the events behind it that this caller asks by the lines of a phase.
+/// Appends the events of this caller's lines of a phase.
 pub(crate) fn with_events<'a>(
     mut all: Vec<&'a Event>,
     lines: &'a [Line],
@@ -50,7 +50,7 @@ pub(crate) fn with_events<'a>(
     Ok(all)
 }
 
-/// The events that this caller's lines ask, over all phases, in order. [`NoMemory`] is the only error.
+/// The events of this caller's lines, over all phases, in order.
 pub fn asked_by(
     alloc: Global,
     phases: &[Phase],
@@ -67,7 +67,7 @@ pub fn asked_by(
     Ok(all)
 }
 
-/// Whether the records of this seat ask these events, in order and no others.
+/// Returns whether this seat's records have these events, in order, and no others.
 pub fn are_asked(asked: &[&Event], records: &[Record], seat: u16) -> bool
     ensures { IsTrue result
         ↔ (found (event_one seat) records.now ≡ map (λ e. e.now) asked.now) }

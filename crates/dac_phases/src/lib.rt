@@ -1,5 +1,7 @@
-//! The journals of a run by its lines and its phases: who sat where, what callers asked, what each link carried, and whether the
-//! journals fall into the phases.
+//! Checks of a run's closed journals: seats, callers' lines, links, and phases.
+//!
+//! Functions whose result can't carry `NoMemory` allocate nothing, and `NoMemory` is the only error of those that name
+//! no other. Lists with an item for each node are in order of name.
 #![tactic(auto)]
 
 pub use asked::{are_asked, asked_by, is_of};

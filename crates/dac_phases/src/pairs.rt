@@ -29,7 +29,7 @@ fn worker_seat(me: NodeId, other: NodeId) -> u16
     shipper_seat(me, other) + 1
 }
 
-/// Whether one link's two ends were used as they are to be.
+/// Returns whether the records at both ends of a link match.
 pub(crate) fn pair_holds(
     alloc: Global,
     phases: usize,
@@ -53,7 +53,7 @@ pub(crate) fn pair_holds(
     Ok(are_ships(wanted, sender, shipper, to))
 }
 
-/// The first node to which the link from this one doesn't hold.
+/// The first node to which the link from this one doesn't match.
 fn lost_to(
     alloc: Global,
     phases: usize,
@@ -84,8 +84,7 @@ fn lost_to(
     Ok(None)
 }
 
-/// Names the first link, by the node that ships and the one that hears, that carried something else than it was to carry.
-/// The journals stand by name. [`NoMemory`] is the only error.
+/// The first link, by the node that ships and then by the one that hears, whose ends don't match.
 pub fn lost_link(
     alloc: Global,
     phases: usize,

@@ -1,4 +1,4 @@
-//! Journals that fall into phases.
+//! Splits journals into the phases of their run.
 
 ghost use Rattle.std.specs.Prelude.{◌≡◌, ◌<◌, ◌≤◌, true, map, length, IfOk, All, []};
 ghost use Rattle.dac_base.specs.declared.limits.TheConstants.{MAX_NODES};
@@ -11,7 +11,7 @@ use dac_crews::{Ask, CALLERS, Closed, Phase, Record, SHIPS_OF_PHASE};
 use dac_messages::Reply;
 use std::alloc::Global;
 
-/// How many lines of the phase ask something at this node.
+/// The number of the phase's lines that call this node.
 fn asks_at(phase: &Phase, node: NodeId) -> usize {
     let mut count = 0usize;
     for i in 0..phase.lines.len() {
@@ -24,7 +24,7 @@ fn asks_at(phase: &Phase, node: NodeId) -> usize {
     count
 }
 
-/// How many messages this seat's first five records ship.
+/// The number of messages that this seat's first five records ship.
 fn letters_of(records: &[Record], seat: u16) -> usize {
     let mut ships = 0u64;
     let mut letters = 0usize;
@@ -44,8 +44,8 @@ fn letters_of(records: &[Record], seat: u16) -> usize {
     letters
 }
 
-/// How many records of this node a phase left in front of the others, if the journals fall into phases: one for each line that
-/// asks, five for each shipper, and one for each message that another node's shipper shipped to this one.
+/// The number of this node's records in the first phase, if the journals consist of phases: one for each line that
+/// calls, five for each shipper, and one for each message that another node's shipper sent to this one.
 fn part_len(phase: &Phase, journals: &[&[Record]], node: NodeId) -> usize
     requires { length journals.now ≤ MAX_NODES }
 {
@@ -61,7 +61,7 @@ fn part_len(phase: &Phase, journals: &[&[Record]], node: NodeId) -> usize
     count
 }
 
-/// The records that a phase left in front of the others in each journal, and the others.
+/// Splits each journal into its records of the first phase and the others.
 fn parted<'a>(
     alloc: Global,
     phase: &Phase,
@@ -85,7 +85,7 @@ fn parted<'a>(
     Ok((parts, rests))
 }
 
-/// Whether the callers' seats of a node asked the phase's lines, where these are the node's records.
+/// Returns whether the callers' seats of a node called the phase's lines, by the node's records of the phase.
 fn ask_lines(alloc: Global, phase: &Phase, node: NodeId, part: &[Record]) -> Result<bool, NoMemory>
     ensures { IfOk result (λ b. b ≡ true → AskLines phase.now node.0 part.now) }
 {
@@ -99,7 +99,7 @@ fn ask_lines(alloc: Global, phase: &Phase, node: NodeId, part: &[Record]) -> Res
     Ok(true)
 }
 
-/// Whether the links from this node were used as they are to be in one phase, where these are the nodes' records.
+/// Returns whether the links from this node match in one phase, by the nodes' records of it.
 #[tactic(auto, using(crate::proofs::Parted::lent_at, crate::proofs::Parted::lent_length))]
 fn use_links(alloc: Global, from: usize, parts: &[&[Record]]) -> Result<bool, NoMemory>
     requires { (from < length parts.now) × (length parts.now ≤ MAX_NODES) }
@@ -118,8 +118,7 @@ fn use_links(alloc: Global, from: usize, parts: &[&[Record]]) -> Result<bool, No
     Ok(true)
 }
 
-/// Names the first node, of these whose records are said to be of the phase, where a caller's seat asked something else than its
-/// lines, or a link from there was used otherwise than in one phase.
+/// The first node whose records of a phase don't match the lines of its callers, or don't match at a link from it.
 #[tactic(auto, using(crate::proofs::Parted::lent_at, crate::proofs::Parted::lent_length))]
 fn stray_in(alloc: Global, phase: &Phase, parts: &[&[Record]]) -> Result<Option<NodeId>, NoMemory>
     requires { length parts.now ≤ MAX_NODES }
@@ -138,7 +137,6 @@ fn stray_in(alloc: Global, phase: &Phase, parts: &[&[Record]]) -> Result<Option<
     Ok(None)
 }
 
-/// Whether there are no records.
 fn are_none(records: &[Record]) -> bool
     ensures { result ≡ true → records.now ≡ [] }
 {
@@ -148,7 +146,7 @@ fn are_none(records: &[Record]) -> bool
     }
 }
 
-/// Names the first node of which records are left.
+/// The first node with records left.
 fn left_over(rests: &[&[Record]]) -> Option<NodeId>
     requires { length rests.now ≤ MAX_NODES }
     ensures { result ≡ None → All (λ rs. rs ≡ []) (map (λ r. r.now) rests.now) }
@@ -161,7 +159,6 @@ fn left_over(rests: &[&[Record]]) -> Option<NodeId>
     None
 }
 
-/// The records of each journal.
 #[tactic(auto, using(crate::proofs::Parted::records_more))]
 fn records_of(alloc: Global, closed: &[Closed]) -> Result<Vec<&[Record]>, NoMemory>
     ensures { IfOk result
@@ -175,9 +172,9 @@ fn records_of(alloc: Global, closed: &[Closed]) -> Result<Vec<&[Record]>, NoMemo
     Ok(all)
 }
 
-/// Names a node, of these journals that stand by name, whose journal doesn't fall into the phases. `None` where all do: each is the
-/// records of the phases, one phase behind the other. In those of a phase callers' seats ask the phase's lines, each shipper ships
-/// five times, and each link worker hears just what its shipper shipped in the phase. [`NoMemory`] is the only error.
+/// A node whose journal doesn't consist of the phases, or `None` if all do. In the records of a phase the callers'
+/// seats call the phase's lines, each shipper ships five times, and each link worker hears exactly what its shipper
+/// ships in that phase.
 pub fn stray_node(
     alloc: Global,
     phases: &[Phase],

@@ -8,13 +8,13 @@ ghost use Rattle.dac_phases.specs.Seating.{AreInOrder};
 use dac_base::NodeId;
 use dac_crews::{CloseFault, Closed, Record, RunFault};
 
-/// The seats of a node are numbered in order, from 1 on: those of callers 1 to 4, and for each other node, by name, its shipper's
-/// and its link worker's. So nobody shares a seat, and there is no other one.
+/// The seats of a node are numbered from 1: those of callers 1 to 4, then two for each other node, in order of name,
+/// the shipper's and the link worker's. Therefore no two workers share a seat, and there are no others.
 pub fn seats_are_in_order()
     ensures { AreInOrder }
 {}
 
-/// Whether this is one of the seats of a node, of so many nodes: its callers', and two for each other node.
+/// Returns whether a node of a cluster with this many nodes has this seat.
 fn is_seat(nodes: usize, seat: u16) -> bool
     requires { nodes ≤ MAX_NODES }
     ensures { result ≡ true → IsSeat nodes seat }
@@ -22,7 +22,7 @@ fn is_seat(nodes: usize, seat: u16) -> bool
     1 <= seat && usize::from(seat) <= 2 * nodes + 2
 }
 
-/// The place of the first record of another seat, from 1.
+/// The place, from 1, of the first record of a seat that a node doesn't have.
 fn strange_place(nodes: usize, records: &[Record]) -> Option<u64>
     requires { nodes ≤ MAX_NODES }
     ensures { result ≡ None → AreOfSeats nodes records.now }
@@ -36,7 +36,7 @@ fn strange_place(nodes: usize, records: &[Record]) -> Option<u64>
     None
 }
 
-/// Refuses journals, which stand by name, with a record of a seat that no node has. It names the first such record.
+/// Fails with a `Close` fault that names the first record of a seat that no node has.
 pub fn check_seats(closed: &[Closed]) -> Result<(), RunFault>
     requires { length closed.now ≤ MAX_NODES }
     ensures { OnOk result (SeatsHold closed.now) }

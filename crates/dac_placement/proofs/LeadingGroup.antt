@@ -1,4 +1,4 @@
--- Where one leads, the least rank within its group is the least of all.
+-- If one node leads, the least rank within its group is the least of all.
 use Rattle.std.proofs.Common.{◌≡◌, ℕ, ◌<◌, ◌≤◌, Bool, true, false, cond, Option, Some, None, option_map, refl, sym, ap, subst, ◌∙◌, arith, inl, inr}
 use Rattle.std.specs.Prelude.{◌==◌, ◌&&◌}
 use Rattle.std.specs.Option.{is_some, option_and_then}
@@ -22,7 +22,7 @@ module _ (table : Table) (s : StateValue) (app : AppId) (lead : Lead) where
   abbrev made : NodeId → Rank
   made node = record { group = lead.group; load = load_of table s app node; node = node }
 
-  -- the rank of the node of this number, if it is of the leading group
+  -- the rank of the node of this number, if it is in the leading group
   abbrev pub rank_at : ℕ → Option Rank
   rank_at n = rank_in table s app lead.group (numbered n)
 
@@ -32,7 +32,7 @@ module _ (table : Table) (s : StateValue) (app : AppId) (lead : Lead) where
   one_rank : {q r : Rank} → ◌≡◌ {A = Option Rank} (Some q) (Some r) → q ≡ r
   one_rank e = cc
 
-  -- an eligible node of the group has a rank, and no other has one
+  -- exactly the eligible nodes of the group have a rank
   ranked : (node : NodeId) → IsEligible table s app node → group_of table app node ≡ Some lead.group → rank_in table s app lead.group node ≡ Some (made node)
   ranked node may is =
       ap (option_and_then (λ own. cond ((own == lead.group) && is_eligible table s app node) (Some (made node)) None)) is
@@ -65,7 +65,7 @@ module _ (table : Table) (s : StateValue) (app : AppId) (lead : Lead) where
   not_below g less = omega arith
 
   module _ (leads : IsLead table s app (node_count table) lead) where
-    -- no node of another group comes before, whatever its load is
+    -- a node of another group never comes first, whatever its load
     is_first : (n : NodeId) → n.0 < node_count table → IsEligible table s app n → group_of table app n ≡ Some lead.group
         → ((m : NodeId) → m.0 < node_count table → IsEligible table s app m → group_of table app m ≡ Some lead.group → IsUpTo (made n) (made m)) → IsFirst table s app n
     is_first n lt may is least = record {
@@ -86,6 +86,6 @@ module _ (table : Table) (s : StateValue) (app : AppId) (lead : Lead) where
         subst (λ (q : Rank). first_choice table s app ≡ Some q.node) (sym mine.rank) (first_to table app s n
         (is_first n least.0.1 mine.eligible mine.group (λ m lt e is. subst (λ q. IsUpTo q (made m)) mine.rank (least.1 m.0 lt (made m) (ranked m e is)))))
 
-    -- the same, where this is known of the nodes that a loop went through
+    -- `group_decides` for the result of a loop over the nodes
     pub all_decide : (n : ℕ) → n ≡ node_count table → (o p : Option Rank) → IsLeast rank_at n o → o ≡ p → first_choice table s app ≡ option_map (λ (r : Rank). r.node) p
     all_decide n all o p least is = group_decides o (subst (λ m. IsLeast rank_at m o) all least) ∙ ap (option_map (λ (r : Rank). r.node)) is

@@ -1,4 +1,5 @@
--- Placement computes what it says in words, for every configuration and every state, also one that no operation made.
+-- The functions of placement, such as `is_eligible`, agree with the definitions in words, such as `IsEligible`, for
+-- every configuration and every state, even one that no operation produced.
 use Rattle.std.specs.Prelude.{◌≡◌, ◌↔◌, ℕ, ◌<◌, ◌≤◌, true, false, List, length, None, Some, IsSome, MatchOption}
 use Rattle.dac_origins.specs.declared.dot.Origin.{Origin}
 use Rattle.dac_chains.specs.Lives.{IsLive}
@@ -12,40 +13,40 @@ use Rattle.dac_config.specs.Table.{Table, node_count, app_count, group_of, defau
 use Rattle.dac_state.specs.StateValue.{StateValue, permissions_of}
 use Rattle.dac_placement.specs.Placement.{holder_of, key_at, key_of, IsUp, IsStartedAt, IsDrainedAt, IsEligible, is_eligible, EachEligible, IsEarlier, RunsAt, runs_at, runner_of, IsOneOf, AreDistinct, IsFirst, first_choice, IsStanding, standing_of, IsVerdict, verdict_of, candidate_of}
 
--- which nodes may run an application
+-- eligibility
 abbrev pub EligibleInWords : Type 0
 EligibleInWords = (table : Table) (s : StateValue) (app : AppId) (node : NodeId)
     → (is_eligible table s app node ≡ true) ↔ IsEligible table s app node
 
--- whether it runs at a node
+-- whether the application runs at a node
 abbrev pub RunsInWords : Type 0
 RunsInWords = (table : Table) (s : StateValue) (app : AppId) (node : NodeId)
     → (runs_at table s app node ≡ true) ↔ RunsAt table s app node
 
--- the node where it runs
+-- the node at which the application runs
 abbrev pub RunnerInWords : Type 0
 RunnerInWords = (table : Table) (s : StateValue) (app : AppId) (node : NodeId)
     → (runner_of table s app ≡ Some node) ↔ RunsAt table s app node
 
--- the first choice; there is none only where no node is eligible
+-- the first choice; there is none only if no node is eligible
 abbrev pub FirstInWords : Type 0
 FirstInWords = (table : Table) (s : StateValue) (app : AppId)
     → MatchOption (first_choice table s app) (EachEligible table s app (λ _. ⊥)) (λ node. IsFirst table s app node)
 
--- how an application stands
+-- the standing of an application at its holder
 abbrev pub StandingInWords : Type 0
 StandingInWords = (table : Table) (s : StateValue) (app : AppId) → IsStanding table s app (standing_of table s app)
 
--- what is to become of it
+-- the verdict
 abbrev pub VerdictInWords : Type 0
 VerdictInWords = (table : Table) (s : StateValue) (app : AppId) → IsVerdict table s app (verdict_of table s app)
 
--- who is to claim an application is its first choice
+-- the candidate of a verdict is the first choice
 abbrev pub CandidateInWords : Type 0
 CandidateInWords = (table : Table) (s : StateValue) (app : AppId) (node : NodeId)
     → candidate_of (verdict_of table s app) ≡ Some node → IsFirst table s app node
 
--- if it stands so, it is left alone
+-- the condition under which an application of this standing is left alone
 abbrev pub Rests : Table → StateValue → AppId → Standing → Type 0
 Rests table s app Unclaimed = EachEligible table s app (λ _. ⊥)
 Rests table s app Lost = EachEligible table s app (λ _. ⊥)
@@ -53,25 +54,25 @@ Rests table s app (Stopped n) = Unit {0}
 Rests table s app Barred = EachEligible table s app (λ _. ⊥)
 Rests table s app (Upheld n) = EachEligible table s app (λ m. ¬ IsEarlier table app m n)
 
--- Nobody is to claim an application exactly where it is left alone. How it stands and who is eligible say that, and no
--- load does.
+-- A verdict has no candidate exactly when the application is left alone. Its standing and the eligible nodes decide
+-- this, and no load does.
 abbrev pub RestsInWords : Type 0
 RestsInWords = (table : Table) (s : StateValue) (app : AppId)
     → (candidate_of (verdict_of table s app) ≡ None) ↔ Rests table s app (standing_of table s app)
 
--- What was stopped at its holder stays there while that incarnation is live, whatever else is the matter. So neither a
--- drain nor a permission that comes later starts it elsewhere.
+-- An application that was stopped at its holder stays there while that incarnation is live, whatever else holds. So
+-- neither a drain nor a later permission starts it elsewhere.
 abbrev pub StoppedStays : Type 0
 StoppedStays = (table : Table) (s : StateValue) (app : AppId) (o : Origin) → holder_of s app ≡ Some o → IsUp s o
     → ¬ IsStartedAt s (key_of app o) → verdict_of table s app ≡ Halted o.node
 
--- A live incarnation that is drained runs no application, whatever else is so of it.
+-- A drained live incarnation runs no application.
 abbrev pub DrainedRunsNothing : Type 0
 DrainedRunsNothing = (table : Table) (s : StateValue) (app : AppId) (node : NodeId) (inc : ℕ) → IsLive s.lives node inc
     → IsDrainedAt s node inc → ¬ RunsAt table s app node
 
--- Where no permit of an application stands at a node's live incarnation, it may run there only if the configuration's file
--- permits it. If the file does, nothing but the list, a drain and a missing start keeps it away.
+-- If no permit of an application stands at a node's live incarnation, the configuration's permission decides. Without
+-- it the node isn't eligible; with it, only the list, a drain or a missing start makes it ineligible.
 abbrev pub FileCounts : Type 0
 FileCounts = (table : Table) (s : StateValue) (app : AppId) (node : NodeId) (inc : ℕ) → IsLive s.lives node inc
     → NoneStands (key_at app node inc) (permissions_of s)
@@ -79,30 +80,30 @@ FileCounts = (table : Table) (s : StateValue) (app : AppId) (node : NodeId) (inc
     × (default_permission table app ≡ true → IsSome (group_of table app node) → ¬ IsDrainedAt s node inc
     → IsStartedAt s (key_at app node inc) → IsEligible table s app node)
 
--- Where an application is kept, no eligible node stands before its holder in the list.
+-- If an application is kept, no eligible node is in an earlier group than its holder.
 abbrev pub NoneBefore : Type 0
 NoneBefore = (table : Table) (s : StateValue) (app : AppId) (holder m : NodeId) (g h : ℕ)
     → verdict_of table s app ≡ Kept holder → m.0 < node_count table → IsEligible table s app m
     → group_of table app m ≡ Some g → group_of table app holder ≡ Some h → h ≤ g
 
--- An application is taken over from a node of a later group, by one of an earlier. Groups count from 0, as the list has them.
+-- A takeover goes from a node of a later group to one of an earlier group. Groups count from 0, in the list's order.
 abbrev pub FromLater : Type 0
 FromLater = (table : Table) (s : StateValue) (app : AppId) (n : NodeId) (holder : Origin)
     → verdict_of table s app ≡ Takeover n → holder_of s app ≡ Some holder
     → (g : ℕ) × (h : ℕ) × (group_of table app n ≡ Some g) × (group_of table app holder.node ≡ Some h) × (g < h)
 
--- each of these is another application of the configuration than this one, and runs at the node
+-- each of these is another application of the configuration that runs at the node
 abbrev pub RunThere : Table → StateValue → AppId → NodeId → List AppId → Type 0
 RunThere table s app node apps = (other : AppId) → IsOneOf other apps
     → (other.0 < app_count table) × ¬ (other ≡ app) × RunsAt table s other node
 
--- every other application of the configuration that runs at the node is one of these
+-- these include every other application of the configuration that runs at the node
 abbrev pub HaveAllThere : Table → StateValue → AppId → NodeId → List AppId → Type 0
 HaveAllThere table s app node apps = (other : AppId) → other.0 < app_count table → ¬ (other ≡ app) → RunsAt table s other node
     → IsOneOf other apps
 
--- Where a node is to claim an application, no eligible node of its group runs fewer others. As many different ones as run here,
--- run there too.
+-- No eligible node of the candidate's group runs fewer other applications than the candidate: distinct ones that run at
+-- the candidate are at most as many as those that run at the other node.
 abbrev pub FewestRun : Type 0
 FewestRun = (table : Table) (s : StateValue) (app : AppId) (n m : NodeId) (here there : List AppId)
     → candidate_of (verdict_of table s app) ≡ Some n → m.0 < node_count table → IsEligible table s app m

@@ -1,8 +1,8 @@
--- Where an application runs and where it belongs, read off a configuration and a state. This follows OTP's Design
--- Principles, chapter Distributed Applications, and application(3). An application is started at the first node of
--- its list that is up. Within a tuple that is the one that runs the fewest. When its node goes down, it fails over. A
--- stopped application isn't moved, and a forbidden one is. A node of an earlier group takes it over from a later one.
--- (This project's own: wishes and permissions are of one incarnation, and a tie goes by name.)
+-- Where an application runs and where it belongs, computed from a configuration and a state. This follows OTP's Design
+-- Principles, chapter Distributed Applications, and application(3). An application is started at the first node of its
+-- list that is up; within a tuple, at the one that runs the fewest. When its node goes down, it fails over. A stopped
+-- application isn't moved, and a forbidden one is. A node of an earlier group takes it over from a later one. (This
+-- project's own rules: wishes and permissions belong to one incarnation, and a tie goes by name.)
 use Rattle.std.specs.Prelude.{◌≡◌, ◌⊎◌, ◌↔◌, ℕ, ◌<◌, ◌≤◌, Bool, false, not, ◌&&◌, ◌==◌, nat_lt, List, [], ◌∷◌, length, map as list_map, filter, Option, None, Some, IsSome, is_some, if◌then◌else◌}
 use Rattle.std.specs.List.{range_with_len, filter_map, reduce}
 use Rattle.std.specs.Option.{option_map, option_map_or, option_and_then}
@@ -25,46 +25,46 @@ use Rattle.dac_placement.specs.declared.verdicts.Verdict.{Verdict}
 use Rattle.dac_placement.specs.declared.verdicts.Verdict.TheVariants.{Start, Failover, Halted, Move, Takeover, Kept, Nobody}
 use Rattle.dac_placement.specs.Ranks.{Rank, rank_cmp}
 
--- ---- who may run an application
+-- ---- eligibility
 
 -- an application at an incarnation of a node
 abbrev pub key_at : AppId → NodeId → ℕ → Key
 key_at app node inc = record { app = app; node = node; inc = inc }
 
--- the permits that stand there say so, or the configuration does where there is none (application(3), `permit`)
+-- decided by the permits that stand there, or by the configuration if there is none (application(3), `permit`)
 abbrev pub IsPermittedAt : Table → StateValue → Key → Type 0
 IsPermittedAt table s key = IsPermitted key (default_permission table key.app) (permissions_of s)
 
--- the same, as a test
+-- `IsPermittedAt` as a test
 abbrev pub is_permitted_at : Table → StateValue → Key → Bool
 is_permitted_at table s key = is_permitted key (default_permission table key.app) (permissions_of s)
 
--- it was started there and not stopped
+-- the application was started there and not stopped
 abbrev pub IsStartedAt : StateValue → Key → Type 0
 IsStartedAt s key = SomeStands key (wishes_of s)
 
--- the same, as a test
+-- `IsStartedAt` as a test
 abbrev pub is_started_at : StateValue → Key → Bool
 is_started_at s key = is_wished key (wishes_of s)
 
--- the incarnation of the node is drained: it is to run no application. (This project's own.)
+-- the incarnation of the node is drained, so that it must run no application (this project's own rule)
 abbrev pub IsDrainedAt : StateValue → NodeId → ℕ → Type 0
 IsDrainedAt s node inc = IsDrained (origin node inc) (drains_of s)
 
--- the same, as a test
+-- `IsDrainedAt` as a test
 abbrev pub is_drained_at : StateValue → NodeId → ℕ → Bool
 is_drained_at s node inc = is_drained (origin node inc) (drains_of s)
 
--- it is permitted there, and the incarnation isn't drained
+-- the application is permitted there, and the incarnation isn't drained
 abbrev pub IsAllowedAt : Table → StateValue → Key → Type 0
 IsAllowedAt table s key = IsPermittedAt table s key × ¬ (IsDrainedAt s key.node key.inc)
 
--- the same, as a test
+-- `IsAllowedAt` as a test
 abbrev pub is_allowed_at : Table → StateValue → Key → Bool
 is_allowed_at table s key = is_permitted_at table s key && not (is_drained_at s key.node key.inc)
 
--- The node may run the application. The application's list names it, and it is live at an incarnation that isn't
--- drained, and at which the application is permitted and started
+-- The node is eligible for the application: the application's list names it, and it is live at an incarnation that
+-- isn't drained, and at which the application is permitted and started
 pub record IsEligible (table : Table) (s : StateValue) (app : AppId) (node : NodeId) : Type 0 where
   pub listed : IsSome (group_of table app node)
   pub inc : ℕ
@@ -72,7 +72,7 @@ pub record IsEligible (table : Table) (s : StateValue) (app : AppId) (node : Nod
   pub allowed : IsAllowedAt table s (key_at app node inc)
   pub started : IsStartedAt s (key_at app node inc)
 
--- the same, as a test
+-- `IsEligible` as a test
 abbrev pub is_eligible : Table → StateValue → AppId → NodeId → Bool
 is_eligible table s app node =
     is_some (group_of table app node)
@@ -82,13 +82,13 @@ is_eligible table s app node =
 abbrev pub EachEligible : Table → StateValue → AppId → (NodeId → Type 0) → Type 0
 EachEligible table s app P = (node : NodeId) → node.0 < node_count table → IsEligible table s app node → P node
 
--- ---- who runs it
+-- ---- holders and runners
 
 -- the holder of an application: the origin of its greatest claim
 abbrev pub holder_of : StateValue → AppId → Option Origin
 holder_of s app = option_map (λ (claim : Claim). claim.origin) (map.get s.claims app)
 
--- the same, in words: this incarnation made the greatest claim of the application, whether it is live or not
+-- this incarnation made the greatest claim of the application, whether it is live or not
 pub record IsHolder (s : StateValue) (app : AppId) (o : Origin) : Type 0 where
   pub claim : Claim
   pub greatest : map.get s.claims app ≡ Some claim
@@ -98,7 +98,7 @@ pub record IsHolder (s : StateValue) (app : AppId) (o : Origin) : Type 0 where
 abbrev pub IsUp : StateValue → Origin → Type 0
 IsUp s o = IsLive s.lives o.node o.inc
 
--- the same, as a test
+-- `IsUp` as a test
 abbrev pub is_up : StateValue → Origin → Bool
 is_up s o = option_map_or (λ inc. inc == o.inc) (live_at s.lives o.node) false
 
@@ -109,12 +109,12 @@ pub record RunsAt (table : Table) (s : StateValue) (app : AppId) (node : NodeId)
   pub up : IsLive s.lives node inc
   pub eligible : IsEligible table s app node
 
--- the same, as a test
+-- `RunsAt` as a test
 abbrev pub runs_at : Table → StateValue → AppId → NodeId → Bool
 runs_at table s app node = option_map_or (λ (o : Origin). (o.node.0 == node.0) && is_up s o) (holder_of s app) false
     && is_eligible table s app node
 
--- the node at which the application runs, if it runs at any: its holder's, where it runs there
+-- the node at which the application runs, if any: its holder's, if it runs there
 abbrev pub runner_of : Table → StateValue → AppId → Option NodeId
 runner_of table s app = option_and_then (λ (o : Origin). if runs_at table s app o.node then Some o.node else None) (holder_of s app)
 
@@ -126,18 +126,17 @@ apps_of table = list_map (λ n. record { 0 = n }) (range_with_len 0 (app_count t
 abbrev pub load_of : Table → StateValue → AppId → NodeId → ℕ
 load_of table s app node = length (filter (λ other. not (other.0 == app.0) && runs_at table s other node) (apps_of table))
 
--- the application is one of these
+-- the list contains the application
 abbrev pub IsOneOf : AppId → List AppId → Type 0
 IsOneOf app [] = ⊥
 IsOneOf app (a ∷ apps) = (a ≡ app) ⊎ IsOneOf app apps
 
--- none stands there twice
+-- the list contains no application twice
 abbrev pub AreDistinct : List AppId → Type 0
 AreDistinct [] = Unit {0}
 AreDistinct (a ∷ apps) = ¬ IsOneOf a apps × AreDistinct apps
 
--- n is the load in words: there are so many applications of the configuration, other than this one, that
--- run at the node
+-- n is the load: the number of other applications of the configuration that run at the node
 pub record IsLoad (table : Table) (s : StateValue) (app : AppId) (node : NodeId) (n : ℕ) : Type 0 where
   pub apps : List AppId
   pub distinct : AreDistinct apps
@@ -145,7 +144,7 @@ pub record IsLoad (table : Table) (s : StateValue) (app : AppId) (node : NodeId)
       → IsOneOf other apps ↔ ((other.0 < app_count table) × ¬ (other ≡ app) × RunsAt table s other node)
   pub count : n ≡ length apps
 
--- ---- who is first
+-- ---- the first choice
 
 -- m's group is earlier in the application's list than n's; a node outside the list has none
 pub record IsEarlier (table : Table) (app : AppId) (m n : NodeId) : Type 0 where
@@ -155,17 +154,17 @@ pub record IsEarlier (table : Table) (app : AppId) (m n : NodeId) : Type 0 where
   pub second : group_of table app n ≡ Some late
   pub less : early < late
 
--- the group that is there comes before the other that is there
+-- both groups exist, and the first is earlier
 abbrev pub is_less : Option ℕ → Option ℕ → Bool
 is_less (Some early) (Some late) = nat_lt early late
 is_less None late = false
 is_less (Some early) None = false
 
--- m's group is earlier in the application's list than n's, as a test
+-- `IsEarlier` as a test
 abbrev pub is_earlier : Table → AppId → NodeId → NodeId → Bool
 is_earlier table app m n = is_less (group_of table app m) (group_of table app n)
 
--- n has less load than m, or the same and no later name
+-- n has a smaller load than m, or an equal load and no later name
 pub record IsPreferred (table : Table) (s : StateValue) (app : AppId) (n m : NodeId) : Type 0 where
   pub load : ℕ
   pub other : ℕ
@@ -173,9 +172,9 @@ pub record IsPreferred (table : Table) (s : StateValue) (app : AppId) (n m : Nod
   pub of_m : IsLoad table s app m other
   pub less : (load < other) ⊎ ((load ≡ other) × (n.0 ≤ m.0))
 
--- The first choice is an eligible node. No eligible node is of an earlier group, and of its own group it is preferred
--- to each. (OTP: within a tuple, the node with the fewest applications. That a tie goes by name is this project's
--- own.)
+-- The first choice is an eligible node such that no eligible node is in an earlier group, and that is preferred to each
+-- of its own group. (OTP: within a tuple, the node with the fewest applications. That a tie goes by name is this
+-- project's own rule.)
 pub record IsFirst (table : Table) (s : StateValue) (app : AppId) (n : NodeId) : Type 0 where
   pub node : n.0 < node_count table
   pub eligible : IsEligible table s app n
@@ -183,7 +182,7 @@ pub record IsFirst (table : Table) (s : StateValue) (app : AppId) (n : NodeId) :
   pub preferred : EachEligible table s app
       (λ m. group_of table app m ≡ group_of table app n → IsPreferred table s app n m)
 
--- where an eligible node stands: by group, by load, and by name
+-- the rank of an eligible node: group, load and name
 abbrev pub rank_of : Table → StateValue → AppId → NodeId → Option Rank
 rank_of table s app node =
     if is_eligible table s app node then option_map (λ group. record { group = group; load = load_of table s app node; node = node }) (group_of table app node)
@@ -200,7 +199,7 @@ first_choice table s app = option_map (λ (rank : Rank). rank.node)
 
 -- ---- the verdict
 
--- the application has a holder, of which P holds
+-- the application has a holder, and P holds of it
 abbrev pub HeldBy : StateValue → AppId → (Origin → Type 0) → Type 0
 HeldBy s app P = (o : Origin) × (holder_of s app ≡ Some o) × P o
 
@@ -208,8 +207,8 @@ HeldBy s app P = (o : Origin) × (holder_of s app ≡ Some o) × P o
 abbrev pub key_of : AppId → Origin → Key
 key_of app o = key_at app o.node o.inc
 
--- How an application stands at its holder, by what is the matter there first. It has no holder, its holder isn't
--- live, it was stopped there, or it isn't permitted there or its node is drained. Otherwise all is well.
+-- The standing of an application is the first of these that applies: it has no holder, its holder isn't live, it was
+-- stopped there, or it isn't allowed there. Otherwise the holder is upheld.
 abbrev pub IsStanding : Table → StateValue → AppId → Standing → Type 0
 IsStanding table s app Unclaimed = holder_of s app ≡ None
 IsStanding table s app Lost = HeldBy s app (λ o. ¬ IsUp s o)
@@ -218,9 +217,9 @@ IsStanding table s app Barred = HeldBy s app (λ o. IsUp s o × IsStartedAt s (k
 IsStanding table s app (Upheld n) =
     HeldBy s app (λ o. (o.node ≡ n) × IsUp s o × IsStartedAt s (key_of app o) × IsAllowedAt table s (key_of app o))
 
--- What is to become of the application. It is to be started, to fail over or to be moved at the first choice, where
--- there is one. A stopped one is left alone. Where all is well, it is taken over exactly where an eligible node's
--- group is earlier than the holder's.
+-- An application without a live and allowed holder is started, failed over or moved to the first choice, if there is
+-- one. A stopped one is left alone. An upheld one is taken over exactly when an eligible node's group is earlier than
+-- the holder's.
 abbrev pub IsVerdict : Table → StateValue → AppId → Verdict → Type 0
 IsVerdict table s app (Start n) = IsStanding table s app Unclaimed × IsFirst table s app n
 IsVerdict table s app (Failover n) = IsStanding table s app Lost × IsFirst table s app n
@@ -233,7 +232,7 @@ IsVerdict table s app (Kept n) =
 IsVerdict table s app Nobody = EachEligible table s app (λ _. ⊥)
     × (IsStanding table s app Unclaimed ⊎ (IsStanding table s app Lost ⊎ IsStanding table s app Barred))
 
--- how the application stands at this holder
+-- the standing at this holder
 abbrev pub standing_at : Table → StateValue → AppId → Origin → Standing
 standing_at table s app o =
     if not (is_up s o) then Lost
@@ -241,11 +240,11 @@ standing_at table s app o =
     else if not (is_allowed_at table s (key_of app o)) then Barred
     else Upheld o.node
 
--- how the application stands, by its holder if it has one
+-- the standing of the application, at its holder if it has one
 abbrev pub standing_of : Table → StateValue → AppId → Standing
 standing_of table s app = option_map_or (standing_at table s app) (holder_of s app) Unclaimed
 
--- the verdict, where the application stands so and this is the first choice
+-- the verdict, given the standing and the first choice
 abbrev pub verdict_by : Table → AppId → Standing → Option NodeId → Verdict
 verdict_by table app (Stopped holder) first = Halted holder
 verdict_by table app (Upheld holder) None = Kept holder
@@ -257,11 +256,11 @@ verdict_by table app Unclaimed None = Nobody
 verdict_by table app Lost None = Nobody
 verdict_by table app Barred None = Nobody
 
--- what is to become of the application
+-- the verdict of the application
 abbrev pub verdict_of : Table → StateValue → AppId → Verdict
 verdict_of table s app = verdict_by table app (standing_of table s app) (first_choice table s app)
 
--- the node that is to claim the application
+-- the node that should claim the application
 abbrev pub candidate_of : Verdict → Option NodeId
 candidate_of (Start n) = Some n
 candidate_of (Failover n) = Some n

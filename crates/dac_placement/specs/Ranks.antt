@@ -1,5 +1,5 @@
--- Where a node stands among those that may run an application: by its group, then by its load, then by its name. In
--- this order only equal ranks tie.
+-- The rank of an eligible node for an application: by its group, then by its load, then by its name, so that only equal
+-- ranks tie.
 use Rattle.std.specs.Ordering.{nat_cmp, ordering_then}
 use Rattle.std.specs.declared.cmp.Ordering.{Ordering}
 use Rattle.dac_base.specs.Ids.{node_cmp}

@@ -11,10 +11,10 @@ use dac_base::{AppId, NodeId};
 use dac_config::Config;
 use dac_state::State;
 
-/// What is to become of an application, after OTP's Design Principles, chapter Distributed Applications. It is
-/// started at the first node of its list that is eligible. It fails over when its node goes down, stays stopped where
-/// it was stopped, and is moved when it isn't permitted any more. It is taken over by an earlier group, but never
-/// within a tuple. It takes no memory. (A failover has its wait, which is no part of the verdict.)
+/// The verdict of an application, after OTP's Design Principles, chapter Distributed Applications. An application is
+/// started at the first eligible node of its list, fails over when its node goes down, stays stopped where it was
+/// stopped, and is moved when it is no longer permitted. An earlier group takes it over, but never a node of the same
+/// tuple. (A failover also waits, which is no part of the verdict.)
 pub fn verdict(config: &Config, state: &State, app: AppId) -> Verdict
     requires { app.0 < app_count config.now }
     ensures value { result ≡ verdict_of config.now state.now app }
@@ -28,7 +28,7 @@ pub fn verdict(config: &Config, state: &State, app: AppId) -> Verdict
     verdict_by(config, app, standing, first)
 }
 
-/// The verdict, where the application stands so and no load is asked for it.
+/// The verdict if the standing alone, or with the groups, decides it, so that no load is computed.
 fn early_verdict(config: &Config, state: &State, app: AppId, standing: Standing) -> Option<Verdict>
     requires { app.0 < app_count config.now }
     ensures { IfSome result (λ verdict. verdict
@@ -43,7 +43,7 @@ fn early_verdict(config: &Config, state: &State, app: AppId, standing: Standing)
     }
 }
 
-/// Whether an eligible node's group is earlier than that of the holder.
+/// Whether an eligible node is in an earlier group than the holder.
 fn has_earlier(config: &Config, state: &State, app: AppId, holder: NodeId) -> bool
     requires { app.0 < app_count config.now }
     ensures { result ≡ false
@@ -55,7 +55,7 @@ fn has_earlier(config: &Config, state: &State, app: AppId, holder: NodeId) -> bo
     }
 }
 
-/// Whether an eligible node's group is earlier than this one. No group is earlier than the first one.
+/// Whether an eligible node is in a group before `late`. No group is earlier than group 0.
 fn has_before(config: &Config, state: &State, app: AppId, late: u16) -> bool
     requires { app.0 < app_count config.now }
     ensures { result ≡ false
@@ -73,7 +73,7 @@ fn has_before(config: &Config, state: &State, app: AppId, late: u16) -> bool
     false
 }
 
-/// Whether a node is eligible and its group is earlier than this one.
+/// Whether a node is eligible and in a group before `late`.
 fn comes_before(config: &Config, state: &State, app: AppId, node: NodeId, late: u16) -> bool
     requires { app.0 < app_count config.now }
     ensures { result
@@ -86,7 +86,7 @@ fn comes_before(config: &Config, state: &State, app: AppId, node: NodeId, late: 
     }
 }
 
-/// The verdict, where the application stands so and this is the first choice for it. It takes no memory.
+/// The verdict, given the standing and the first choice.
 pub fn verdict_by(config: &Config, app: AppId, standing: Standing, first: Option<NodeId>) -> Verdict
     requires { app.0 < app_count config.now }
     ensures { result ≡ verdict_by config.now app standing first }
@@ -102,7 +102,7 @@ pub fn verdict_by(config: &Config, app: AppId, standing: Standing, first: Option
     }
 }
 
-/// The verdict, where all is well at the holder and this is the first choice.
+/// The verdict if the holder is upheld and `first` is the first choice.
 fn upheld(config: &Config, app: AppId, holder: NodeId, first: NodeId) -> Verdict
     requires { app.0 < app_count config.now }
     ensures { result ≡ verdict_by config.now app (Standing.Upheld holder) (Some first) }
@@ -114,8 +114,8 @@ fn upheld(config: &Config, app: AppId, holder: NodeId, first: NodeId) -> Verdict
     }
 }
 
-/// Whether a node's group is earlier in the application's list than another node's. A node outside the list has no
-/// group. It takes no memory. (A tuple in the list of OTP's `distributed` is one group.)
+/// Whether `node` is in an earlier group of the application's list than `other`. A node outside the list has no group.
+/// (A tuple in the list of OTP's `distributed` is one group.)
 pub fn is_earlier(config: &Config, app: AppId, node: NodeId, other: NodeId) -> bool
     requires { app.0 < app_count config.now }
     ensures value { result ≡ is_earlier config.now app node other }

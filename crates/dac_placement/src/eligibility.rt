@@ -1,4 +1,4 @@
-//! Who may run an application.
+//! Eligibility: which nodes can run an application.
 ghost use Rattle.std.specs.Prelude.{◌≡◌, ◌↔◌, ◌<◌, ◌&&◌, IsTrue};
 ghost use Rattle.dac_config.specs.Table.{app_count};
 ghost use Rattle.dac_placement.specs.Placement.{IsEligible, is_eligible, IsPermittedAt, is_permitted_at, IsDrainedAt, is_drained_at, IsAllowedAt, is_allowed_at, IsStartedAt, is_started_at};
@@ -7,9 +7,9 @@ use dac_base::{AppId, NodeId};
 use dac_config::Config;
 use dac_state::{Key, State};
 
-/// Whether a node may run an application. The application's list names it, and it is live at an incarnation that isn't
-/// drained, and at which the application is permitted and started. After OTP's kernel manual, parameters `distributed` and `permissions`,
-/// and application(3), `permit` and `start`. It takes no memory.
+/// Whether a node is eligible for an application: the application's list names it, and it is live at an incarnation
+/// that isn't drained, and at which the application is permitted and started. After OTP's kernel manual, parameters
+/// `distributed` and `permissions`, and application(3), `permit` and `start`.
 pub fn eligible(config: &Config, state: &State, app: AppId, node: NodeId) -> bool
     requires { app.0 < app_count config.now }
     ensures value { result ≡ is_eligible config.now state.now app node }
@@ -36,7 +36,6 @@ fn is_wanted(config: &Config, state: &State, key: Key) -> bool
 }
 
 /// Whether the application is allowed at this incarnation: it is permitted there, and the incarnation isn't drained.
-/// It takes no memory.
 pub fn is_allowed(config: &Config, state: &State, key: Key) -> bool
     requires { key.app.0 < app_count config.now }
     ensures value { result ≡ is_allowed_at config.now state.now key }
@@ -45,7 +44,7 @@ pub fn is_allowed(config: &Config, state: &State, key: Key) -> bool
     is_permitted(config, state, key) && !is_drained(state, key.node, key.inc)
 }
 
-/// Whether an incarnation of a node is drained: some drain of it stands that says so. It takes no memory.
+/// Whether a standing drain drains this incarnation of a node.
 pub fn is_drained(state: &State, node: NodeId, inc: u64) -> bool
     ensures value { result ≡ is_drained_at state.now node inc }
     ensures cases { IsTrue result ↔ IsDrainedAt state.now node inc }
@@ -53,8 +52,8 @@ pub fn is_drained(state: &State, node: NodeId, inc: u64) -> bool
     state.drains().drained(node, inc)
 }
 
-/// Whether the application is permitted at this incarnation: by the permits that stand there, and by the configuration
-/// where there is none. It takes no memory.
+/// Whether the application is permitted at this incarnation: by the permits that stand there, or by the configuration
+/// if there is none.
 pub fn is_permitted(config: &Config, state: &State, key: Key) -> bool
     requires { key.app.0 < app_count config.now }
     ensures value { result ≡ is_permitted_at config.now state.now key }
@@ -64,7 +63,7 @@ pub fn is_permitted(config: &Config, state: &State, key: Key) -> bool
     state.permissions().permitted(key, default)
 }
 
-/// Whether a start of the application stands at this incarnation. It takes no memory.
+/// Whether a start of the application stands at this incarnation.
 pub fn is_started(state: &State, key: Key) -> bool
     ensures value { result ≡ is_started_at state.now key }
     ensures cases { IsTrue result ↔ IsStartedAt state.now key }

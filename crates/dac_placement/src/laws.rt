@@ -1,12 +1,12 @@
 //! The laws of placement, each as a clause of a function that does nothing.
 ghost use Rattle.dac_placement.specs.InWords.{CandidateInWords, EligibleInWords, FirstInWords, RestsInWords, RunnerInWords, RunsInWords, StandingInWords, StoppedStays, DrainedRunsNothing, FewestRun, FileCounts, FromLater, NoneBefore, VerdictInWords};
 
-/// Placement computes what it says in words, for every configuration and every state, also one that no operation
-/// made. The words say who is eligible, where an application runs, who is its first choice, and how it stands at its
-/// holder. They say what is to become of it, and when it is left alone. What was stopped at a live holder stays there,
-/// whatever else is the matter. A drained incarnation runs nothing. Last comes what an operator reads off the file: the
-/// permission there counts where no permit stands, and nobody of an earlier group is left waiting. What is taken over comes
-/// from a later group, and within a group it goes where the fewest run.
+/// Placement computes the definitions in words, for every configuration and every state, even one that no operation
+/// produced: eligibility, where an application runs, its first choice, standing and verdict, and when it is left alone.
+/// A stopped application stays at a live holder, and a drained incarnation runs nothing. The last clauses relate
+/// placement to the configuration file: its permission decides if no permit stands, no eligible node of an earlier
+/// group is passed over, a takeover comes from a later group, and within a group the node with the fewest applications
+/// is taken.
 pub fn placement_in_words()
     ensures eligible { EligibleInWords }
     ensures runs { RunsInWords }

@@ -1,4 +1,4 @@
-//! Who comes first by groups alone, before any load is asked for.
+//! The first node by groups alone, found before any load is computed.
 ghost use Rattle.std.specs.Prelude.{◌≡◌, ◌<◌};
 ghost use Rattle.dac_config.specs.Table.{app_count, node_count};
 ghost use Rattle.dac_placement.specs.Leads.{Leads, beside, group_if, lead_with};
@@ -8,18 +8,18 @@ use dac_base::{AppId, NodeId};
 use dac_config::Config;
 use dac_state::State;
 
-/// An eligible node, and no eligible node is of an earlier group.
+/// An eligible node such that no eligible node is in an earlier group.
 #[derive(Clone, Copy, Debug, PartialEq, Eq)]
 pub(crate) struct Lead {
     /// Its group in the application's list.
     pub group: u16,
-    /// The node, the first of its group by name.
+    /// The first eligible node in its group by name.
     pub node: NodeId,
-    /// Whether no other eligible node is of its group.
+    /// Whether no other eligible node is in its group.
     pub alone: bool,
 }
 
-/// Who leads the nodes that may run an application, if any node may.
+/// The lead among all nodes, if any is eligible for the application.
 pub(crate) fn leader(config: &Config, state: &State, app: AppId) -> Option<Lead>
     requires { app.0 < app_count config.now }
     ensures { Leads config.now state.now app (node_count config.now) result }
@@ -44,7 +44,7 @@ fn group_if(config: &Config, state: &State, app: AppId, node: NodeId) -> Option<
     config.group_of(app, node)
 }
 
-/// Who leads where a later node comes, whose group this is if it is eligible.
+/// The lead after a later node, whose group is given if it is eligible.
 fn lead_with(lead: Option<Lead>, group: Option<u16>, node: NodeId) -> Option<Lead>
     ensures { result ≡ lead_with lead group node }
 {
@@ -59,7 +59,7 @@ fn lead_with(lead: Option<Lead>, group: Option<u16>, node: NodeId) -> Option<Lea
     }
 }
 
-/// Who leads where a later node of this group comes.
+/// The lead after a later node of this group.
 fn beside(lead: Lead, group: u16, node: NodeId) -> Lead
     ensures { result ≡ beside lead group node }
 {

@@ -1,14 +1,14 @@
-//! Where each application belongs: pure functions of a configuration and a state, which take no memory.
+//! Placement: where each application runs and where it belongs, as pure functions of a configuration and a state.
+//! Nothing here allocates.
 //!
-//! A node is eligible for an application on two conditions. The application's list names the node, and the node is
-//! live at an incarnation that isn't drained, at which the application is permitted and started. The greatest claim
-//! says who holds an application; it runs where its holder is live and eligible. The verdict compares who holds it
-//! with who is its first choice. It is to be started, to fail over, to be moved or to be taken over there, or it is
-//! left where it is.
-//! So controllers that heard the same operations give the same verdicts.
+//! A node is eligible for an application if the application's list names it, and it is live at an incarnation that
+//! isn't drained and at which the application is permitted and started. The greatest claim determines the holder; the
+//! application runs at its holder if that incarnation is live and eligible. The verdict compares the holder with the
+//! first choice: start, fail over, move or take over there, or leave the application alone. So controllers that heard
+//! the same operations compute the same verdicts.
 //!
-//! Every answer holds for any state, also one that no operation made. A verdict goes through all nodes. Only where
-//! two eligible nodes share the first group does it go, for each eligible node, through all applications. Both are few.
+//! Every result holds for any state, even one that no operation produced. A verdict loops over all nodes. Only if two
+//! eligible nodes share the first group does it also loop over all applications for each eligible node of that group.
 #![tactic(auto)]
 
 mod deciding;

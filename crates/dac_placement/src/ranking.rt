@@ -1,4 +1,4 @@
-//! Who is the first choice for an application.
+//! The first choice for an application.
 ghost use Rattle.std.specs.Prelude.{◌≡◌, ◌<◌};
 ghost use Rattle.std.specs.Ordering.{ord_min};
 ghost use Rattle.dac_lattice.specs.Lattices.{join_options};
@@ -14,19 +14,19 @@ use dac_base::{AppId, NodeId};
 use dac_config::Config;
 use dac_state::State;
 
-/// Where a node stands among those that may run an application. The fields stand in the order in which they
-/// decide, and the least rank comes first.
+/// The rank of an eligible node for an application. The fields are in the order in which they decide, and the least
+/// rank wins.
 #[derive(Clone, Copy, Debug, PartialEq, Eq, PartialOrd, Ord)]
 pub struct Rank {
-    /// Its group in the application's list.
+    /// The node's group in the application's list, from 0.
     pub group: u16,
-    /// How many other applications run there.
+    /// How many other applications run at the node.
     pub load: u32,
-    /// Its number, which goes by its name in byte order.
+    /// The node's number; numbers are in byte order of names.
     pub node: NodeId,
 }
 
-/// The first choice for an application, if any node is eligible. No load is asked for where one node leads alone.
+/// The first choice for an application, if any node is eligible. If one node leads alone, no load is computed.
 pub(crate) fn first_choice(config: &Config, state: &State, app: AppId) -> Option<NodeId>
     requires { app.0 < app_count config.now }
     ensures { result ≡ first_choice config.now state.now app }
@@ -39,7 +39,7 @@ pub(crate) fn first_choice(config: &Config, state: &State, app: AppId) -> Option
     }
 }
 
-/// The node of the least rank, which is of the leading group. No load is asked for in the groups after it.
+/// The node of the least rank, which is in the leading group, so that no load is computed in later groups.
 fn least_ranked(config: &Config, state: &State, app: AppId, lead: Lead) -> Option<NodeId>
     requires app { app.0 < app_count config.now }
     requires leads { IsLead config.now state.now app (node_count config.now) lead }
@@ -54,7 +54,7 @@ fn least_ranked(config: &Config, state: &State, app: AppId, lead: Lead) -> Optio
     Some(first.node)
 }
 
-/// The rank of a node, if it is of this group and eligible. The group is asked for first, since that costs least.
+/// The rank of a node, if it is in this group and eligible. The group is compared first because that is cheapest.
 fn rank_in(config: &Config, state: &State, app: AppId, group: u16, node: NodeId) -> Option<Rank>
     requires { app.0 < app_count config.now }
     ensures { result ≡ rank_in config.now state.now app group node }
@@ -67,7 +67,7 @@ fn rank_in(config: &Config, state: &State, app: AppId, group: u16, node: NodeId)
     Some(Rank { group, load, node })
 }
 
-/// The lesser rank, where there are two. It takes no memory.
+/// The lesser of two ranks, or the only one.
 pub fn lesser(first: Option<Rank>, other: Option<Rank>) -> Option<Rank>
     ensures { result ≡ join_options (ord_min rank_cmp) first other }
 {

@@ -1,4 +1,4 @@
-//! Who holds an application, and where it runs.
+//! The holder of an application, and where it runs.
 ghost use Rattle.std.specs.Prelude.{◌≡◌, ◌↔◌, ◌<◌, IsTrue, Some};
 ghost use Rattle.dac_base.specs.declared.NodeId.{NodeId as Node};
 ghost use Rattle.dac_origins.specs.declared.dot.Origin.{Origin as Incarnation};
@@ -11,13 +11,11 @@ use dac_config::Config;
 use dac_origins::Origin;
 use dac_state::State;
 
-/// How many other applications run at a node. An application runs at a node where its greatest claim is of the node's
-/// live incarnation and the node is eligible for it. Claims of who went down don't count. After OTP's Design
+/// How many other applications run at a node. Claims of an incarnation that is down don't count. After OTP's Design
 /// Principles, chapter Distributed Applications: of a tuple's nodes, the one with the fewest applications is taken.
-/// It takes no memory.
 pub fn load(config: &Config, state: &State, app: AppId, node: NodeId) -> u32
     ensures value { result ≡ load_of config.now state.now app node }
-    // so many others run there
+    // agrees with the load in words
     ensures words { IsLoad config.now state.now app node result }
 {
     let mut load = 0;
@@ -32,7 +30,6 @@ pub fn load(config: &Config, state: &State, app: AppId, node: NodeId) -> u32
 }
 
 /// Whether an application runs at a node: the node's live incarnation holds it, and the node is eligible for it.
-/// It takes no memory.
 pub fn runs_at(config: &Config, state: &State, app: AppId, node: NodeId) -> bool
     requires { app.0 < app_count config.now }
     ensures value { result ≡ runs_at config.now state.now app node }
@@ -46,7 +43,7 @@ pub fn runs_at(config: &Config, state: &State, app: AppId, node: NodeId) -> bool
     }
 }
 
-/// The node at which an application runs, if it runs at any: its holder's, where it runs there. It takes no memory.
+/// The node at which an application runs, if any: its holder's, if it runs there.
 pub fn runner(config: &Config, state: &State, app: AppId) -> Option<NodeId>
     requires { app.0 < app_count config.now }
     ensures value { result ≡ runner_of config.now state.now app }
@@ -60,8 +57,8 @@ pub fn runner(config: &Config, state: &State, app: AppId) -> Option<NodeId>
     }
 }
 
-/// Who holds an application: the origin of its greatest claim. In a state that no operation made, this may be
-/// no node of the configuration. It takes no memory.
+/// The holder of an application: the origin of its greatest claim. In a state that no operation produced, it can be a
+/// node outside the configuration.
 pub fn holder(state: &State, app: AppId) -> Option<Origin>
     ensures value { result ≡ holder_of state.now app }
     ensures cases { (origin : Incarnation)
@@ -71,7 +68,7 @@ pub fn holder(state: &State, app: AppId) -> Option<Origin>
     Some(claim.origin)
 }
 
-/// Whether an incarnation is live. It takes no memory.
+/// Whether an incarnation is live.
 pub fn is_up(state: &State, origin: Origin) -> bool
     ensures value { result ≡ is_up state.now origin }
     ensures cases { IsTrue result ↔ IsUp state.now origin }

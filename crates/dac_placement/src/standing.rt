@@ -1,4 +1,4 @@
-//! How an application stands at its holder.
+//! The standing of an application at its holder.
 ghost use Rattle.std.specs.Prelude.{◌≡◌, ◌<◌};
 ghost use Rattle.dac_config.specs.Table.{app_count};
 ghost use Rattle.dac_placement.specs.Placement.{standing_of};
@@ -9,22 +9,22 @@ use dac_base::{AppId, NodeId};
 use dac_config::Config;
 use dac_state::{Key, State};
 
-/// The first thing wrong at the holder, if any.
+/// The first problem at the holder, if any.
 #[derive(Clone, Copy, Debug, PartialEq, Eq)]
 pub enum Standing {
-    /// It has no holder.
+    /// The application has no holder.
     Unclaimed,
-    /// Its holder's incarnation isn't live.
+    /// The holder's incarnation isn't live.
     Lost,
-    /// It was stopped at this node, its holder.
+    /// The application was stopped at this node, its holder.
     Stopped(NodeId),
-    /// It isn't permitted at its holder, or that one is drained.
+    /// The application isn't permitted at its holder, or the holder is drained.
     Barred,
-    /// All is well at this node, its holder.
+    /// There is no problem at this node, the holder.
     Upheld(NodeId),
 }
 
-/// How an application stands at its holder. It takes no memory.
+/// The standing of an application at its holder.
 pub fn standing_of(config: &Config, state: &State, app: AppId) -> Standing
     requires { app.0 < app_count config.now }
     ensures { result ≡ standing_of config.now state.now app }

@@ -1,30 +1,30 @@
-//! What is to become of an application.
+//! Verdicts.
 ghost use Rattle.std.specs.Prelude.{◌≡◌};
 ghost use Rattle.dac_placement.specs.Placement.{candidate_of};
 
 use dac_base::NodeId;
 
-/// What is to become of an application. The words are those of OTP's distributed applications.
+/// The placement decision for an application, in the words of OTP's distributed applications.
 #[derive(Clone, Copy, Debug, PartialEq, Eq, Hash)]
 pub enum Verdict {
-    /// Nobody holds it: it is to be started at this node.
+    /// Nobody holds it: this node should start it.
     Start(NodeId),
-    /// Who held it went down: it is to be restarted at this node.
+    /// Its holder went down: this node should restart it.
     Failover(NodeId),
-    /// It was stopped at this node, which holds it, and stays stopped.
+    /// It was stopped at this node, its holder, and stays stopped.
     Halted(NodeId),
-    /// It isn't permitted any more where it is held: it is to be moved to this node.
+    /// It is no longer permitted at its holder, or that one is drained: it should move to this node.
     Move(NodeId),
-    /// This node, of an earlier group than the holder's, is to take it over.
+    /// This node, of an earlier group than the holder's, should take it over.
     Takeover(NodeId),
-    /// It stays at this node, which holds it.
+    /// It stays at this node, its holder.
     Kept(NodeId),
-    /// It is to be started, restarted or moved, and no node is eligible.
+    /// It should be started, restarted or moved, but no node is eligible.
     Nobody,
 }
 
 impl Verdict {
-    /// The node that is to claim the application, if one is.
+    /// The node that should claim the application, if any.
     pub fn candidate(&self) -> Option<NodeId>
         ensures { result ≡ candidate_of self.now }
     {

@@ -1,15 +1,15 @@
--- The digits of bytes, read off a table.
+-- Hexadecimal digits of bytes, from a table.
 use Rattle.std.proofs.Common.{◌≡◌, ◌∙◌, ℕ, ◌+◌, ◌-◌, ◌*◌, ◌/◌, ◌%◌, ◌<◌, ◌≤◌, ◌==◌, Bool, true, ◌&&◌, List, [], ◌∷◌, ◌++◌, length, take, drop, replicate, slice_index, zero, suc, inl, inr, sym, ap, arith, append-nil}
 use Rattle.std.proofs.lemmas.Bool.{and_parts, cases_lt, eqb-true}
 use Rattle.std.proofs.lemmas.List.{drop_all, drop-replicate, length-append, take_all, take-append-drop, take-append-le}
 use Rattle.hex.specs.Hex.{encode_lower, encode_with, lower_digits}
 use Rattle.hex.proofs.HexLemmas.{length-encode_with}
 
--- the digits of a byte stand at its place
+-- the digits of a byte are at its place in the table
 abbrev has_pair : List ℕ → ℕ → Bool
 has_pair table byte = (slice_index table (2 * byte) == slice_index lower_digits (byte / 16)) && (slice_index table (2 * byte + 1) == slice_index lower_digits (byte % 16))
 
--- those of the first n bytes do
+-- the table is right for the first n bytes
 abbrev pub has_pairs : List ℕ → ℕ → Bool
 has_pairs table zero = true
 has_pairs table (suc n) = has_pair table n && has_pairs table n
@@ -30,7 +30,7 @@ pair_at table (suc n) byte has lt =
           rw is (record { high = eqb-true _ _ both.0; low = eqb-true _ _ both.1 })
     ]
 
--- all bytes are written
+-- after the loop all bytes are written
 pub all_written : (bytes line before : List ℕ) (at : ℕ) → length bytes ≤ at → at ≤ length bytes → take (2 * at) line ++ encode_lower (drop at bytes) ≡ encode_lower bytes
     → drop (2 * length bytes) line ≡ drop (2 * length bytes) before → line ≡ encode_lower bytes ++ drop (2 * length bytes) before
 unfolding encode_with
@@ -40,7 +40,7 @@ all_written bytes line before at over up_to written rest =
     sym (append-nil (take (2 * length bytes) line)) ∙ sym (ap (λ n. take (2 * n) line ++ []) all) ∙ sym (ap (λ bs. take (2 * at) line ++ encode_lower bs) (drop_all at bytes over)) ∙ written in
     sym (take-append-drop (2 * length bytes) line) ∙ ap (λ front. front ++ drop (2 * length bytes) line) front ∙ ap (λ back. encode_lower bytes ++ back) rest
 
--- the line of them, where it was full of line feeds before
+-- the whole line, which was full of line feeds before
 pub line_is : (bytes items new : List ℕ) (len : ℕ) → len ≡ 2 * length bytes + 1 → items ≡ replicate (2 * length bytes + 1) 10 → new ≡ encode_lower bytes ++ drop (2 * length bytes) items
     → take len (new ++ drop (length new) items) ≡ encode_lower bytes ++ 10 ∷ []
 line_is bytes items new len is all written =

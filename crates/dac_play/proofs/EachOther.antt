@@ -1,4 +1,4 @@
--- The pairs of nodes tell each other: each that runs each other one that runs, in their order.
+-- The pairs of an anti-entropy round: every two running nodes, in order.
 use Rattle.std.proofs.Common.{◌≡◌, ℕ, zero, suc, ◌+◌, ◌<◌, ◌≤◌, Bool, true, false, cond, List, [], ◌∷◌, ◌++◌, map, refl, sym, ap, subst, ◌∙◌, arith, inl, inr, eqb}
 use Rattle.std.specs.Prelude.{◌≢◌, ◌⊎◌, filter, flat_map, not, ◌==◌}
 use Rattle.std.specs.List.{AllByRecursion, range_with_len}
@@ -21,7 +21,7 @@ In-append x [] ys h = inr h
 In-append x (y ∷ xs) ys (inl e) = inl (inl e)
 In-append x (y ∷ xs) ys (inr h) = elim (In-append x xs ys h) [ inl a ↦ inl (inr a) | inr b ↦ inr b ]
 
--- what holds of each holds of one
+-- a property of all items is one of each
 of_one : {X : Type 0} (P : X → Type 0) (x : X) (xs : List X) → AllByRecursion P xs → IsListed x xs → P x
 of_one P x [] all h = absurd h
 of_one P x (y ∷ xs) all (inl e) = subst P (sym e) all.0
@@ -38,7 +38,7 @@ IsOrdered-append Before (x ∷ xs) ys o p f = (
   IsOrdered-append Before xs ys o.1 p (λ z y h k. f z y (inr h) k),
 )
 
--- ---- what passes a test
+-- ---- filtered lists
 passes_cons : {X : Type 0} (test : X → Bool) (b : Bool) (x y : X) (xs : List X) → test x ≡ b → (IsListed y (filter test xs) → IsListed y xs × (test y ≡ true)) → IsListed y (cond b (x ∷ filter test xs) (filter test xs)) → IsListed y (x ∷ xs) × (test y ≡ true)
 passes_cons test true x y xs is rest (inl e) = (inl e, ap test e ∙ is)
 passes_cons test true x y xs is rest (inr h) = let r = rest h in (inr r.0, r.1)
@@ -131,7 +131,7 @@ module _ (nodes : List NodeId) where
       let later = of_one (IsLess from) q.0 froms o.0 (of_pairs q.0 q.1 froms k).0 in
       inl (subst (λ (n : NodeId). n.0 < q.0.0) (sym one.0) later))
 
--- ---- the nodes of the first so many numbers that pass a test
+-- ---- running nodes by number
 module _ (runs : NodeId → Bool) where
   abbrev numbers_from : ℕ → ℕ → List NodeId
   numbers_from a n = map (λ (k : ℕ). record { 0 = k }) (range_with_len a n)
@@ -154,7 +154,7 @@ module _ (runs : NodeId → Bool) where
   numbers_ordered a (suc n) =
       (of_each (IsLess (record { 0 = a })) (numbers_from (a + 1) n) (λ node h. omega (arith, (in_numbers (a + 1) n node h).0)), numbers_ordered (a + 1) n)
 
-  -- of the nodes of the first so many numbers, those that run tell each other
+  -- the running nodes below count ship to each other
   pub tell_each_other : (count : ℕ) → TellsEachOther (λ node. (node.0 < count) × (runs node ≡ true)) (pairs (filter runs (numbers_from 0 count)))
   tell_each_other count =
       let nodes = filter runs (numbers_from 0 count) in

@@ -39,14 +39,14 @@ event_plays table old new event answer counts text follows enough operations mes
       p.1.0;
 }
 
--- the same where memory may be refused
+-- an event whose lines need an allocation that can fail
 pub event_plays_if : {X E : Type 0} (items : X → List ℕ) (r : Result X E) (table : Table) (old new : WorldValue) (event : WorldEvent) (answer : Result Reply WorldFault) (counts : Counts) → Follows table old (λ w. happens table w event) answer new
     → counts.operations ≡ length new.operations → counts.messages ≡ length new.messages → IfOk r (λ x. items x ≡ answer_text table event answer counts) → OnOk r (answer ≢ out_of_memory)
     → IfOk r (λ x. PlaysLine table old (says.Event event) (items x) new)
 event_plays_if items (Ok x) table old new event answer counts follows operations messages is_text enough = event_plays table old new event answer counts (items x) follows enough operations messages is_text
 event_plays_if items (Err e) table old new event answer counts follows operations messages is_text enough = tt
 
--- what holds of a write that was no error
+-- a fact about a write without error
 pub written : {T E : Type 0} (r : Result T E) (P : Type 0) → is_err r ≡ false → OnOk r P → P
 written (Ok x) P fine p = p
 written (Err e) P fine p = absurd (true≢false fine)
@@ -65,7 +65,7 @@ pub state_shown : (table : Table) (w : ModelWorld) (v : WorldValue) (node : Node
 state_shown table w v node shows lt = ap (option_and_then state_of) (node_shown table w v node shows lt) ∙ shown_state table (w.node node).last (w.node node).running
 
 -- ---- a whole script
--- the first i lines were played, and what they print was written
+-- the first i lines were played and their output written
 pub record IsPlayed (table : Table) (script : List ScriptLine) (i : ℕ) (v : WorldValue) (old new : Option (List ℕ)) : Type 0 where
   pub world : ModelWorld
   pub shows : Shows table world v

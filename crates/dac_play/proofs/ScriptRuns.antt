@@ -65,7 +65,7 @@ is_run t lines v shows =
     let ran = script_ran t lines v shows in
     record { ran = ran; converges = converged t (events_in t lines) (answers_in t lines) v ran; enough = is_enough t (start t) (events_in t lines) }
 
--- a share after these lines
+-- a share after these lines leaves the union
 share_unites : (t : Table) (lines : List ScriptLine) → ShareUnites t (world_from t (start t) lines) (set_run no_sets (events_in t lines) (answers_in t lines))
 share_unites t lines =
     subst (λ (w : ModelWorld). ShareUnites t w (set_run no_sets (events_in t lines) (answers_in t lines))) (lines_lead t (start t) lines)

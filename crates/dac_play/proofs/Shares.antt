@@ -1,4 +1,4 @@
--- What a share does, pair by pair.
+-- A share, pair by pair.
 use Rattle.std.proofs.Common.{◌≡◌, ℕ, ◌+◌, ◌<◌, ◌≤◌, Bool, true, false, cond, List, [], ◌∷◌, ◌++◌, length, get_or, take, zero, suc, Option, Some, None, Result, Ok, Err, refl, sym, ap, ap₂, subst, ◌∙◌, arith, ⊎_elim, add-one, append-nil, true≢false}
 use Rattle.std.specs.Prelude.{◌≢◌, fold, IfOk, OnOk}
 use Rattle.std.specs.Borrow.{Bor}
@@ -25,7 +25,7 @@ use Rattle.dac_play.proofs.EachOther.{tell_each_other}
 use Rattle.dac_play.proofs.Playing.{state_shown}
 
 -- ---- one event
--- what is told of an answer says whether there is a reply
+-- a result without its reply is Ok if and only if the result is
 tells_ok : (answer : Result Reply WorldFault) (told : Result (Unit {0}) WorldFault) → TellsFault answer told → is_ok told ≡ is_ok answer
 tells_ok answer (Ok done) is = sym is
 tells_ok answer (Err fault) is = sym (ap is_ok is)
@@ -34,7 +34,7 @@ abbrev without_reply : Result Reply WorldFault → Result (Unit {0}) WorldFault
 without_reply (Ok reply) = Ok tt
 without_reply (Err fault) = Err fault
 
--- where memory was refused, that is told
+-- a failed allocation is reported
 tells_lack : (answer : Result Reply WorldFault) (told : Result (Unit {0}) WorldFault) → TellsFault answer told → answer ≡ out_of_memory → told ≡ Err (Refused NoMemory)
 tells_lack answer (Ok done) is lacks = absurd (true≢false (sym is ∙ ap is_ok lacks))
 tells_lack answer (Err fault) is lacks = ap without_reply (sym is ∙ lacks)
@@ -48,7 +48,7 @@ accepts table old new event told passes enough = record {
       p.1.0;
 }
 
--- the same where memory may be refused
+-- an event that can fail for lack of memory
 pub accepts_if : {E : Type 0} (r : Result Bool E) (table : Table) (old new : WorldValue) (event : WorldEvent) (told : Result (Unit {0}) WorldFault) → Passes table old event told new → IfOk r (λ a. a ≡ is_ok told) → OnOk r (told ≢ Err (Refused NoMemory))
     → IfOk r (λ a. IsAnswered table old event a new)
 accepts_if (Ok a) table old new event told passes known enough = subst (λ b. IsAnswered table old event b new) (sym known) (accepts table old new event told passes enough)
@@ -82,7 +82,7 @@ share_more table old mid new all i pair d lt here before more = record {
       subst (λ x. Shows table x new) (sym more_is) (more.each (fold (after_telling table) w (take i all)) (before.each w shows));
 }
 
--- ---- who runs
+-- ---- running nodes
 pub is_some_copied : {X : Type 0} (o : Option (Bor X)) → is_some o ≡ is_some (option_copied o)
 is_some_copied None = refl
 is_some_copied (Some x) = refl
@@ -103,7 +103,7 @@ same_having f g (suc n) same =
     ∙ ap₂ (λ l b. l ++ cond b (numbered n ∷ []) []) (same_having f g n (λ k lt. same k (omega arith))) (ap is_some (same n (omega arith)))
     ∙ sym (having_more g n) ∙ ap (having_state g) (add-one n)
 
--- those that run in the program's world run in the model world
+-- the same nodes run in the program's world and in the model world
 runs_shown : (table : Table) (w : ModelWorld) (v : WorldValue) → Shows table w v → having_state (state_at v) (length v.nodes) ≡ having_state (state_in w) w.count
 runs_shown table w v shows = same_having (state_at v) (state_in w) (length v.nodes) (λ k lt. state_shown table w v (numbered k) shows lt) ∙ ap (having_state (state_in w)) shows.count
 
@@ -115,7 +115,7 @@ share_all table old new all i count le is_count is_all leads = record {
       subst (λ l. Shows table (fold (after_telling table) w l) new) (take_all i all le ∙ all_is) (leads.each w shows);
 }
 
--- the pairs are those of the nodes that run
+-- after the last pair the share is complete
 pub shares_all : (table : Table) (old new : WorldValue) (all : List (NodeId × NodeId)) (i count : ℕ) → length all ≤ i → length old.nodes ≡ count → all ≡ pairs (having_state (state_at old) count)
     → Leads table old (λ w. fold (after_telling table) w (take i all)) new → IsShared table old new
 shares_all table old new all i count le is_count is_all leads = record {

@@ -1,1 +1,1 @@
--- From what was read and played to what the input says.
+-- From the script read and played to the input.

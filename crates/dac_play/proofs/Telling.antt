@@ -1,5 +1,6 @@
--- A line `share` is a share, unless numbers are used up: each running node ships to each other one. A ship is refused as up to
--- date alone. What is shipped is delivered at once, and heard, since it is for the present incarnation.
+-- A line `share` is an anti-entropy round, unless dots are used up: every running node ships to every other one. A ship
+-- is refused only as up to date. Each message is delivered at once and accepted, because it's addressed to the
+-- receiver's present incarnation.
 use Rattle.std.proofs.Common.{◌≡◌, ◌⊎◌, ℕ, ◌+◌, ◌<◌, ◌≤◌, Bool, true, false, cond, List, [], ◌∷◌, ◌++◌, length, take, drop, suc, Option, Some, None, Result, Ok, Err, nat_eq, refl, sym, ap, subst, ◌∙◌, inl, inr, arith, ltb-true, ltb-false}
 use Rattle.std.specs.Prelude.{◌≢◌, nat_lt, is_some, IsTrue}
 use Rattle.std.specs.Option.{option_map}
@@ -69,7 +70,7 @@ Answer = Result Reply WorldFault
 none_some : {X : Type 0} {v : X} {Y : Type 0} → ◌≡◌ {A = Option X} None (Some v) → Y
 none_some e = cc
 
--- ---- lists of answers
+-- ---- lists of results
 answers_append : (t : Table) (w : ModelWorld) (es fs : List WorldEvent) → answers_of t w (es ++ fs) ≡ answers_of t w es ++ answers_of t (run_from t w es) fs
 answers_append t w [] fs = refl
 answers_append t w (e ∷ es) fs = ap (λ more. (happens t w e).answer ∷ more) (answers_append t (happens t w e).world es fs)
@@ -78,14 +79,14 @@ as_many : (t : Table) (w : ModelWorld) (es : List WorldEvent) → length es ≡ 
 as_many t w [] = refl
 as_many t w (e ∷ es) = ap (λ n. suc n) (as_many t (happens t w e).world es)
 
--- ---- how many messages there are
+-- ---- the number of messages
 as_many_copies : (ops : List Operation) (v : NodeId → Seen) (ms : List Message) (cs : List Copy) → CopiesOk ops v ms cs → length ms ≡ length cs
 as_many_copies ops v [] [] h = refl
 as_many_copies ops v [] (c ∷ cs) h = absurd h
 as_many_copies ops v (m ∷ ms) [] h = absurd h
 as_many_copies ops v (m ∷ ms) (c ∷ cs) h = ap (λ n. suc n) (as_many_copies ops v ms cs h.1)
 
--- ---- who runs
+-- ---- running nodes
 run_there : (w : ModelWorld) (s : SetWorld) (n : NodeId) → Sound w s → RunsIn s n → (r : ModelRunning) × ((w.node n).running ≡ Some r)
 run_there w s n h runs = by_run (w.node n).running refl ((h.nodes n).state ∙ ap (option_map state_by) runs.1)
   where
@@ -131,13 +132,13 @@ module _ (t : Table) (w : ModelWorld) (from to : NodeId) (r : ModelRunning) (on 
       subst IsUpOrShipped (sym is) (by_test b)
 
 -- ---- one pair, and all
--- what a share needs of a world: the two worlds go together, and so many nodes are in the configuration
+-- the share's requirement: the world and the world of sets correspond, and the configuration has this many nodes
 record Holds (t : Table) (w : ModelWorld) (s : SetWorld) : Type 0 where
   sound : Sound w s
   count : w.count ≡ node_count t
   inside : Inside w.count s
 
--- both run and are two nodes of the configuration
+-- two different nodes of the configuration, both running
 record IsPair (t : Table) (s : SetWorld) (pair : NodeId × NodeId) : Type 0 where
   from : RunsIn s pair.0
   to : RunsIn s pair.1
@@ -163,11 +164,11 @@ count_stays t w e = by_node (nat_lt e.node.0 w.count)
 holds_on : (t : Table) (w : ModelWorld) (s : SetWorld) (e : WorldEvent) → Holds t w s → Holds t (happens t w e).world (set_step s e.node e.what (happens t w e).answer)
 holds_on t w s e h = record { sound = sound_happens t w s e h.sound; count = count_stays t w e ∙ h.count; inside = inside_happens t w s h.inside e }
 
--- what one event unites
+-- the sets that one event unites
 unites_on : (t : Table) (w : ModelWorld) (s : SetWorld) (e : WorldEvent) → Sound w s → Unites s e.node e.what (happens t w e).answer
 unites_on t w s e h = (unite_run t w s (e ∷ []) (answers_of t w (e ∷ [])) (run_from t w (e ∷ [])) h (own_run t w (e ∷ []))).0
 
--- the acknowledgement from which a message goes on is of the incarnation that the sender knows
+-- the acknowledgement from which a message continues belongs to the incarnation that the sender knows
 only_for : (p : PeersValue) (s : StateValue) (base inc : ℕ) (to : NodeId) → ((life : Life) → map.get s.lives to ≡ Some life → life.inc ≡ inc) → option_map_or (λ only. nat_eq only inc) (option_map (λ (q : Position). q.inc) (begins p s base to)) true ≡ true
 only_for p s base inc to know = by_life (map.get s.lives to) refl
   where
@@ -183,7 +184,7 @@ only_for p s base inc to know = by_life (map.get s.lives to) refl
     by_life None e = refl
     by_life (Some life) e = by_number life (know life e) (map.get p.acked (record { node = to; inc = life.inc }))
 
--- who runs runs on once a message is heard
+-- a running node keeps running after a delivery
 runs_on : (s : SetWorld) (n : NodeId) (what : What) (fresh : Bool) (m : NodeId) → RunsIn s m → RunsIn (set_step s n what (Ok (Heard fresh))) m
 runs_on s n what fresh m runs = by_test (nat_eq m.0 n.0) refl
   where
@@ -195,7 +196,8 @@ runs_on s n what fresh m runs = by_test (nat_eq m.0 n.0) refl
     by_test true t = more (s.node n) (brought_to s n what) (runs.0, ap s.node (sym (λ i. record { 0 = exact_unsigned_eq m.0 n.0 t i })) ∙ runs.1)
     by_test false t = runs
 
--- In a share that begins in this world of sets each running node knows the present incarnation of each other one, or nothing of its life.
+-- In a share that begins in this world of sets, each running node knows the present incarnation of every other one or
+-- nothing of its life.
 module _ (t : Table) (begin : SetWorld) (present : (n m : NodeId) (mine theirs : NodeSet) → begin.node n ≡ Some mine → begin.node m ≡ Some theirs → (life : Life) → map.get (meaning_of mine.operations).lives m ≡ Some life → life.inc ≡ theirs.inc) where
   abbrev before : ℕ
   before = length begin.copies
@@ -203,7 +205,7 @@ module _ (t : Table) (begin : SetWorld) (present : (n m : NodeId) (mine theirs :
   abbrev IsMid : SetWorld → Type 0
   IsMid = Shared begin present
 
-  -- what a node knows of another one in the share is its present incarnation
+  -- a node's knowledge of another one during the share is of its present incarnation
   knows_now : (w : ModelWorld) (s : SetWorld) (from to : NodeId) (r : ModelRunning) (theirs : NodeSet) → Sound w s → IsMid s → (w.node from).running ≡ Some r → s.node to ≡ Some theirs → (life : Life) → map.get (joined r.log).lives to ≡ Some life → life.inc ≡ theirs.inc
   knows_now w s from to r theirs h mid on at life e = by_begin (begin.node to) refl
     where
@@ -216,7 +218,7 @@ module _ (t : Table) (begin : SetWorld) (present : (n m : NodeId) (mine theirs :
           ∙ sym kept.grows.same
           ∙ ap (λ (x : NodeSet). x.inc) (some_same kept.grows.now theirs (sym kept.grows.on ∙ at))
 
-  -- these events from this world on are in a share, and each of the pairs tells all in them
+  -- these events from this world belong to a share, and ship between each pair so that the receiver has it all
   record Shares (w : ModelWorld) (s : SetWorld) (all : List (NodeId × NodeId)) (es : List WorldEvent) (answers : List Answer) : Type 0 where
     fits : AreInShare before es answers
     tells : (pair : NodeId × NodeId) → IsListed pair all → TellsAll s pair.0 pair.1 es answers
@@ -234,7 +236,7 @@ module _ (t : Table) (begin : SetWorld) (present : (n m : NodeId) (mine theirs :
       by_test true e = absurd (apart (sym is ∙ sym (λ i. record { 0 = exact_unsigned_eq to.0 node.0 e i })))
       by_test false e = refl
 
-  -- the events of a pair and of those behind it, once the ship was answered so
+  -- the events of a pair after the ship's result, and those of the later pairs
   abbrev after_ship : NodeId × NodeId → List (NodeId × NodeId) → WorldStepped → List WorldEvent
   after_ship pair all by = deliveries pair.1 by ++ telling t (delivered t pair.1 by) all
 
@@ -242,7 +244,7 @@ module _ (t : Table) (begin : SetWorld) (present : (n m : NodeId) (mine theirs :
   TellingShares all = (w : ModelWorld) (s : SetWorld) → Holds t w s → IsMid s → ArePairs s all → before ≤ length s.copies → HaveNumbers (answers_of t w (telling t w all)) → Shares w s all (telling t w all) (answers_of t w (telling t w all))
 
   module _ (pair : NodeId × NodeId) (all : List (NodeId × NodeId)) (w : ModelWorld) (s : SetWorld) (h : Holds t w s) (mid : IsMid s) (are : ArePairs s (pair ∷ all)) (le : before ≤ length s.copies) (rest : TellingShares all) (r : ModelRunning) (on : (w.node pair.0).running ≡ Some r) where
-    -- what is shown, by how the ship was answered
+    -- the goal for each result of the ship
     abbrev Goal : WorldStepped → Type 0
     Goal by = Shares w s (pair ∷ all) (shipping pair ∷ after_ship pair all by) (by.answer ∷ answers_of t by.world (after_ship pair all by))
 
@@ -297,7 +299,7 @@ module _ (t : Table) (begin : SetWorld) (present : (n m : NodeId) (mine theirs :
       mid_shipped : IsMid shipped_sets
       mid_shipped = (next_event begin present s mid pair.0 (Ships pair.1) (Ok (Shipped m)) tt put).shared
 
-      -- the copy that is on its way is for the other node
+      -- the copy in flight is addressed to the other node
       abbrev copy : Copy
       copy = record { from = pair.0; to = pair.1; only = m.only; operations = from_here.0.operations }
 
@@ -357,7 +359,7 @@ module _ (t : Table) (begin : SetWorld) (present : (n m : NodeId) (mine theirs :
       (holds_on t w s (shipping pair) h) (unites_on t w s (shipping pair) h.sound) heard
 
 -- ---- the pairs of a share
--- a node beyond those of the configuration never runs
+-- a node beyond the configuration never runs
 never_runs : (t : Table) (n : NodeId) (es : List WorldEvent) (w : ModelWorld) → w.count ≤ n.0 → (w.node n).running ≡ None → ((run_from t w es).node n).running ≡ None
 never_runs t n [] w le off = off
 never_runs t n (e ∷ es) w le off = never_runs t n es (happens t w e).world (subst (λ c. c ≤ n.0) (sym (count_stays t w e)) le) (stays (nat_lt e.node.0 w.count) refl)

@@ -1,4 +1,4 @@
--- Why an input isn't checked, from what was read of it.
+-- Why an input isn't checked.
 use Rattle.std.proofs.Common.{◌≡◌, ℕ, List, Option, Err, sym, subst}
 use Rattle.std.specs.Prelude.{IfSome}
 use Rattle.std.proofs.lemmas.Option.{IfSome_then}
@@ -16,7 +16,7 @@ unchecked_by : (kind : FaultKind) (text : List ℕ) (fault : ConfigFault) → Is
 unchecked_by NoMemory text fault taken fails = tt
 unchecked_by _ text fault taken fails = (taken, fails)
 
--- an input that was read, and whose configuration has this fault, isn't checked for it
+-- an input whose configuration has this fault isn't checked
 pub config_unchecked : (had : Option (List ℕ)) (text : List ℕ) (fault : ConfigFault) (why : Failure) → IfSome had (λ bytes. text ≡ bytes) → IsTaken text → OrMemory fault.kind fault.at (config_at text ≡ Err fault) → why ≡ failure_of_kind fault.kind fault → IfSome had (λ bytes. IsUnchecked bytes why)
 config_unchecked had text fault why whole taken fails is_why =
     let unchecked : IsUnchecked text why = subst (IsUnchecked text) (sym is_why) (unchecked_by fault.kind text fault taken fails) in

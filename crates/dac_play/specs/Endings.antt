@@ -1,4 +1,4 @@
--- How a command of the program ends.
+-- The endings of a command.
 use Rattle.std.specs.Prelude.{◌≡◌, ℕ, List, Option, IfSome}
 use Rattle.std.specs.Io.KnownBytes.{Appends}
 use Rattle.dac_script.specs.declared.failure.Failure.{Failure}
@@ -14,28 +14,28 @@ status_of ending.Done = 0
 status_of (ending.Refused why) = 1
 status_of ending.Stopped = 1
 
--- nothing was done, and the line of this failure was printed, unless memory was refused or the output took no more
+-- the line of this failure was printed and nothing was run, unless an allocation or a write failed
 abbrev pub IsRefusal : Failure → Ending → Option (List ℕ) → Option (List ℕ) → Type 0
 IsRefusal failure ending.Done old new = ⊥
 IsRefusal failure (ending.Refused why) old new = (why ≡ failure) × Appends old new (failure_text failure)
 IsRefusal failure ending.Stopped old new = Unit {0}
 
--- A command ended well, as `Well` says, or was refused for a failure of its input, as `Fails` says, whose line was
--- printed. Where it stopped because memory was refused or the output took no more, nothing is said.
+-- A command succeeded (`Well`), or was refused for a failure of its input (`Fails`) whose line was printed. After
+-- `Stopped`, by a failed allocation or write, nothing is guaranteed.
 abbrev pub Ends : (Option (List ℕ) → Option (List ℕ) → Type 0) → (Failure → Type 0) → Ending → Option (List ℕ)
     → Option (List ℕ) → Type 0
 Ends Well Fails ending.Done old new = Well old new
 Ends Well Fails (ending.Refused why) old new = Fails why × Appends old new (failure_text why)
 Ends Well Fails ending.Stopped old new = Unit {0}
 
--- How a command that ended so leaves its source. It is read to its end where all was done, and as the failure tells
--- where it was refused. So `Read` is the failure only where the source is given up
+-- The source after each ending: read to its end after `Done`, as the failure determines after `Refused`. Therefore
+-- `Read` occurs only if the source was given up.
 abbrev pub IsLeftAt : Ending → Sourced → Type 0
 IsLeftAt ending.Done source = source.progress ≡ Ended
 IsLeftAt (ending.Refused why) source = IsLeftBy why source
 IsLeftAt ending.Stopped source = Unit {0}
 
--- what the program answers is the status of such an ending, where the reader tells its bytes
+-- status is that of an ending which is correct for the input's bytes, if they are known
 pub record EndsWith (Ending_of : List ℕ → Ending → Type 0) (had : Option (List ℕ)) (status : ℕ) : Type 0 where
   pub ending : Ending
   pub status_is : status ≡ status_of ending

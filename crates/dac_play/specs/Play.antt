@@ -1,4 +1,4 @@
--- What a script does in a world, and what is printed of it.
+-- A script in the world, and its output.
 use Rattle.std.specs.Prelude.{◌≡◌, ℕ, ◌-◌, ◌<◌, List, [], ◌∷◌, ◌++◌, length, fold, Option, None, Some, is_some, IsTrue, slice_get}
 use Rattle.std.specs.Option.{option_and_then, option_map_or}
 use Rattle.std.specs.Str.{bytes_eq}
@@ -22,42 +22,42 @@ use Rattle.dac_play.specs.Wires.{message_text, fed_text}
 use Rattle.dac_play.specs.Pairs.{TellsEachOther}
 use Rattle.dac_play.specs.Sharing.{origin_in, state_in, after_telling, shared, Leads}
 
--- the state of a node of the program's world, where it runs
+-- the state of a running node of the program's world
 abbrev pub state_at : WorldValue → NodeId → Option StateValue
 state_at v node = option_and_then state_of (slice_get v.nodes node.0)
 
--- the present incarnation of a node of the program's world, where it runs
+-- the present incarnation of a running node of the program's world
 abbrev pub origin_at : WorldValue → NodeId → Option Origin
 origin_at v node = option_and_then origin_of (slice_get v.nodes node.0)
 
--- a node of the first so many numbers has a state
+-- a node below count has a state
 abbrev pub HasState : (NodeId → Option StateValue) → ℕ → NodeId → Type 0
 HasState state count node = (node.0 < count) × IsTrue (is_some (state node))
 
--- From old, each node of the program's world that runs tells each other one that runs, one pair after another. By that
--- it goes on to new, as each model world that shows as old does.
+-- The program's world goes from old to new by shipping from every running node to every other one, as every model world
+-- that shows as old does.
 pub record IsShared (table : Table) (old new : WorldValue) : Type 0 where
   pub pairs : List (NodeId × NodeId)
   pub each_other : TellsEachOther (HasState (state_at old) (length old.nodes)) pairs
   pub leads : Leads table old (λ w. fold (after_telling table) w pairs) new
 
--- as what a node runs, and the page of its state; a node that is off has none
+-- a node's incarnation and page; a node that is off has no page
 abbrev pub shown_text : Table → NodeId → Option Origin → Option StateValue → List ℕ
 shown_text table node origin state =
     header_text (node_name table node) origin ++ option_map_or (λ s. page_text table (summary_of table s)) state []
 
--- the bytes of the state of a node of this name, or that it is off
+-- the bytes of a node's state, or that it's off
 abbrev pub bytes_text : List ℕ → Option StateValue → List ℕ
 bytes_text node None = header_text node None
 bytes_text node (Some state) = hex_text (spelling_of state)
 
--- whether the states of two nodes of these names have the same bytes, or the first of them that is off
+-- whether two nodes' states have the same bytes, or the first of the nodes that is off
 abbrev pub compare_text : List ℕ → List ℕ → Option StateValue → Option StateValue → List ℕ
 compare_text first second None other = header_text first None
 compare_text first second (Some one) None = header_text second None
 compare_text first second (Some one) (Some other) = same_text (bytes_eq (spelling_of one) (spelling_of other))
 
--- what was issued and shipped so far
+-- the operations issued and messages shipped so far
 abbrev pub counts_in : ModelWorld → Counts
 counts_in w = record { operations = length w.operations; messages = length w.messages }
 
@@ -71,7 +71,7 @@ after_line table w (says.Same first second) = w
 after_line table w (says.Bytes message) = w
 after_line table w (says.Feed bytes) = w
 
--- what is printed for a line
+-- the output of a line
 abbrev pub line_text : Table → ModelWorld → ScriptLine → List ℕ
 line_text table w (says.Event event) =
     answer_text table event (happens table w event).answer (counts_in (happens table w event).world)
@@ -83,12 +83,12 @@ line_text table w (says.Same first second) =
 line_text table w (says.Bytes message) = message_text table message (counted w.messages message)
 line_text table w (says.Feed bytes) = fed_text (packet_at table bytes)
 
--- what is printed for a script, line by line
+-- the output of a script
 abbrev pub script_text : Table → ModelWorld → List ScriptLine → List ℕ
 script_text table w [] = []
 script_text table w (line ∷ lines) = line_text table w line ++ script_text table (after_line table w line) lines
 
--- From old, a line prints this text and leads to new, as in each model world that shows as old.
+-- A line prints this text and leads from old to new, as in every model world that shows as old.
 pub record PlaysLine (table : Table) (old : WorldValue) (line : ScriptLine) (text : List ℕ)
     (new : WorldValue) : Type 0 where
   pub each : (w : ModelWorld) → Shows table w old

@@ -1,4 +1,4 @@
--- What `share` does in the model world.
+-- `share` in the model world.
 use Rattle.std.specs.Prelude.{◌≡◌, ℕ, Bool, List, length, map, filter, fold, Option, if◌then◌else◌}
 use Rattle.std.specs.List.{range_with_len}
 use Rattle.std.specs.Option.{is_some, option_map}
@@ -14,47 +14,46 @@ use Rattle.dac_core.specs.ModelNode.{ModelRunning, joined}
 use Rattle.dac_core.specs.ModelWorld.{ModelWorld, WorldStepped, Shows, happens, numbered}
 use Rattle.dac_play.specs.Pairs.{pairs}
 
--- the state of a node of the model world, where it runs
+-- the state of a running node of the model world
 abbrev pub state_in : ModelWorld → NodeId → Option StateValue
 state_in w node = option_map (λ (r : ModelRunning). joined r.log) (w.node node).running
 
--- the present incarnation of a node of the model world, where it runs
+-- the present incarnation of a running node of the model world
 abbrev pub origin_in : ModelWorld → NodeId → Option Origin
 origin_in w node = option_map (λ (r : ModelRunning). r.origin) (w.node node).running
 
--- the nodes of the first so many numbers that have a state, in the order of their names
+-- the nodes below count that have a state, by name
 abbrev pub having_state : (NodeId → Option StateValue) → ℕ → List NodeId
 having_state state count = filter (λ node. is_some (state node)) (map numbered (range_with_len 0 count))
 
--- a node ships to another one
+-- a ship from one node to another
 abbrev pub shipping : NodeId × NodeId → WorldEvent
 shipping pair = record { node = pair.0; what = what.Ship pair.1 }
 
--- the message that was shipped last comes to a node
+-- the delivery of the last message
 abbrev pub delivery : ℕ → NodeId → WorldEvent
 delivery messages to = record { node = to; what = what.Deliver messages }
 
--- after a ship to this node: where anything was shipped, it is delivered
+-- the world after a ship, with the message delivered if one was sent
 abbrev pub delivered : Table → NodeId → WorldStepped → ModelWorld
 delivered table to shipped =
     if is_ok shipped.answer then (happens table shipped.world (delivery (length shipped.world.messages) to)).world
     else shipped.world
 
--- a node ships to another one, which hears the message at once; what either refuses is passed over
+-- one node ships to another, which receives the message at once; refusals are skipped
 abbrev pub after_telling : Table → ModelWorld → NodeId × NodeId → ModelWorld
 after_telling table w pair = delivered table pair.1 (happens table w (shipping pair))
 
--- Each node that runs tells each other one, one pair after another in the order of their names. (Who runs
--- doesn't change meanwhile.)
+-- Every running node ships to every other one, in the order of names. (Who runs doesn't change meanwhile.)
 abbrev pub shared : Table → ModelWorld → ModelWorld
 shared table w = fold (after_telling table) w (pairs (having_state (state_in w) w.count))
 
--- From old, the program's world goes on to new as each model world that shows as old does.
+-- The program's world goes from old to new as every model world that shows as old does.
 pub record Leads (table : Table) (old : WorldValue) (by : ModelWorld → ModelWorld) (new : WorldValue) : Type 0 where
   pub each : (w : ModelWorld) → Shows table w old → Shows table (by w) new
 
--- From old, the program's world accepts this event or refuses it, and goes on to new. So does each model world that
--- shows as old.
+-- The program's world accepts or refuses the event and goes from old to new, as every model world that shows as old
+-- does.
 pub record IsAnswered (table : Table) (old : WorldValue) (event : WorldEvent) (accepted : Bool)
     (new : WorldValue) : Type 0 where
   pub each : (w : ModelWorld) → Shows table w old

@@ -1,4 +1,4 @@
--- What `distac sim` prints of an input.
+-- The output of `distac sim`.
 use Rattle.std.specs.Prelude.{ℕ, List, Option}
 use Rattle.std.specs.Io.KnownBytes.{Appends}
 use Rattle.dac_config.specs.Table.{Table}
@@ -10,7 +10,7 @@ use Rattle.dac_play.specs.Endings.{Ends}
 use Rattle.dac_play.specs.Play.{script_text}
 use Rattle.dac_play.specs.Runs.{PlaysRuns}
 
--- what is printed is that of the script that the input says, and the worlds that its lines show are those of runs
+-- the output is that of the input's script, and every world that its lines show is that of a run
 pub record IsSimulated (bytes : List ℕ) (old new : Option (List ℕ)) : Type 0 where
   pub table : Table
   pub lines : List ScriptLine
@@ -18,6 +18,6 @@ pub record IsSimulated (bytes : List ℕ) (old new : Option (List ℕ)) : Type 0
   pub printed : Appends old new (script_text table (start table) lines)
   pub runs : PlaysRuns table lines
 
--- how `distac sim` ends, where these are the bytes of its input
+-- how `distac sim` ends on an input with these bytes
 abbrev pub EndsSim : List ℕ → Ending → Option (List ℕ) → Option (List ℕ) → Type 0
 EndsSim bytes = Ends (IsSimulated bytes) (IsFailureOf bytes)

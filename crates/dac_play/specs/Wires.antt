@@ -12,16 +12,16 @@ use Rattle.dac_wire.specs.declared.packet.Packet.TheVariants.{Msg}
 use Rattle.dac_wire.specs.declared.packet.TheConstants.{MAX_MESSAGE}
 use Rattle.dac_play.specs.Texts.{hex_text, no_message_text}
 
--- bytes that spell a message or an operation
+-- bytes that encode a message or an operation
 abbrev pub wire_ok_text : List ℕ
 wire_ok_text = codes "wire ok\n"
 
--- the number and the name of what is wrong with bytes, and where
+-- a fault of bytes: its number, name and place
 abbrev pub wire_fault_text : WireFault → List ℕ
 wire_fault_text fault =
     codes "wire fault " ++ (decimal (number_of fault.kind) ++ (codes " " ++ (name_of fault.kind ++ (codes " at " ++ (decimal fault.at ++ codes "\n")))))
 
--- more bytes than a message may have
+-- the fault of more bytes than a message can have
 abbrev pub too_long : WireFault
 too_long = record { kind = TooLong; at = MAX_MESSAGE }
 
@@ -29,12 +29,12 @@ too_long = record { kind = TooLong; at = MAX_MESSAGE }
 abbrev pub spelled_text : List ℕ → List ℕ
 spelled_text bytes = if nat_lt MAX_MESSAGE (length bytes) then wire_fault_text too_long else hex_text bytes
 
--- the message of this number, if there is one
+-- the message with this number, or that there is none
 abbrev pub message_text : Table → ℕ → Option Message → List ℕ
 message_text table number None = no_message_text number
 message_text table number (Some message) = spelled_text (spelling_of table (Msg message))
 
--- what was read of bytes
+-- the result of parsing bytes
 abbrev pub fed_text : Result Packet WireFault → List ℕ
 fed_text (Ok packet) = wire_ok_text
 fed_text (Err fault) = wire_fault_text fault

@@ -1,4 +1,4 @@
-//! The lines for what the world answers to an event.
+//! The lines printed for the result of an event.
 
 ghost use Rattle.std.specs.Prelude.{◌≡◌, ◌≢◌, ◌<◌, IfOk, OnOk};
 ghost use Rattle.dac_core.specs.ModelWorld.{out_of_memory};
@@ -15,16 +15,16 @@ use dac_config::Config;
 use dac_core::{Refusal, Reply, What, WorldEvent, WorldFault};
 use std::alloc::Global;
 
-/// What has happened in the world so far, this event included.
+/// The world's totals, including the event just printed.
 #[derive(Clone, Copy, Debug, PartialEq, Eq)]
 pub struct Counts {
-    /// How many operations were issued.
+    /// Operations issued so far.
     pub operations: usize,
-    /// How many messages were shipped.
+    /// Messages shipped so far.
     pub messages: usize,
 }
 
-/// The lines for a reply of the node where the event happened.
+/// The lines for a node's reply.
 fn reply_line(
     alloc: Global,
     config: &Config,
@@ -73,7 +73,7 @@ fn reply_line(
     }
 }
 
-/// The number of the message or the operation that an event asks for.
+/// The number of the message or operation to deliver; 0 for other events.
 fn asked_number(what: What) -> u64
     ensures { result ≡ asked_number what }
 {
@@ -84,7 +84,7 @@ fn asked_number(what: What) -> u64
     }
 }
 
-/// The line for a fault. `NoMemory` is no line: it ends the run.
+/// The line for a fault. `NoMemory` has no line, because it ends the run.
 fn fault_line(alloc: Global, what: What, fault: WorldFault) -> Result<Vec<u8>, NoMemory>
     ensures text { IfOk result (λ line. line.items ≡ fault_text what fault) }
     ensures enough { OnOk result (fault ≢ WorldFault.Refused Refusal.NoMemory) }
@@ -101,9 +101,9 @@ fn fault_line(alloc: Global, what: What, fault: WorldFault) -> Result<Vec<u8>, N
     }
 }
 
-/// The lines for what the world answered to an event, which left these counts.
+/// The lines for the result of an event, with the counts after it.
 ///
-/// [`NoMemory`] is also the answer where the world answered so: such an event is no event, and the run ends.
+/// Also fails with [`NoMemory`] if that is the event's result: such an event didn't happen, and the run ends.
 pub fn answer_line(
     alloc: Global,
     config: &Config,

@@ -1,4 +1,4 @@
-//! A configuration checked, and printed in its one form.
+//! `distac check`: checks a configuration and prints its canonical text.
 
 ghost use Rattle.std.specs.Prelude.{◌≡◌, IfOk, IfErr, IfSome};
 ghost use Rattle.dac_script.specs.Input.{IsReadWithinBound};
@@ -12,8 +12,8 @@ use dac_script::{Failure, Source, read_input};
 use std::alloc::Global;
 use std::io::{Read, Write};
 
-/// The canonical text of the configuration that an input is, or why it is none. The input as such is looked at first,
-/// and then what it says. `NoMemory` is answered only where memory is refused before a fault is met.
+/// Reads a configuration and returns its canonical text. Size and reading are checked first, then the configuration.
+/// Fails with `NoMemory` only if an allocation fails before a fault is found.
 pub fn canonical<R: Read>(alloc: Global, source: &mut Source<'_, R>) -> Result<Vec<u8>, Failure>
     ensures says { IfOk result
         (λ text. IfSome source.old.left (λ bytes. IsCanonicalOf bytes text.items)) }
@@ -28,7 +28,7 @@ pub fn canonical<R: Read>(alloc: Global, source: &mut Source<'_, R>) -> Result<V
     Ok(canonical)
 }
 
-/// Reads a configuration and prints its canonical text, or the line that says what is wrong with it.
+/// Reads a configuration and prints its canonical text, or the line of its fault.
 pub fn check_source<R: Read, W: Write>(
     alloc: Global,
     source: &mut Source<'_, R>,
@@ -37,7 +37,7 @@ pub fn check_source<R: Read, W: Write>(
     ensures ends { IfSome source.old.left
         (λ bytes. EndsCheck bytes result (W.contents output.old) (W.contents output.new)) }
     ensures reads { IsLeftAt result source.new }
-    // However it ends, no more was read than the bound and one byte.
+    // Whatever the result, at most one byte beyond the bound was read.
     ensures bound { IsReadWithinBound source.old.left source.new.left }
     ensures same_reader { source.new.reader ≡ source.old.reader }
 {
@@ -51,7 +51,7 @@ pub fn check_source<R: Read, W: Write>(
     Ending::Done
 }
 
-/// As [`check_source`], of a reader of which nothing was read.
+/// Like [`check_source`], with an unread reader.
 pub fn check<R: Read, W: Write>(alloc: Global, input: &mut R, output: &mut W) -> Ending
     ensures ends { IfSome (R.remaining input.old)
         (λ bytes. EndsCheck bytes result (W.contents output.old) (W.contents output.new)) }

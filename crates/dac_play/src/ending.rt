@@ -1,4 +1,4 @@
-//! How a command of the program ends.
+//! The endings of a command.
 
 ghost use Rattle.std.specs.Prelude.{◌≡◌, true};
 ghost use Rattle.std.specs.Io.KnownBytes.{Appends};
@@ -9,20 +9,19 @@ use dac_script::Failure;
 use std::alloc::Global;
 use std::io::Write;
 
-/// How a command ended that reads an input and writes to an output.
+/// How a command ended that reads an input and writes an output.
 #[derive(Clone, Copy, Debug, PartialEq, Eq)]
 pub enum Ending {
-    /// It did what it is for, and all that it prints was printed.
+    /// It succeeded, and its whole output was written.
     Done,
-    /// Nothing was done, since the input has this failure, or memory was refused before it was read. The failure's line
-    /// was printed.
+    /// The input failed, so nothing was run, and only the failure's line was printed.
     Refused(Failure),
-    /// Memory was refused, or the output took no more. Nothing is said then of what was printed.
+    /// An allocation or a write failed, so the output can be anything.
     Stopped,
 }
 
 impl Ending {
-    /// The status that the program answers: 0 where all was done, else 1.
+    /// The program's exit status: 0 if it succeeded, else 1.
     pub fn status(self) -> u8
         ensures { result ≡ status_of self }
     {
@@ -33,7 +32,7 @@ impl Ending {
     }
 }
 
-/// Prints a text whole, and answers whether the output took it.
+/// Writes and flushes a text. Returns whether the output accepted it.
 pub fn print<W: Write>(text: &[u8], output: &mut W) -> bool
     ensures { result ≡ true → Appends (W.contents output.old) (W.contents output.new) text.now }
 {
@@ -43,7 +42,7 @@ pub fn print<W: Write>(text: &[u8], output: &mut W) -> bool
     output.flush().is_ok()
 }
 
-/// Prints why nothing is done.
+/// Prints the line of a failure. Without memory for that line it prints [`OUT_OF_MEMORY`] and stops.
 pub fn refuse<W: Write>(alloc: Global, failure: Failure, output: &mut W) -> Ending
     ensures { IsRefusal failure result (W.contents output.old) (W.contents output.new) }
 {

@@ -1,11 +1,10 @@
-//! What `distac check` and `distac sim` do with an input. One prints the configuration in its one form. The other
-//! plays a script in a world of controllers and prints what comes of each of its lines.
+//! Runs `distac check` and `distac sim`. The first prints the canonical text of a configuration, the second plays a
+//! script in a world of controllers and prints the result of each line.
 //!
-//! The promises are on [`check_source`] and [`simulate_source`]. Where [`simulate_source`] is done, what it wrote is,
-//! line by line, what the script that the input says does in the model world. Each printed line is the text that its
-//! contract names. An input is refused for a failed read where the source shows one, or as many reads as there may be.
-//! However they end, an input is read no further than its bound and one byte. Where memory or a write fails, nothing
-//! else is promised but the status 1.
+//! The guarantees are on [`check_source`] and [`simulate_source`]: after [`Ending::Done`] the output is, line by line,
+//! that of the input's script in the model world. `Read` is reported only if the source shows a failed read or too many
+//! reads, and at most one byte beyond the bound is read. If an allocation or a write fails, only the status 1 is
+//! guaranteed.
 #![tactic(auto)]
 
 mod answers;

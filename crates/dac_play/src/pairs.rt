@@ -1,4 +1,4 @@
-//! Which node tells which.
+//! The pairs of nodes in an anti-entropy round.
 
 ghost use Rattle.std.specs.Prelude.{◌≡◌, ◌++◌, IfOk, OnOk};
 ghost use Rattle.dac_play.specs.Pairs.{pairs_of, pairs};
@@ -6,7 +6,7 @@ ghost use Rattle.dac_play.specs.Pairs.{pairs_of, pairs};
 use dac_base::{NoMemory, NodeId};
 use std::alloc::Global;
 
-/// Puts a node with each other one of these behind some pairs.
+/// Appends the pairs of a node with every other one.
 fn push_pairs(
     pairs: &mut Vec<(NodeId, NodeId)>,
     from: NodeId,
@@ -22,7 +22,7 @@ fn push_pairs(
     Ok(())
 }
 
-/// Each of these nodes with each other one.
+/// Every ordered pair of two of these nodes.
 pub fn all_pairs(alloc: Global, nodes: &[NodeId]) -> Result<Vec<(NodeId, NodeId)>, NoMemory>
     ensures { IfOk result (λ all. all.items ≡ pairs nodes.now) }
 {

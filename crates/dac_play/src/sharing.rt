@@ -1,4 +1,4 @@
-//! Each node that runs tells each other one what that one hasn't acknowledged.
+//! An anti-entropy round: every running node ships to every other one.
 
 ghost use Rattle.std.specs.Prelude.{◌≡◌, ◌≢◌, ◌<◌, IfOk, OnOk, Err, length};
 ghost use Rattle.std.specs.Option.{is_some};
@@ -14,7 +14,6 @@ use dac_config::Config;
 use dac_core::{Refusal, What, World, WorldEvent, WorldFault};
 use std::alloc::Global;
 
-/// Whether a node runs.
 fn runs(world: &World, node: NodeId) -> bool
     requires { node.0 < length world.now.nodes }
     ensures { result ≡ is_some (state_at world.now node) }
@@ -22,7 +21,7 @@ fn runs(world: &World, node: NodeId) -> bool
     state_at(world, node).is_some()
 }
 
-/// The nodes that run, in the order of their names.
+/// The running nodes, by name.
 fn running(alloc: Global, config: &Config, world: &World) -> Result<Vec<NodeId>, NoMemory>
     requires { length world.now.nodes ≡ node_count config.now }
     ensures { IfOk result
@@ -38,7 +37,7 @@ fn running(alloc: Global, config: &Config, world: &World) -> Result<Vec<NodeId>,
     Ok(nodes)
 }
 
-/// Whether an event was accepted. `NoMemory` is no answer: such an event is no event.
+/// Returns whether an event was accepted. An event that failed with `NoMemory` didn't happen, so that stays an error.
 fn was_accepted(answer: &Result<(), WorldFault>) -> Result<bool, NoMemory>
     ensures known { IfOk result (λ accepted. accepted ≡ is_ok answer.now) }
     ensures enough { OnOk result (answer.now ≢ Err (WorldFault.Refused Refusal.NoMemory)) }
@@ -50,7 +49,7 @@ fn was_accepted(answer: &Result<(), WorldFault>) -> Result<bool, NoMemory>
     }
 }
 
-/// One event of the world: whether it was accepted. After one that is refused all is as before.
+/// Runs one event and returns whether it was accepted. A refused event doesn't change the world.
 fn accepts(config: &Config, world: &mut World, event: &WorldEvent) -> Result<bool, NoMemory>
     ensures count { length world.new.nodes ≡ length world.old.nodes }
     ensures answers { IfOk result
@@ -60,7 +59,7 @@ fn accepts(config: &Config, world: &mut World, event: &WorldEvent) -> Result<boo
     was_accepted(&answer)
 }
 
-/// A node ships to another one, and the message is delivered at once.
+/// Ships from one node to another, and delivers the message at once.
 fn tell(config: &Config, world: &mut World, pair: (NodeId, NodeId)) -> Result<(), NoMemory>
     ensures count { length world.new.nodes ≡ length world.old.nodes }
     ensures leads { OnOk result
@@ -83,10 +82,10 @@ fn tell(config: &Config, world: &mut World, pair: (NodeId, NodeId)) -> Result<()
     Ok(())
 }
 
-/// Each node that runs ships to each other one, in the order of their names. Each message is delivered at
-/// once. Where a node refuses either, the next pair follows.
+/// Every running node ships to every other one, in the order of names, and each message is delivered at once. A refusal
+/// skips to the next pair.
 ///
-/// [`NoMemory`] ends it; some of the pairs are then done, and the others aren't.
+/// After [`NoMemory`] some pairs are done and others aren't.
 pub fn share(alloc: Global, config: &Config, world: &mut World) -> Result<(), NoMemory>
     requires { length world.old.nodes ≡ node_count config.now }
     ensures count { length world.new.nodes ≡ length world.old.nodes }

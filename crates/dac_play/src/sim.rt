@@ -1,4 +1,4 @@
-//! A script played in a world of controllers, with the line that is printed for each of its lines.
+//! `distac sim`: plays a script in a world of controllers.
 
 ghost use Rattle.std.specs.Prelude.{◌≡◌, ◌<◌, IfOk, IfSome, OnOk, All, length};
 ghost use Rattle.std.specs.Io.KnownBytes.{Appends};
@@ -25,12 +25,12 @@ use dac_script::{ScriptLine, Source, prepare};
 use std::alloc::Global;
 use std::io::{Read, Write};
 
-/// Why a script was not played to its end.
+/// Why a script stopped early.
 #[derive(Clone, Copy, Debug, PartialEq, Eq)]
 pub enum Stop {
-    /// Memory was refused.
+    /// An allocation failed.
     NoMemory,
-    /// The output took no more.
+    /// A write failed.
     Output,
 }
 
@@ -44,7 +44,7 @@ impl From<NoMemory> for Stop {
     }
 }
 
-/// An event of the script, and the line that is printed for it.
+/// Runs an event and returns its lines.
 fn event_step(
     alloc: Global,
     config: &Config,
@@ -65,7 +65,7 @@ fn event_step(
     answer_line(alloc, config, event, &answer, counts)
 }
 
-/// A share, and the line that is printed for it.
+/// Runs an anti-entropy round and returns its line.
 fn share_step(alloc: Global, config: &Config, world: &mut World) -> Result<Vec<u8>, NoMemory>
     requires { length world.old.nodes ≡ node_count config.now }
     ensures all { length world.new.nodes ≡ node_count config.now }
@@ -79,7 +79,7 @@ fn share_step(alloc: Global, config: &Config, world: &mut World) -> Result<Vec<u
     Ok(line)
 }
 
-/// What a line of the script does in the world, and the line that is printed for it.
+/// Runs a script line and returns its lines.
 fn step(
     alloc: Global,
     config: &Config,
@@ -103,9 +103,9 @@ fn step(
     }
 }
 
-/// Plays the lines of a script one after another, from all nodes off, and prints the line for each.
+/// Plays a script from a world in which all nodes are off, and prints the result of each line.
 ///
-/// It stops where memory is refused, and where the output takes no more; nothing is said then of what was printed.
+/// If an allocation or a write fails, the output can be anything.
 pub fn play<W: Write>(
     alloc: Global,
     config: &Config,
@@ -115,7 +115,7 @@ pub fn play<W: Write>(
     requires { All (HasActors (node_count config.now)) script.now }
     ensures prints { OnOk result (Appends (W.contents output.old) (W.contents output.new)
         (script_text config.now (start config.now) script.now)) }
-    // The worlds that its lines show are those of runs, so what every run leaves holds of them.
+    // Every world that the lines show is that of a run, so the guarantees of every run hold.
     ensures runs { OnOk result (PlaysRuns config.now script.now) }
 {
     let mut world = World::new(alloc, config)?;
@@ -131,8 +131,8 @@ pub fn play<W: Write>(
     Ok(())
 }
 
-/// Reads a configuration and a script, plays the script and prints what comes of each line. The whole input is read
-/// and checked before anything is played. Where it has a fault, a line that says so is all that is printed.
+/// Reads a configuration and a script, plays the script and prints the result of each line. The whole input is checked
+/// first, so that a faulty one prints only the line of its fault.
 pub fn simulate_source<R: Read, W: Write>(
     alloc: Global,
     source: &mut Source<'_, R>,
@@ -141,7 +141,7 @@ pub fn simulate_source<R: Read, W: Write>(
     ensures ends { IfSome source.old.left
         (λ bytes. EndsSim bytes result (W.contents output.old) (W.contents output.new)) }
     ensures reads { IsLeftAt result source.new }
-    // However it ends, no more was read than the bound and one byte.
+    // Whatever the result, at most one byte beyond the bound was read.
     ensures bound { IsReadWithinBound source.old.left source.new.left }
     ensures same_reader { source.new.reader ≡ source.old.reader }
 {
@@ -159,7 +159,7 @@ pub fn simulate_source<R: Read, W: Write>(
     }
 }
 
-/// As [`simulate_source`], of a reader of which nothing was read.
+/// Like [`simulate_source`], with an unread reader.
 pub fn simulate<R: Read, W: Write>(alloc: Global, input: &mut R, output: &mut W) -> Ending
     ensures ends { IfSome (R.remaining input.old)
         (λ bytes. EndsSim bytes result (W.contents output.old) (W.contents output.new)) }

@@ -1,4 +1,4 @@
-//! Nodes and their states, shown by their pages, and shown and compared by their bytes.
+//! The lines that print pages and states of nodes, and compare states.
 
 ghost use Rattle.std.specs.Prelude.{◌≡◌, ◌<◌, IfOk, length};
 ghost use Rattle.std.specs.Option.{option_copied};
@@ -13,7 +13,7 @@ use dac_state::State;
 use dac_status::{Summary, header, page};
 use std::alloc::Global;
 
-/// The state of a node, where it runs.
+/// The state of a node, or `None` if it's off.
 pub fn state_at(world: &World, node: NodeId) -> Option<&State>
     requires { node.0 < length world.now.nodes }
     ensures { option_copied result ≡ state_at world.now node }
@@ -21,7 +21,7 @@ pub fn state_at(world: &World, node: NodeId) -> Option<&State>
     world.node(node).state()
 }
 
-/// The lines that show a node: as what it runs, and its page. A node that is off has no page.
+/// The lines for a node: its incarnation and its page, or that it's off.
 pub fn shown_lines(
     alloc: Global,
     config: &Config,
@@ -62,7 +62,7 @@ pub fn bytes_line(
     Ok(line)
 }
 
-/// The line for two nodes' states: whether they have the same bytes, or the first of the nodes that is off.
+/// The line that compares two nodes' states byte by byte, or reports the first of the nodes that is off.
 pub fn compare_line(
     alloc: Global,
     config: &Config,

@@ -1,4 +1,4 @@
-//! The lines that the program prints, each ended by a line feed.
+//! The printed lines, each with its line feed.
 
 ghost use Rattle.std.specs.Prelude.{◌≡◌, ◌≤◌, ◌*◌, ◌++◌, length, drop, IfOk, OnOk};
 ghost use Rattle.std.specs.Fmt.{decimal};
@@ -13,13 +13,13 @@ use dac_status::put_number;
 use dac_tokens::ConfigFault;
 use std::alloc::Global;
 
-/// How many bytes a line mostly has at most. A line that has more grows.
+/// The initial capacity of a line. Most are shorter; longer ones grow it.
 const ROOM: usize = 64;
 
-/// What is printed where memory was refused.
+/// The line for a failed allocation, which needs none itself.
 pub const OUT_OF_MEMORY: &str = "out of memory\n";
 
-/// Puts a number behind a text, in decimal digits. Most numbers have 64 bits, and are put as such.
+/// Appends a number in decimal. Numbers of 64 bits take the fast path.
 fn put_large_number(text: &mut Vec<u8>, number: u128) -> Result<(), NoMemory>
     ensures { OnOk result (text.new.items ≡ text.old.items ++ decimal number) }
 {
@@ -31,7 +31,7 @@ fn put_large_number(text: &mut Vec<u8>, number: u128) -> Result<(), NoMemory>
     Ok(())
 }
 
-/// A node booted under this incarnation, which issued the operation of this number.
+/// The line for a boot: the incarnation, and the number of its operation.
 pub fn booted_line(alloc: Global, incarnation: u64, operation: usize) -> Result<Vec<u8>, NoMemory>
     ensures { IfOk result (λ line. line.items ≡ booted_text incarnation operation) }
 {
@@ -44,7 +44,7 @@ pub fn booted_line(alloc: Global, incarnation: u64, operation: usize) -> Result<
     Ok(line)
 }
 
-/// A node issued the operation of this number, under its incarnation and with this counter.
+/// The line for an issued operation: its number, node, incarnation and counter.
 pub fn issued_line(
     alloc: Global,
     operation: usize,
@@ -68,29 +68,29 @@ pub fn issued_line(
     Ok(line)
 }
 
-/// A node went down.
+/// The line for a crash.
 pub fn crashed_line() -> &'static str
     ensures { result.now ≡ crashed_text }
 {
     "crashed\n"
 }
 
-/// A node still waits for others, and did nothing.
+/// The line for a tick that the start gate holds back.
 pub fn held_line() -> &'static str
     ensures { result.now ≡ held_text }
 {
     "held\n"
 }
 
-/// A node waited in vain for a mandatory one, and went down.
+/// The line for a node that waited in vain for a mandatory one and went down.
 pub fn gave_up_line() -> &'static str
     ensures { result.now ≡ gave_up_text }
 {
     "gave up\n"
 }
 
-/// The message of this number was shipped with this body: how many dots the state that it brings has heard, if it
-/// brings one.
+/// The line for a shipped message: its number, the kind of its body, and the number of heard dots in its state, if it
+/// has one.
 pub fn shipped_line(alloc: Global, message: usize, body: &Body) -> Result<Vec<u8>, NoMemory>
     ensures { IfOk result (λ line. line.items ≡ shipped_text message body.now) }
 {
@@ -112,7 +112,7 @@ pub fn shipped_line(alloc: Global, message: usize, body: &Body) -> Result<Vec<u8
     Ok(line)
 }
 
-/// So many messages were shipped, and each was delivered at once.
+/// The line for an anti-entropy round: how many messages were shipped and delivered.
 pub fn shared_line(alloc: Global, messages: usize) -> Result<Vec<u8>, NoMemory>
     ensures { IfOk result (λ line. line.items ≡ shared_text messages) }
 {
@@ -123,7 +123,7 @@ pub fn shared_line(alloc: Global, messages: usize) -> Result<Vec<u8>, NoMemory>
     Ok(line)
 }
 
-/// A node heard a message or an operation, which told it something or nothing new.
+/// The line for a delivery: whether it contained new information.
 pub fn heard_line(fresh: bool) -> &'static str
     ensures { result.now ≡ heard_text fresh }
 {
@@ -134,7 +134,7 @@ pub fn heard_line(fresh: bool) -> &'static str
     }
 }
 
-/// No message of this number was shipped.
+/// The line for a message number that wasn't shipped.
 pub fn no_message_line(alloc: Global, message: u64) -> Result<Vec<u8>, NoMemory>
     ensures { IfOk result (λ line. line.items ≡ no_message_text message) }
 {
@@ -142,7 +142,7 @@ pub fn no_message_line(alloc: Global, message: u64) -> Result<Vec<u8>, NoMemory>
     Ok(line.into_bytes())
 }
 
-/// No operation of this number was issued.
+/// The line for an operation number that wasn't issued.
 pub fn no_operation_line(alloc: Global, operation: u64) -> Result<Vec<u8>, NoMemory>
     ensures { IfOk result (λ line. line.items ≡ no_operation_text operation) }
 {
@@ -150,7 +150,7 @@ pub fn no_operation_line(alloc: Global, operation: u64) -> Result<Vec<u8>, NoMem
     Ok(line.into_bytes())
 }
 
-/// A node refused an event, for the cause of this number and name.
+/// The line for a refusal: its number and name.
 pub fn refused_line(alloc: Global, number: u8, name: &str) -> Result<Vec<u8>, NoMemory>
     ensures { IfOk result (λ line. line.items ≡ refused_text number name.now) }
 {
@@ -163,14 +163,14 @@ pub fn refused_line(alloc: Global, number: u8, name: &str) -> Result<Vec<u8>, No
     Ok(line)
 }
 
-/// Two nodes hold states of the same bytes, or not.
+/// The line for whether two states have the same bytes.
 pub fn same_line(same: bool) -> &'static str
     ensures { result.now ≡ same_text same }
 {
     if same { "same\n" } else { "differ\n" }
 }
 
-/// The two digits of each byte, one byte after another.
+/// The two hexadecimal digits of each byte, in order.
 const DIGITS: &[u8; 512] = b"\
     000102030405060708090a0b0c0d0e0f101112131415161718191a1b1c1d1e1f\
     202122232425262728292a2b2c2d2e2f303132333435363738393a3b3c3d3e3f\
@@ -181,7 +181,7 @@ const DIGITS: &[u8; 512] = b"\
     c0c1c2c3c4c5c6c7c8c9cacbcccdcecfd0d1d2d3d4d5d6d7d8d9dadbdcdddedf\
     e0e1e2e3e4e5e6e7e8e9eaebecedeeeff0f1f2f3f4f5f6f7f8f9fafbfcfdfeff";
 
-/// Writes the two digits of each byte, from the front on. What is behind them stays.
+/// Writes two digits per byte to the front of `line`. The rest stays.
 fn write_digits(line: &mut [u8], bytes: &[u8])
     requires { 2 * length bytes.now ≤ length line.old }
     ensures { line.new ≡ encode_lower bytes.now ++ drop (2 * length bytes.now) line.old }
@@ -190,13 +190,13 @@ fn write_digits(line: &mut [u8], bytes: &[u8])
         let place = 2 * bytes[at] as usize;
         let high = DIGITS[place];
         let low = DIGITS[place + 1];
-        // (the later place first, so that both are seen to be there at once)
+        // (The later index first, so that one bound covers both.)
         line[2 * at + 1] = low;
         line[2 * at] = high;
     }
 }
 
-/// The bytes of a state or of a message: each as two digits, of which the letters are small.
+/// The line for bytes of a state or a message: two lower-case hexadecimal digits each.
 pub fn hex_line(alloc: Global, bytes: &[u8]) -> Result<Vec<u8>, NoMemory>
     ensures { IfOk result (λ line. line.items ≡ hex_text bytes.now) }
 {
@@ -205,7 +205,7 @@ pub fn hex_line(alloc: Global, bytes: &[u8]) -> Result<Vec<u8>, NoMemory>
     Ok(line)
 }
 
-/// The input as a whole has a fault.
+/// The line for a fault of the whole input: its number and name.
 pub fn input_fault_line(alloc: Global, fault: InputFault) -> Result<Vec<u8>, NoMemory>
     ensures { IfOk result (λ line. line.items ≡ input_fault_text fault) }
 {
@@ -215,7 +215,7 @@ pub fn input_fault_line(alloc: Global, fault: InputFault) -> Result<Vec<u8>, NoM
     Ok(line.into_bytes())
 }
 
-/// The configuration has a fault.
+/// The line for a fault of the configuration: its number, name and byte.
 pub fn config_fault_line(alloc: Global, fault: ConfigFault) -> Result<Vec<u8>, NoMemory>
     ensures { IfOk result (λ line. line.items ≡ config_fault_text fault) }
 {
@@ -226,7 +226,7 @@ pub fn config_fault_line(alloc: Global, fault: ConfigFault) -> Result<Vec<u8>, N
     Ok(line.into_bytes())
 }
 
-/// A line of the script has a fault.
+/// The line for a fault of the script: its line, number and name.
 pub fn script_fault_line(alloc: Global, fault: ScriptFault) -> Result<Vec<u8>, NoMemory>
     ensures { IfOk result (λ line. line.items ≡ script_fault_text fault) }
 {
@@ -237,8 +237,7 @@ pub fn script_fault_line(alloc: Global, fault: ScriptFault) -> Result<Vec<u8>, N
     Ok(line.into_bytes())
 }
 
-/// Why nothing is played. The line needs memory itself; where that is refused, [`OUT_OF_MEMORY`] is what is
-/// left to print.
+/// The line for a failure. If it can't be allocated, [`OUT_OF_MEMORY`] can still be printed.
 pub fn failure_line(alloc: Global, failure: Failure) -> Result<Vec<u8>, NoMemory>
     ensures { IfOk result (λ line. line.items ≡ failure_text failure) }
 {

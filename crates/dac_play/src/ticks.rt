@@ -1,4 +1,4 @@
-//! The lines for a tick: what it claims, and what it passes.
+//! The lines printed for a tick: its claims, and the applications that it passed.
 
 ghost use Rattle.std.specs.Prelude.{◌≡◌, ◌++◌, ◌+◌, ◌≤◌, length, IfOk, OnOk};
 ghost use Rattle.std.specs.List.{flat_map};
@@ -11,7 +11,7 @@ use dac_state::{Act, Op};
 use dac_status::{how_text, put_from, put_number};
 use std::alloc::Global;
 
-/// Puts behind a text an application by its name, or by its number where the configuration hasn't it.
+/// Appends an application's name, or its number if it isn't configured.
 fn put_app(alloc: Global, text: &mut Vec<u8>, config: &Config, app: AppId) -> Result<(), NoMemory>
     ensures { OnOk result (text.new.items ≡ text.old.items ++ app_text config.now app) }
 {
@@ -24,8 +24,7 @@ fn put_app(alloc: Global, text: &mut Vec<u8>, config: &Config, app: AppId) -> Re
     Ok(())
 }
 
-/// Puts behind a text the term of a claim, how the application came to its node, and from where, if it was taken from
-/// a node.
+/// Appends a claim's term, its cause, and the previous node if it was taken from one.
 fn put_term(
     alloc: Global,
     text: &mut Vec<u8>,
@@ -42,7 +41,7 @@ fn put_term(
     put_from(alloc, text, config, from)
 }
 
-/// The line for a claim, the operation of this number. A tick issues nothing else.
+/// The line for a claim, with its operation's number. A tick issues only claims.
 fn claim_line(
     alloc: Global,
     config: &Config,
@@ -69,7 +68,7 @@ fn claim_line(
     Ok(line)
 }
 
-/// Puts behind some lines those for claims, which came behind so many operations.
+/// Appends one line per claim; `before` operations precede them.
 fn put_claims(
     alloc: Global,
     lines: &mut Vec<u8>,
@@ -90,7 +89,7 @@ fn put_claims(
     Ok(())
 }
 
-/// The line for an application whose terms are used up.
+/// The line for an application passed because its terms are used up.
 fn passed_line(alloc: Global, config: &Config, app: AppId) -> Result<Vec<u8>, NoMemory>
     ensures { IfOk result (λ line. line.items ≡ passed_text config.now app) }
 {
@@ -100,7 +99,7 @@ fn passed_line(alloc: Global, config: &Config, app: AppId) -> Result<Vec<u8>, No
     Ok(line)
 }
 
-/// Puts behind some lines those for applications whose terms are used up.
+/// Appends the lines for applications whose terms are used up.
 fn put_passed(
     alloc: Global,
     lines: &mut Vec<u8>,
@@ -117,8 +116,8 @@ fn put_passed(
     Ok(())
 }
 
-/// A node looked after its applications: it issued these claims and passed these applications. So many operations were
-/// issued in the world by then.
+/// The lines for a tick that issued these claims and passed these applications. `operations` is the world's count after
+/// it.
 pub fn ticked_lines(
     alloc: Global,
     config: &Config,

@@ -1,4 +1,4 @@
-//! Messages shown by their bytes, and bytes that are read as a message.
+//! The lines for messages as bytes, and for bytes parsed as messages.
 
 ghost use Rattle.std.specs.Prelude.{◌≡◌, ◌≢◌, IfOk, OnOk};
 ghost use Rattle.std.specs.Option.{option_copied};
@@ -14,14 +14,14 @@ use dac_messages::Message;
 use dac_wire::{Packet, WireFault, WireFaultKind, decode, encode};
 use std::alloc::Global;
 
-/// Bytes spell a message or an operation.
+/// The line for bytes that encode a message or an operation.
 pub fn wire_ok_line() -> &'static str
     ensures { result.now ≡ wire_ok_text }
 {
     "wire ok\n"
 }
 
-/// What is wrong with bytes, and where. `NoMemory` is no line: it ends the run.
+/// The line for a fault of bytes: its number, name and place. `NoMemory` has no line, because it ends the run.
 pub fn wire_fault_line(alloc: Global, fault: WireFault) -> Result<Vec<u8>, NoMemory>
     ensures text { IfOk result (λ line. line.items ≡ wire_fault_text fault) }
     ensures enough { OnOk result (fault.kind ≢ WireFaultKind.NoMemory) }
@@ -38,7 +38,7 @@ pub fn wire_fault_line(alloc: Global, fault: WireFault) -> Result<Vec<u8>, NoMem
     }
 }
 
-/// The message of this number, counted from 1.
+/// The message with this number, from 1.
 fn message_of(messages: &[Message], number: u64) -> Option<&Message>
     ensures { option_copied result ≡ counted messages.now number }
 {
@@ -64,7 +64,7 @@ fn spelled_line(alloc: Global, config: &Config, packet: &Packet) -> Result<Vec<u
     }
 }
 
-/// The line for the message of this number: as [`spelled_line`], or that no such message was shipped.
+/// The line for a message: its bytes, that they are too many, or that no such message was shipped.
 pub fn message_line(
     alloc: Global,
     config: &Config,
@@ -83,8 +83,7 @@ pub fn message_line(
     }
 }
 
-/// The line for bytes: that they spell a message or an operation, or the first fault that they have. What they
-/// spell goes nowhere.
+/// The line for bytes: that they encode a message or an operation, or their first fault. No node receives them.
 pub fn fed_line(alloc: Global, config: &Config, bytes: &[u8]) -> Result<Vec<u8>, NoMemory>
     ensures { IfOk result (λ line. line.items ≡ fed_text (packet_at config.now bytes.now)) }
 {

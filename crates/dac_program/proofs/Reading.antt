@@ -1,4 +1,4 @@
--- A reader of which nothing is read.
+-- A reader from which nothing is read.
 use Rattle.std.specs.Prelude.{ℕ, List, [], Option}
 use Rattle.std.proofs.Common.{arith}
 use Rattle.std.proofs.KnownBytes.{Consumes-nil}

@@ -1,4 +1,4 @@
-//! The command line.
+//! The command line and its help texts.
 
 ghost use Rattle.std.specs.Prelude.{◌≡◌, map, option_map, Some, IfOk, MatchResult};
 ghost use Rattle.clap.specs.Words.{Text, app_of, kind_of};
@@ -8,23 +8,23 @@ use clap::error::ErrorKind;
 use clap::{Command, Error};
 use std::alloc::{AllocError, Global};
 
-/// What the words of a command line ask for.
+/// The subcommand.
 #[derive(Clone, Copy, Debug, PartialEq, Eq)]
 pub enum Request {
-    /// A configuration is to be checked.
+    /// `check`: check a configuration.
     Check,
-    /// A script is to be played.
+    /// `sim`: play a script.
     Sim,
-    /// A script is to be run in threads.
+    /// `live`: run a script in threads.
     Live,
-    /// The same, and the run is to be kept as a script.
+    /// `record`: run a script in threads, and print the run as a script.
     Record,
 }
 
-/// What `distac --version` prints behind the name: the version that CHANGELOG.md has, and that of the bytes that are written.
+/// The version after the name in `distac --version`: that of CHANGELOG.md, and that of the written bytes.
 const VERSION: &str = "0.1.0, bytes 2";
 
-/// What stands at the end of the program's help.
+/// The end of the help of `distac`.
 const AFTER_HELP: &str =
     r"Lines of a script of `sim` begin with one of these verbs (`distac sim --help` says more):
   boot crash down permit start stop drain takeover tick
@@ -44,7 +44,7 @@ Documents:
   docs/FORMATS.md     All formats, and what to look at first for each fault and refusal
   examples/README.md  Scripts and configurations to try";
 
-/// What stands at the end of the help of `distac check`.
+/// The end of the help of `distac check`.
 const AFTER_CHECK: &str =
     r"The canonical text says what was read: applications in file order, nodes of a tuple in name order,
 each default written out.
@@ -62,7 +62,7 @@ Documents:
   docs/FORMATS.md    What is read, and what to look at first for each fault
   docs/OPERATORS.md  What a configuration means here, and in OTP";
 
-/// What stands at the end of the help of `distac sim`.
+/// The end of the help of `distac sim`.
 const AFTER_SIM: &str =
     r"Lines of a script, NODE being where it happens, and NOW a moment in milliseconds:
   boot NODE NOW           NODE boots
@@ -100,7 +100,7 @@ Documents:
   docs/FORMATS.md     What each line prints, and what to look at first for each fault and refusal
   examples/README.md  Scripts to try";
 
-/// What stands at the end of the help of `distac live`.
+/// The end of the help of `distac live`.
 const AFTER_LIVE: &str =
     r"Lines of a script, N being the number of a caller of NODE, 1 to 4, and NOW a moment in milliseconds:
   N boot NODE NOW           NODE boots
@@ -150,7 +150,7 @@ fn bare<'a>(alloc: Global) -> Command<'a>
         .version(VERSION)
 }
 
-/// What stands at the end of the help of `distac record`.
+/// The end of the help of `distac record`.
 const AFTER_RECORD: &str =
     r"The input is that of `live`, and the script is run as there (`distac live --help` says more). What is printed is an input
 of `sim` that says the run: the configuration, a line `--`, what `live` prints of this run as comments, the events of a
@@ -228,7 +228,8 @@ fn request_of(name: Option<&str>) -> Option<Request>
     None
 }
 
-/// What the words ask for, the program's name first. An error holds what to print, help among it.
+/// Parses a command line, which begins with the program's name. Help and version are errors, too: an error holds the
+/// text to print.
 pub fn read_request<'a>(alloc: Global, words: &'a [&'a str]) -> Result<Option<Request>, Error>
     ensures request { IfOk result
         (λ request. request ≡ request_in (subcommand_in (map (λ word. word.now) words.entry.now))) }

@@ -1,7 +1,8 @@
-//! The program `distac` over a reader and a writer: what its words ask for, and what it then prints and answers.
+//! The program `distac` over any reader and writer.
 //!
-//! `distac check` checks a configuration, `distac sim` plays a script in a world of controllers, and `distac live` runs one
-//! in threads. `distac record` does that too, and prints the run as a script that `distac sim` plays. The program itself is this crate's [`run`] over the process' own words, standard input and standard output.
+//! `distac check` checks a configuration, `distac sim` plays a script in a world of controllers, `distac live` runs one
+//! in threads, and `distac record` runs one in threads and prints the run as a script for `distac sim`. The executable
+//! is [`run`] on the process's arguments, standard input and standard output.
 #![tactic(auto)]
 
 pub use command_line::{Request, read_request};

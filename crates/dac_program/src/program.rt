@@ -21,7 +21,7 @@ use std::io::{Eprint, ErrorKind as IoErrorKind, Print, Read, Write};
 use std::sync::Wait;
 use std::thread::Threads;
 
-/// Prints why the words are no command line, or the help that they ask for, and answers the status.
+/// Prints a parse error, help or version, and returns the exit status.
 fn refuse<T: Print + Eprint, W: Write>(rt: &T, error: &Error, output: &mut W) -> u8
     ensures status { result ≤ 2 }
     ensures memory { kind_of error.now ≡ ErrorKind.OutOfMemory → result ≡ 1 }
@@ -39,13 +39,14 @@ fn refuse<T: Print + Eprint, W: Write>(rt: &T, error: &Error, output: &mut W) ->
     if error.use_stderr() { 2 } else { 0 }
 }
 
-/// Runs the program on the words of a command line, the program's name first, and answers its status. Of `distac check`,
-/// `distac sim`, `distac live` and `distac record` it is 0 where all was done. It is 1 where an input or a run has a fault, memory
-/// was refused or a write failed. They write to the output alone, and only `distac live` and `distac record` start threads.
+/// Runs the program on a command line, which begins with the program's name, and returns the exit status.
 ///
-/// Other words are for `clap`, and the clauses say of them only that the status is at most 2. Help goes to the standard
-/// output with status 0. The text about words that are no command line goes to the standard error with status 2. Where
-/// either can't be written the status is 1, and the standard error says why help wasn't.
+/// `check`, `sim`, `live` and `record` return 0 if they succeed, and 1 if the input or the run has a fault, or an
+/// allocation or a write fails. They write only to `output`, and only `live` and `record` start threads.
+///
+/// `clap` handles other command lines, for which the contract guarantees only a status of at most 2. Help goes to the
+/// standard output, with status 0. Errors of the command line go to the standard error, with status 2. If either can't
+/// be written, the status is 1, and the standard error says why help wasn't printed.
 #[tactic(auto, using(crate::proofs::Reading::nothing_read))]
 pub fn run<'a, T: Print + Eprint + Threads + Wait + Sync, R: Read, W: Write>(
     rt: &T,
@@ -55,27 +56,28 @@ pub fn run<'a, T: Print + Eprint + Threads + Wait + Sync, R: Read, W: Write>(
     output: &mut W,
 ) -> u8
     ensures status { result ≤ 2 }
-    // What `distac check` prints is the canonical text of its input, or the line of the input's failure.
+    // `distac check` prints the canonical text of its input, or the line of the input's failure.
     ensures check { (name : Text) → map (λ word. word.now) words.entry.now ≡ check_words name
         → EndsWith
         (λ bytes ending. EndsCheck bytes ending (W.contents output.old) (W.contents output.new))
         (R.remaining input.old) result }
-    // What `distac sim` prints is what the script of its input does, or the line of the input's failure.
+    // `distac sim` prints the results of its input's script, or the line of the input's failure.
     ensures sim { (name : Text) → map (λ word. word.now) words.entry.now ≡ sim_words name
         → EndsWith
         (λ bytes ending. EndsSim bytes ending (W.contents output.old) (W.contents output.new))
         (R.remaining input.old) result }
-    // What `distac live` prints is what a run of the script of its input was, or the line of the failure or the fault.
+    // `distac live` prints the results of a run of its input's script, or the line of a failure or fault.
     ensures live { (name : Text) → map (λ word. word.now) words.entry.now ≡ live_words name
         → EndsLiveWith
         (λ bytes ending. EndsLive bytes ending (W.contents output.old) (W.contents output.new))
         (R.remaining input.old) result }
-    // What `distac record` prints is such a run as a script of `distac sim`, or the line of the failure or the fault.
+    // `distac record` prints a run of its input's script as a script of `distac sim`, or the line of a failure or
+    // fault.
     ensures recorded { (name : Text) → map (λ word. word.now) words.entry.now ≡ record_words name
         → EndsLiveWith
         (λ bytes ending. EndsRecord bytes ending (W.contents output.old) (W.contents output.new))
         (R.remaining input.old) result }
-    // However it ends, no more was read than the bound and one byte.
+    // Whatever the result, at most one byte beyond the bound was read.
     ensures bound { IsReadWithinBound (R.remaining input.old) (R.remaining input.new) }
 {
     match read_request(alloc, words) {

@@ -1,16 +1,16 @@
--- Which fault is told, one outcome after another.
+-- Which fault is reported, one outcome after another.
 use Rattle.std.proofs.Common.{◌≡◌, ◌⊎◌, ℕ, Bool, true, false, List, [], ◌∷◌, ◌++◌, length, map, Option, Some, None, Result, Ok, Err, IfSome, refl, sym, ap, subst, ◌∙◌, inl, inr, append_assoc, append-nil}
 use Rattle.std.proofs.lemmas.Bool.{true≢false}
 use Rattle.std.proofs.lemmas.List.{map_push}
 use Rattle.dac_run.specs.Told.{HasFault, IsTold}
 
 module _ {W F : Type 0} (is_cause : F → Bool) where
-  -- what is told of these outcomes: nothing where each is a worker
+  -- the report after these outcomes: none if each is a worker
   abbrev pub Tells : List (Result W F) → List W → Option F → Type 0
   Tells seen workers None = map Ok workers ≡ seen
   Tells seen workers (Some fault) = IsTold is_cause seen fault
 
-  -- so it is of those that were seen, and these are left
+  -- the report after the outcomes already seen; the others are left
   pub record IsTelling (all left : List (Result W F)) (workers : List W) (told : Option F) : Type 0 where
     pub seen : List (Result W F)
     pub parts : seen ++ left ≡ all
@@ -18,18 +18,18 @@ module _ {W F : Type 0} (is_cause : F → Bool) where
 
   -- ---- one outcome more
 
-  -- a fault of those before is one of all
+  -- a fault of the outcomes seen is one of all
   before : (seen : List (Result W F)) (x : Result W F) (fault : F) → HasFault seen fault → HasFault (seen ++ x ∷ []) fault
   before [] x fault has = elim has [ ]
   before (o ∷ os) x fault (inl here) = inl here
   before (o ∷ os) x fault (inr there) = inr (before os x fault there)
 
-  -- so is the last one's
+  -- the last outcome's fault is one of all
   newest : (seen : List (Result W F)) (fault : F) → HasFault (seen ++ Err fault ∷ []) fault
   newest [] fault = inl refl
   newest (o ∷ os) fault = inr (newest os fault)
 
-  -- and there is no other
+  -- a fault of all is the last outcome's, or one of those before it
   either : (seen : List (Result W F)) (x : Result W F) (fault : F) → HasFault (seen ++ x ∷ []) fault → HasFault seen fault ⊎ (x ≡ Err fault)
   either [] x fault (inl last) = inr last
   either [] x fault (inr has) = elim has [ ]
@@ -46,13 +46,13 @@ module _ {W F : Type 0} (is_cause : F → Bool) where
   same_fault : (a b : F) → ◌≡◌ {A = Result W F} (Err a) (Err b) → a ≡ b
   same_fault a b e = cc
 
-  -- all are workers, so none has a fault
+  -- workers have no fault
   no_fault : (workers : List W) (fault : F) → ¬ HasFault (map Ok workers) fault
   no_fault [] fault has = elim has [ ]
   no_fault (w ∷ ws) fault (inl e) = ok_is_no_fault w fault e
   no_fault (w ∷ ws) fault (inr there) = no_fault ws fault there
 
-  -- a worker more
+  -- one more worker
   pub a_worker : (seen : List (Result W F)) (workers more : List W) (told : Option F) (worker : W) → more ≡ workers ++ worker ∷ [] → Tells seen workers told → Tells (seen ++ Ok worker ∷ []) more told
   a_worker seen workers more None worker is tells = ap (map Ok) is ∙ map_push Ok workers worker ∙ ap (λ os. os ++ Ok worker ∷ []) tells
   a_worker seen workers more (Some fault) worker is tells = record {
@@ -64,7 +64,7 @@ module _ {W F : Type 0} (is_cause : F → Bool) where
       by other (inl has) none = tells.cause none other has
       by other (inr e) none = ok_is_no_fault worker other e
 
-  -- a fault more, of which this is told
+  -- one more fault, of which `louder` is reported
   pub a_fault : (seen : List (Result W F)) (workers : List W) (told : Option F) (fault louder : F) → (is_cause fault ≡ true → louder ≡ fault) → (is_cause fault ≡ false → IfSome told (λ f. louder ≡ f)) → (told ≡ None → louder ≡ fault)
       → Tells seen workers told → IsTold is_cause (seen ++ Err fault ∷ []) louder
   a_fault seen workers told fault louder cause kept alone tells = by told refl (is_cause fault) refl
@@ -94,7 +94,7 @@ module _ {W F : Type 0} (is_cause : F → Bool) where
           later other (inl has) none was = was.cause none other has
           later other (inr same) none was = sym (ap is_cause (same_fault fault other same)) ∙ e
 
-  -- the outcome goes from those that are left to those that were seen
+  -- one outcome moves from those left to those seen
   pub one_more : (all left rest : List (Result W F)) (workers more : List W) (told next : Option F) (x : Result W F) (is : IsTelling all left workers told) → left ≡ x ∷ rest → Tells (is.seen ++ x ∷ []) more next → IsTelling all rest more next
   one_more all left rest workers more told next x is first tells = record {
     seen = is.seen ++ x ∷ [];
@@ -106,6 +106,6 @@ module _ {W F : Type 0} (is_cause : F → Bool) where
   none_left [] e = refl
   none_left (x ∷ xs) e = cc
 
-  -- none is left
+  -- no outcome is left
   pub whole : (all left : List (Result W F)) (workers : List W) (told : Option F) → IsTelling all left workers told → length left ≡ 0 → Tells all workers told
   whole all left workers told is none = subst (λ seen. Tells seen workers told) (sym (append-nil is.seen) ∙ (ap (λ l. is.seen ++ l) (sym (none_left left none)) ∙ is.parts)) is.tells

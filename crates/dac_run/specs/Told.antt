@@ -1,4 +1,4 @@
--- Which fault of several workers is told.
+-- Which fault of several workers is reported.
 use Rattle.std.specs.Prelude.{◌≡◌, ◌⊎◌, Bool, false, List, [], ◌∷◌, Result, Err}
 
 -- one of these outcomes is this fault

@@ -3,12 +3,12 @@
 use crate::worker::{Turn, Worker};
 use std::sync::Wait;
 
-/// A worker of one kind or of another.
+/// A worker of one of two kinds.
 #[derive(Drop)]
 pub enum Either<W, V> {
-    /// Of the one.
+    /// A worker of the first kind.
     One(W),
-    /// Of the other.
+    /// A worker of the second kind.
     Other(V),
 }
 

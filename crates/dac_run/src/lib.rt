@@ -1,7 +1,8 @@
-//! Running workers phase by phase: each in a thread of its own.
+//! A scheduler that runs workers phase by phase, each in a thread of its own.
 //!
-//! A [`Worker`] says what it does in a phase, and what in its turn of the round behind it. [`run_phases`] runs all workers of a
-//! phase at once, until all have ended. Then they take their turns, one after another, while no thread runs.
+//! A [`Worker`] has work in phases, and a part in the serial round after each. [`run_phases`] runs all workers of a
+//! phase concurrently and joins their threads. Then it gives each link a turn, one after another, while no thread runs.
+//! A fault drops all workers.
 #![tactic(auto)]
 
 pub use either::Either;

@@ -4,7 +4,7 @@ use crate::either::Either;
 use dac_base::NoMemory;
 use std::alloc::Global;
 
-/// The workers of one kind, and behind them those of the other.
+/// One list of all workers: those of the first kind, then those of the second.
 pub fn joined<W: Drop, V: Drop>(
     alloc: Global,
     ones: Vec<W>,

@@ -1,4 +1,4 @@
-//! A phase of all workers, and the round behind it.
+//! A phase of all workers, and the serial round after it.
 
 ghost use Rattle.std.specs.Prelude.{◌≡◌, ◌⊎◌, true, false, map, None, Ok, IfOk, IfErr, IfSome};
 ghost use Rattle.std.specs.Thread.{IsSend};
@@ -12,16 +12,15 @@ use std::sync::Wait;
 use std::thread;
 use std::thread::{JoinHandle, Scope, Threads};
 
-/// A worker in a phase.
 #[derive(Drop)]
 enum Started<W: Worker> {
-    /// It has nothing to do, and no thread.
+    /// It has no work in this phase, and no thread.
     Idle(W),
-    /// It works in a thread.
+    /// It works in this thread.
     Busy(JoinHandle<Result<W, W::Fault>>),
 }
 
-/// Starts a worker that has work in the phase.
+/// Spawns the worker's thread, if it has work in this phase.
 fn start<'s, E, W: Worker + 's, R: Threads + Wait + Sync>(
     scope: &Scope<'s, E>,
     rt: &'s R,
@@ -37,7 +36,6 @@ fn start<'s, E, W: Worker + 's, R: Threads + Wait + Sync>(
     }
 }
 
-/// Starts all workers, in order.
 fn start_all<'s, E, W: Worker + 's, R: Threads + Wait + Sync>(
     scope: &Scope<'s, E>,
     rt: &'s R,
@@ -53,7 +51,6 @@ fn start_all<'s, E, W: Worker + 's, R: Threads + Wait + Sync>(
     Ok(all)
 }
 
-/// Waits for a worker.
 fn ended<W: Worker, R: Threads + Wait>(rt: &R, started: Started<W>) -> Result<W, W::Fault> {
     match started {
         Started::Idle(worker) => Ok(worker),
@@ -61,7 +58,7 @@ fn ended<W: Worker, R: Threads + Wait>(rt: &R, started: Started<W>) -> Result<W,
     }
 }
 
-/// The fault that is told of a worker's and of the one that was told before it: a consequence is told only if nothing was.
+/// The fault to report after one more: a cause replaces the fault so far, and a consequence doesn't.
 fn louder<W: Worker>(told: Option<W::Fault>, fault: W::Fault) -> W::Fault
     ensures cause { W.is_cause fault ≡ true → result ≡ fault }
     ensures kept { W.is_cause fault ≡ false → IfSome told (λ before. result ≡ before) }
@@ -73,10 +70,10 @@ fn louder<W: Worker>(told: Option<W::Fault>, fault: W::Fault) -> W::Fault
     }
 }
 
-/// The workers of a phase, in order, if none of their outcomes is a fault. Of several faults the last cause is told, and the first
-/// fault if none is a cause. So whether a cause is told doesn't depend on the order of the workers.
+/// The workers of a phase, in order, if none of them failed. Of several faults it returns the last cause, or the first
+/// fault if none is a cause, so that whether a cause is returned doesn't depend on the order of the workers.
 ///
-/// `NoMemory` comes if the list of workers has no room. `NoThread` never comes.
+/// Fails with `NoMemory` if the list of workers can't grow, and never with `NoThread`.
 pub fn workers_of<W: Worker>(
     alloc: Global,
     outcomes: Vec<Result<W, W::Fault>>,
@@ -99,7 +96,6 @@ pub fn workers_of<W: Worker>(
     }
 }
 
-/// Waits for all workers, in order.
 fn join_all<W: Worker, R: Threads + Wait>(
     rt: &R,
     alloc: Global,
@@ -113,7 +109,7 @@ fn join_all<W: Worker, R: Threads + Wait>(
     Ok(outcomes)
 }
 
-/// A phase: all workers that have work run at once, each in a thread of its own, until all have ended.
+/// Runs all workers with work concurrently, each in its own thread, and joins them.
 fn run_phase<W: Worker, R: Threads + Wait + Sync>(
     rt: &R,
     alloc: Global,
@@ -133,7 +129,7 @@ fn run_phase<W: Worker, R: Threads + Wait + Sync>(
     )
 }
 
-/// The workers whose turn it is take it.
+/// Gives the turn to the workers that have a part in it.
 fn take<W: Worker, R: Wait>(
     rt: &R,
     workers: &mut Vec<W>,
@@ -148,7 +144,7 @@ fn take<W: Worker, R: Wait>(
     Ok(())
 }
 
-/// The turns of a link: it ships, and then it hears.
+/// The two turns of a link: it ships, then it hears.
 fn take_both<W: Worker, R: Wait>(
     rt: &R,
     workers: &mut Vec<W>,
@@ -161,7 +157,7 @@ fn take_both<W: Worker, R: Wait>(
     take(rt, workers, Turn { from, to, side })
 }
 
-/// The round behind a phase: the links of all ordered pairs of nodes, by name.
+/// The serial round after a phase: the links of all ordered pairs of nodes, in order of name.
 fn last_round<W: Worker, R: Wait>(
     rt: &R,
     nodes: u8,
@@ -177,9 +173,10 @@ fn last_round<W: Worker, R: Wait>(
     Ok(())
 }
 
-/// Runs so many phases, each with the round behind it. The workers come back in order.
+/// Runs this many phases, each with the serial round after it, and returns the workers in order.
 ///
-/// `NoThread` comes where a thread can't be made, and `NoMemory` where the list of workers has no room. `Fault` is that of a worker.
+/// Fails with `NoThread` if a thread can't be spawned, with `NoMemory` if the list of workers can't grow, and with
+/// `Fault` if a worker does.
 pub fn run_phases<W: Worker, R: Threads + Wait + Sync>(
     rt: &R,
     alloc: Global,

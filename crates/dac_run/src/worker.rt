@@ -1,4 +1,4 @@
-//! What a worker is to a run.
+//! The interface between workers and the scheduler.
 
 ghost use Rattle.std.specs.Prelude.{◌≡◌, Bool};
 
@@ -6,16 +6,16 @@ use dac_base::{NoMemory, NodeId};
 use std::alloc::AllocFailed;
 use std::sync::Wait;
 
-/// The end of a link that has the turn.
+/// The end of a link whose turn it is.
 #[derive(Clone, Copy, Debug, PartialEq, Eq)]
 pub enum Side {
-    /// The one that ships.
+    /// The end that ships.
     Ship,
-    /// The one that hears.
+    /// The end that hears.
     Hear,
 }
 
-/// A turn of the round behind a phase.
+/// A turn of the serial round after a phase.
 #[derive(Clone, Copy, Debug, PartialEq, Eq)]
 pub struct Turn {
     /// The node that ships.
@@ -26,14 +26,14 @@ pub struct Turn {
     pub side: Side,
 }
 
-/// Why workers are stopped.
+/// Why a run stopped.
 #[derive(Debug, Drop)]
 pub enum Stop<F> {
-    /// No thread could be made.
+    /// A thread couldn't be spawned.
     NoThread,
-    /// Memory was refused.
+    /// An allocation failed.
     NoMemory,
-    /// A worker had this fault.
+    /// A worker failed with this fault.
     Fault(F),
 }
 
@@ -57,24 +57,25 @@ impl<T: Drop, F> From<AllocFailed<T>> for Stop<F> {
     }
 }
 
-/// One that works in a thread of its own.
+/// A unit of work that runs in a thread of its own.
 pub trait Worker: Sized + Drop + Send {
-    /// Why it stops.
+    /// Why a worker fails.
     type Fault: Drop + Send;
 
     /// Which faults are causes.
     ghost is_cause: { Self.Fault → Bool };
 
-    /// Whether a fault is a cause: it is why others have theirs, and no consequence of another's. Of several faults a cause is told.
+    /// Returns whether a fault is a cause, and not a consequence of another worker's fault. Of several faults a cause
+    /// is reported.
     fn is_cause(fault: &Self::Fault) -> bool
         ensures { result ≡ is_cause fault.now };
 
-    /// Whether it has work in the phase of this number, from 0.
+    /// Returns whether the worker has work in this phase, counted from 0.
     fn works_in(&self, phase: usize) -> bool;
 
-    /// Does its work of the phase, in its thread. It is given up at `Err`.
+    /// Does the worker's part of a phase, in its own thread. At `Err` the worker is dropped.
     fn work<R: Wait>(self, rt: &R, phase: usize) -> Result<Self, Self::Fault>;
 
-    /// Does its part of a turn behind the phase, if it has one.
+    /// Does the worker's part of a turn after the phase, if it has one.
     fn take_turn<R: Wait>(&mut self, rt: &R, turn: Turn) -> Result<(), Self::Fault>;
 }

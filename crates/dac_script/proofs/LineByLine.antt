@@ -1,5 +1,4 @@
--- Reading a script of any kind of lines, one line after the other. A line that is read has no fault, and any other is answered
--- its least.
+-- Reading a script line by line. A line is either sound, or its least fault is returned.
 use Rattle.std.proofs.Common.{◌≡◌, ℕ, ◌+◌, ◌-◌, ◌<◌, ◌≤◌, Bool, true, false, cond, List, [], ◌∷◌, ◌++◌, length, sym, ap, subst, ◌∙◌, arith, append-nil, length-append}
 use Rattle.std.specs.Prelude.{All, Option, Some, None, IfSome, IfNone, filter}
 use Rattle.std.specs.Borrow.{Bor}
@@ -21,7 +20,7 @@ begins : (rest line : List ℕ) (behind : Option (Bor (List ℕ))) → IfNone be
 begins rest line None last next = ([], last)
 begins rest line (Some b) last next = (lines_of b.now, next)
 
--- what holds of a pair of lists, place by place, holds with one more pair behind them
+-- appending a pair that satisfies R
 zip_push : {A B : Type 0} (R : A → B → Type 0) (xs : List A) (ys : List B) (x : A) (y : B) → AllZip R xs ys → R x y → AllZip R (xs ++ x ∷ []) (ys ++ y ∷ [])
 zip_push R [] [] x y all here = (here, tt)
 zip_push R [] (b ∷ ys) x y all here = absurd all
@@ -30,7 +29,7 @@ zip_push R (a ∷ xs) (b ∷ ys) x y all here = (all.0, zip_push R xs ys x y all
 
 module _ {Line : Type 0} (Spells : Table → Line → List (List ℕ) → Type 0)
     (HasFault : Table → List (List ℕ) → ScriptFaultKind → Type 0) (table : Table) where
-  -- so far: lines that were read, and then the rest, which begins with the line of this number
+  -- the loop's invariant: the lines before number are read, and rest begins with line number
   pub record IsReadTo (text rest : List ℕ) (number : ℕ) (script : List Line) : Type 0 where
     pub before : List (List ℕ)
     pub lines : lines_of text ≡ before ++ lines_of rest
@@ -38,7 +37,7 @@ module _ {Line : Type 0} (Spells : Table → Line → List (List ℕ) → Type 0
     pub within : number + length rest ≤ length text + 1
     pub reads : ReadsAs Spells HasFault table before script
 
-  -- what a call does that reads one line more
+  -- reading one more line
   abbrev Adds : List ℕ → List Line → List Line → Type 0
   Adds line old new = (before : List (List ℕ)) → ReadsAs Spells HasFault table before old → ReadsAs Spells HasFault table (before ++ line ∷ []) new
 
@@ -48,14 +47,14 @@ module _ {Line : Type 0} (Spells : Table → Line → List (List ℕ) → Type 0
   abbrev Tells : List ℕ → Line → Type 0
   Tells line said = Spells table said (words_of line)
 
-  -- a line that says nothing adds nothing
+  -- a skipped line adds nothing
   pub reads_silent : (line : List ℕ) (script : List Line) → is_said line ≡ false → Adds line script script
   reads_silent line script silent before reads =
       let none : filter is_said (before ++ line ∷ []) ≡ filter is_said before =
       filter-append is_said before (line ∷ []) ∙ ap (λ (b : Bool). filter is_said before ++ cond b (line ∷ []) []) silent ∙ append-nil _ in
       record { said = subst (λ lines. AllZip Tells lines script) (sym none) reads.said; faultless = subst (All Fine) (sym none) reads.faultless }
 
-  -- a line that says something adds it
+  -- any other line adds its value
   pub reads_more : (line : List ℕ) (script : List Line) (said : Line) → is_said line ≡ true → Tells line said × Fine line → Adds line script (script ++ said ∷ [])
   reads_more line script said says read before reads =
       let more : filter is_said (before ++ line ∷ []) ≡ filter is_said before ++ line ∷ [] =
@@ -65,7 +64,7 @@ module _ {Line : Type 0} (Spells : Table → Line → List (List ℕ) → Type 0
         faultless = subst (All Fine) (sym more) (All-push Fine _ _ reads.faultless read.1);
       }
 
-  -- the first line with a fault, after lines that were read
+  -- the first faulty line, after lines that are sound
   first_fault : (before more : List (List ℕ)) (line : List ℕ) (script : List Line) (fault : ScriptFault) → fault.line ≡ length before + 1 → is_said line ≡ true → IsLeast (HasFault table (words_of line)) fault.kind
       → ReadsAs Spells HasFault table before script → IsFirstFault Spells HasFault table (before ++ line ∷ more) fault
   first_fault before more line script fault at says least reads =

@@ -1,5 +1,5 @@
--- Words spell at most one line of a script of `live`, and have no fault if they spell one. Behind a caller's number this rests
--- on the lines of `sim`.
+-- Words spell at most one line of `live`, and have no fault if they spell one. For the words after a caller's number
+-- this follows from the lines of `sim`.
 use Rattle.std.proofs.Common.{◌≡◌, ℕ, zero, suc, ◌^◌, ◌<◌, ◌≤◌, Bool, true, false, cond, List, [], ◌∷◌, map, Option, Some, None, Result, Ok, Err, codes, decimal, refl, sym, ap, subst, ◌∙◌, arith, inl, inr}
 use Rattle.std.specs.Prelude.{◌≢◌, IfOk, option_map, nat_lt}
 use Rattle.std.specs.Option.{MatchOption}
@@ -66,7 +66,7 @@ few_enough caller few =
     let most : MAX_NUMBER ≡ 2 ^ 62 = refl in
     omega (arith, few, most)
 
--- the word of a caller is read as it
+-- the word of a caller is read as its number
 caller_read : (caller : ℕ) (word : List ℕ) → word ≡ decimal caller → 0 < caller → caller ≤ 4 → caller_of word ≡ Some caller
 caller_read zero word is some few = absurd (omega (arith, some))
 caller_read (suc zero) word is some few = ap caller_of (is ∙ decimal_digit 1 (omega arith))
@@ -75,7 +75,7 @@ caller_read (suc (suc (suc zero))) word is some few = ap caller_of (is ∙ decim
 caller_read (suc (suc (suc (suc zero)))) word is some few = ap caller_of (is ∙ decimal_digit 4 (omega arith))
 caller_read (suc (suc (suc (suc (suc n))))) word is some few = absurd (omega (arith, few))
 
--- it has digits alone, and begins no other line
+-- a caller's word has only digits, so it begins no line without a caller
 begins_caller : (caller : ℕ) (word : List ℕ) → word ≡ decimal caller → 0 < caller → caller ≤ 4 → (plain_roles word ≡ None) × (is_caller_word word ≡ true)
 begins_caller zero word is some few = absurd (omega (arith, some))
 begins_caller (suc zero) word is some few = (ap plain_roles (is ∙ decimal_digit 1 (omega arith)), ap is_caller_word (is ∙ decimal_digit 1 (omega arith)))
@@ -92,7 +92,7 @@ some_caller (suc (suc (suc zero))) word is some few none = none.2 (is ∙ decima
 some_caller (suc (suc (suc (suc zero)))) word is some few none = none.3 (is ∙ decimal_digit 4 (omega arith))
 some_caller (suc (suc (suc (suc (suc n))))) word is some few none = absurd (omega (arith, few))
 
--- no kind is before the first
+-- BadWord, number 1, is the least kind
 first_kind : (kind : ScriptFaultKind) → 1 ≤ script_number kind
 first_kind BadWord = omega arith
 first_kind BadCount = omega arith
@@ -101,9 +101,9 @@ first_kind BadNumber = omega arith
 first_kind UnknownActor = omega arith
 first_kind BadHex = omega arith
 
--- ---- what a caller asks
+-- ---- requests
 
--- a word of what a caller asks, and then places of the kinds that its roles have
+-- places as in a request: its word, then the kinds of its roles
 abbrev HasAsked : List Slot → Type 0
 HasAsked (Word word ∷ slots) = (roles : List Role) × (asked_roles word ≡ Some roles) × (map kind_of slots ≡ map role_kind roles)
 HasAsked slots = ⊥
@@ -120,7 +120,7 @@ asked_verb (node, Some (request.Command (command.Stop app about))) = (role.Actor
 asked_verb (node, Some (request.Command (command.Drain about value))) = (role.Actor ∷ role.About ∷ role.Flag ∷ [], refl, refl)
 asked_verb (node, Some (request.Command (command.Takeover app))) = (role.Actor ∷ role.Application ∷ [], refl, refl)
 
--- what is asked is known by its places
+-- its places determine a request
 abbrev request_of : What → Option Request
 request_of (what.Boot now) = Some (request.Boot now)
 request_of what.Crash = Some request.Crash
@@ -154,7 +154,7 @@ line_by caller (node, Some asked) = Do node caller asked
 line_by caller (node, None) = Read node caller
 
 module _ (table : Table) where
-  -- what is asked has no fault if words spell it
+  -- words that spell a request have no fault
   asked_fine_by : (slots : List Slot) (words : List (List ℕ)) → HasAsked slots → AllTell table slots words → IsFaultless (IsAskedWrong table words)
   asked_fine_by (Word word ∷ slots) (first ∷ words) (roles, is, kinds) has kind wrong =
       all_fine table roles slots words kinds has.1 kind (subst (λ o. MatchOption o (kind ≡ BadWord) (λ roles. AreWrong table roles words kind)) (ap asked_roles has.0 ∙ is) wrong)
@@ -177,7 +177,7 @@ module _ (table : Table) where
 
   -- ---- lines
 
-  -- a caller's line
+  -- a caller's line has no fault
   caller_fine : (caller : ℕ) (both : NodeId × Option Request) (words : List (List ℕ)) → 0 < caller → caller ≤ 4 → AllTell table (Number caller ∷ asked_form both) words → IsFaultless (HasFault table words)
   caller_fine caller both [] some few has kind wrong = absurd has
   caller_fine caller both (first ∷ rest) some few has kind wrong =
@@ -245,14 +245,14 @@ module _ (table : Table) where
   live_same Phase (Feed bytes) words has also = absurd (feed_no_phase (Hex bytes ∷ []) [] words also.1 has.1)
   live_same Phase Phase words has also = refl
 
--- words that spell a line have no fault, and spell no other
+-- words that spell a line have no fault and spell no other
 pub live_lines_in_words : LiveLinesInWords
 live_lines_in_words table line words has = (live_fine table line words has, λ other also. live_same table line other words has also)
 
 pub live_read : (table : Table) (words : List (List ℕ)) (said : Result LiveLine ScriptFaultKind) → MatchResult said (λ line. SpellsLive table line words) (IsLeast (HasFault table words)) → IsReading SpellsLive HasFault table words said
 live_read table words said is = reading SpellsLive HasFault live_lines_in_words table words said is
 
--- a word that begins neither of the lines without a caller
+-- neither `phase` nor `feed`
 pub no_plain : (first : List ℕ) → first ≢ codes "phase" → first ≢ codes "feed" → plain_roles first ≡ None
 no_plain first phase feed =
     ap (λ b. cond b (Some []) (cond (bytes_eq first (codes "feed")) (Some (role.Hex ∷ [])) None)) (differs (codes "phase") phase)
@@ -266,7 +266,7 @@ no_plain first phase feed =
         by false is = refl
 
 module _ (table : Table) where
-  -- ---- what is read of words
+  -- ---- parsed words
 
   pub asked_fails : (first : List ℕ) (rest : List (List ℕ)) (roles : List Role) (kind : ScriptFaultKind) → asked_roles first ≡ Some roles → IsLeast (AreWrong table roles rest) kind → IsLeast (IsAskedWrong table (first ∷ rest)) kind
   asked_fails first rest roles kind is least = subst (λ o. IsLeast (λ kind. MatchOption o (kind ≡ BadWord) (λ roles. AreWrong table roles rest kind)) kind) (sym is) least
@@ -285,7 +285,7 @@ module _ (table : Table) where
   pub no_caller_word : (first : List ℕ) (rest : List (List ℕ)) → is_caller_word first ≡ false → IsLeast (IsOtherWrong table first rest) BadWord
   no_caller_word first rest is = record { has = inl (refl, λ digits. false≢true (sym is ∙ list_all-from_AllPass is_ascii_digit first digits)); least = λ kind h. first_kind kind }
 
-  -- a line of a caller
+  -- a caller's line is parsed exactly
   pub caller_judged : (first : List ℕ) (rest : List (List ℕ)) (said : Result (NodeId × Option Request) ScriptFaultKind) → plain_roles first ≡ None → is_caller_word first ≡ true
       → MatchResult said (λ both. AllTell table (asked_form both) rest) (IsLeast (IsAskedWrong table rest))
       → MatchResult (with_caller (caller_of first) said) (λ line. SpellsLive table line (first ∷ rest)) (IsLeast (HasFault table (first ∷ rest)))
@@ -338,7 +338,7 @@ module _ (table : Table) where
       by None (Ok both) none is = lift BadNumber (number_alone none (asked_fine_by table (asked_form both) rest (asked_verb both) is))
       by None (Err kind) none is = lift (least_of BadNumber kind) (number_too none kind is)
 
-  -- a line that words spell is of nodes of the configuration, and of callers from 1 to 4
+  -- an accepted line has configured nodes, and callers from 1 to 4
   asked_below : (both : NodeId × Option Request) (words : List (List ℕ)) → AllTell table (asked_form both) words → both.0.0 < node_count table
   asked_below (node, Some asked) words has = event_below table node (what_of asked) words has
   asked_below (node, None) words has = first_node table (codes "read") node [] words has

@@ -1,4 +1,4 @@
--- Looking for the line that parts an input.
+-- Searching for the line that splits an input.
 use Rattle.std.proofs.Common.{◌≡◌, ℕ, ◌+◌, ◌-◌, ◌<◌, ◌≤◌, false, List, [], ◌∷◌, ◌++◌, length, take, drop, get_or, eqb, refl, sym, ap, subst, ◌∙◌, arith, append_assoc, length-append}
 use Rattle.std.specs.Prelude.{All, ◌≢◌, Option, Some, None, IfSome, IfNone, unwrap_or}
 use Rattle.std.specs.Borrow.{Bor}
@@ -12,7 +12,7 @@ use Rattle.std.proofs.lemmas.List.Splits.{join_with_byte-slice_split, slice_spli
 use Rattle.dac_script.specs.Script.{lines_of}
 use Rattle.dac_script.specs.Input.{divider, line_len, with_feeds, IsParted}
 
--- so far: whole lines that aren't the divider, and then the rest
+-- the loop's invariant: whole lines without a divider, then the rest
 pub record IsFront (text rest : List ℕ) : Type 0 where
   pub before : List (List ℕ)
   pub lines : lines_of text ≡ before ++ lines_of rest
@@ -31,7 +31,7 @@ front_more text rest line behind whole more unmarked front = record {
   text_is = front.text_is ∙ ap (λ l. with_feeds front.before ++ l) (whole ∙ sym (append_assoc line (10 ∷ []) behind)) ∙ sym (append_assoc (with_feeds front.before) (line ++ 10 ∷ []) behind) ∙ ap (λ l. l ++ behind) (sym (with_feeds_push front.before line));
 }
 
--- the front ends where the rest begins
+-- the invariant's lines end where the rest begins
 front_len : (text rest : List ℕ) (front : IsFront text rest) → length text - length rest ≡ length (with_feeds front.before)
 front_len text rest front = omega (arith, ap length front.text_is, length-append (with_feeds front.before) rest)
 
@@ -75,11 +75,11 @@ first_last text n e le =
     slice_split_none (λ b. eqb b 10) text (All-from_get_or (λ x. eqb x 10 ≡ false) text 0 (λ i lt. fails_before_first (λ b. eqb b 10) text i 0 (omega (arith, e))))
     ∙ ap (λ l. l ∷ []) (sym (take_all n text le))
 
--- what stands behind the first byte of what is left
+-- the rest after one more byte
 pub behind_of : (text back : List ℕ) (n : ℕ) → back ≡ drop n text → take (length back - 1) (drop 1 back) ≡ drop (n + 1) text
 behind_of text back n e = take_all (length back - 1) (drop 1 back) (omega (arith, length-drop 1 back)) ∙ ap (drop 1) e ∙ drop-drop 1 n text
 
--- the divider was found: the parts are what stands before the rest, and what stands behind the line
+-- at the divider: the parts are the text before the rest and the text after the line
 pub parted_here : (text rest config line : List ℕ) (behind : Option (Bor (List ℕ))) (script none : Bor (List ℕ)) → IfNone behind (lines_of rest ≡ line ∷ []) → IfSome behind (λ b. lines_of rest ≡ line ∷ lines_of b.now)
     → line ≡ divider → config ≡ take (length text - length rest) text → script ≡ unwrap_or behind none → none.now ≡ [] → IsFront text rest → IsParted text config script.now
 parted_here text rest config line None script none last more marked is_config is_script empty front =

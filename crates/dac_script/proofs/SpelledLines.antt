@@ -72,9 +72,9 @@ verb_is word =
 pub word_is : (word : List ℕ) (v : Verb) → verb_of word ≡ Some v → word ≡ text_of v
 word_is word v is = subst (λ o. IfSome o (λ v. word ≡ text_of v)) is (verb_is word)
 
--- ---- the places of a line
+-- ---- places of a line
 
--- a word of a verb, and then places of the kinds that its roles have
+-- places as in a line: the word of a verb, then the kinds of its roles
 abbrev HasVerb : List Slot → Type 0
 HasVerb (Word word ∷ slots) = (v : Verb) × (verb_of word ≡ Some v) × (map kind_of slots ≡ map role_kind (roles_of v))
 HasVerb slots = ⊥
@@ -102,7 +102,7 @@ form_verb (says.Same first second) = (verb.Same, refl, refl)
 form_verb (says.Bytes message) = (verb.Bytes, refl, refl)
 form_verb (says.Feed bytes) = (verb.Feed, refl, refl)
 
--- ---- a line is known by its places
+-- ---- its places determine a line
 
 abbrev happens : NodeId → What → Option ScriptLine
 happens node happened = Some (says.Event (record { node = node; what = happened }))
@@ -192,22 +192,22 @@ module _ (table : Table) where
   same_by (Word word ∷ ss) ts (first ∷ words) well also has too = absurd also
   same_by ss ts words well also has too = absurd well
 
--- words that spell a line have no fault, and spell no other
+-- words that spell a line have no fault and spell no other
 pub lines_in_words : LinesInWords
 lines_in_words table line words has = (
   faultless_by table (form_of line) words (form_verb line) has,
   λ other also. form_known other line (same_by table (form_of other) (form_of line) words (form_verb other) (form_verb line) also has),
 )
 
--- ---- what is read
+-- ---- parsed words
 
--- what was read of words is a reading of them, where what they spell is exact
+-- the result of parsing is exact if spelling is
 pub reading : {Line : Type 0} (S : Table → Line → List (List ℕ) → Type 0) (F : Table → List (List ℕ) → ScriptFaultKind → Type 0) → IsExact S F
     → (table : Table) (words : List (List ℕ)) (said : Result Line ScriptFaultKind) → MatchResult said (λ line. S table line words) (IsLeast (F table words)) → IsReading S F table words said
 reading S F exact table words (Ok line) is = record { judged = (is, (exact table line words is).0); exact = λ other has. ap (λ l. Ok l) (sym ((exact table line words is).1 other has)) }
 reading S F exact table words (Err kind) is = record { judged = is; exact = λ other has. absurd ((exact table other words has).0 kind is.has) }
 
--- of a line that is read so, the words between its spaces spell that
+-- an accepted line is spelled by the words between its spaces
 pub accepted : {Line : Type 0} (S : Table → Line → List (List ℕ) → Type 0) (F : Table → List (List ℕ) → ScriptFaultKind → Type 0) → IsAcceptedInWords S F
 accepted S F table said line read is = (spells, reads)
   where
@@ -223,7 +223,7 @@ pub line_read : (table : Table) (words : List (List ℕ)) (said : Result ScriptL
 line_read table words said is = reading Spells HasFault lines_in_words table words said is
 
 module _ (table : Table) where
-  -- a line that has the places of a verb, behind its word
+  -- a line whose places are those of a verb is spelled by its word and values
   pub verb_spells : (first : List ℕ) (rest : List (List ℕ)) (v : Verb) (slots : List Slot) (line : ScriptLine) → verb_of first ≡ Some v → AllTell table slots rest → form_of line ≡ Word (text_of v) ∷ slots → Spells table line (first ∷ rest)
   verb_spells first rest v slots line is tells form = subst (λ places. AllTell table places (first ∷ rest)) (sym form) (word_is first v is, tells)
 
@@ -235,7 +235,7 @@ module _ (table : Table) where
   no_verb first rest is =
       subst (λ o. IsLeast (λ kind. MatchOption o (kind ≡ BadWord) (λ verb. AreWrong table (roles_of verb) rest kind)) BadWord) (sym is) (record { has = refl; least = λ other h. omega (arith, ap script_number h) })
 
-  -- ---- nodes of the configuration
+  -- ---- configured nodes
 
   pub node_below : (name : List ℕ) (node : NodeId) → node_named table name ≡ Some node → node.0 < node_count table
   node_below name node is = by (position (λ (row : NodeRow). bytes_eq name row.name) table.nodes) refl is
@@ -274,7 +274,7 @@ module _ (table : Table) where
   event_below node (what.Deliver message) words has = first_node (codes "hear") node (Number message ∷ []) words has
   event_below node (what.Hand operation) words has = first_node (codes "hand") node (Number operation ∷ []) words has
 
-  -- a line that words spell happens at nodes of the configuration
+  -- an accepted line acts at configured nodes
   pub actors_are : (line : ScriptLine) (words : List (List ℕ)) → Spells table line words → HasActors (node_count table) line
   actors_are (says.Event event) words has = event_below event.node event.what words has
   actors_are says.Share words has = tt

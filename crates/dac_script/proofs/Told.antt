@@ -1,5 +1,5 @@
--- Words in their roles: a word that tells what its place is for has no fault in the role of that place, and tells nothing else.
--- Of the faults of many words the least is returned.
+-- A word that spells the value of its place has no fault in that role and spells no other value. Of many words the
+-- least fault is returned.
 use Rattle.std.proofs.Common.{◌≡◌, ℕ, zero, suc, ◌-◌, ◌<◌, ◌≤◌, Bool, true, false, cond, List, [], ◌∷◌, length, take, drop, get_or, map, Option, Some, None, codes, unwrap_or, refl, sym, ap, subst, ◌∙◌, arith, inl, inr}
 use Rattle.std.specs.Prelude.{◌≢◌, ◌⊎◌, nat_lt}
 use Rattle.std.specs.Borrow.{Bor}
@@ -29,7 +29,7 @@ none_given o x given none = cc
 
 -- ---- the fault of one word
 
--- this kind alone
+-- the only kind is the least
 pub alone : (kind : ScriptFaultKind) (A : Type 0) → A → IsLeast (λ other. (other ≡ kind) × A) kind
 alone kind A here = record { has = (refl, here); least = λ other h. omega (arith, ap script_number h.0) }
 
@@ -47,7 +47,7 @@ unknown_node table word name is none = record { has = inr (refl, subst (λ o. Is
     by kind (inl p) = absurd (none_given (name_in word) name is p.1)
     by kind (inr p) = omega (arith, ap script_number p.0)
 
--- ---- what is there, or the number past all
+-- ---- a configured name, or the number past all
 
 pub past_is : {X : Type 0} (o : Option X) (x : X) → MatchOption o (unwrap_or o x ≡ x) (λ found. unwrap_or o x ≡ found)
 past_is None x = refl
@@ -57,7 +57,7 @@ past_only : {X : Type 0} (o : Option X) (x y : X) → MatchOption o (y ≡ x) (�
 past_only None x y is = is
 past_only (Some z) x y is = is
 
--- ---- what one word tells
+-- ---- the value of one word
 
 module _ (table : Table) (word name : List ℕ) (is : name_in word ≡ Some name) where
   pub node_told : (node : NodeId) → node_named table name ≡ Some node → Tells table (Node node) word
@@ -84,7 +84,7 @@ bytes_told table word bytes is = bytes_spelled bytes word is
 pub bad_bytes : (table : Table) (word : List ℕ) → bytes_in word ≡ None → IsLeast (IsWrong table role.Hex word) BadHex
 bad_bytes table word none = alone BadHex (IsNoHex word) (no_bytes word none)
 
--- ---- the kinds of places
+-- ---- kinds of places
 
 abbrev pub kind_of : Slot → ℕ
 kind_of (Word text) = 0
@@ -117,7 +117,7 @@ pub slot_kinds : (values : Values) (roles : List Role) → map kind_of (map (slo
 slot_kinds values [] = refl
 slot_kinds values (r ∷ roles) = ap (λ k. k ∷ map kind_of (map (slot_of values) roles)) (slot_kind values r) ∙ ap (λ l. role_kind r ∷ l) (slot_kinds values roles)
 
--- ---- a word that tells what its place is for
+-- ---- a word that spells its value
 
 found_same : {X : Type 0} (f : List ℕ → Option X) (o : Option (List ℕ)) (name other : List ℕ) (x y : X) → o ≡ Some name → o ≡ Some other → f name ≡ Some x → f other ≡ Some y → x ≡ y
 found_same f o name other x y is also here there = cc
@@ -131,7 +131,7 @@ module _ (table : Table) where
   no_node_here word name node is known kind (inr p) =
       none_given (node_named table name) node known (subst (λ o. IsSomeAnd o (λ n. node_named table n ≡ None)) is p.1)
 
-  -- it has no fault in the role of its place
+  -- it has no fault in its role
   fine : (r : Role) (slot : Slot) (word : List ℕ) → kind_of slot ≡ role_kind r → Tells table slot word → IsFaultless (IsWrong table r word)
   fine role.Actor (Node node) word e has = no_node_here word has.0 node (name_read has.0 word has.1) has.2
   fine role.Other (Node node) word e has = no_node_here word has.0 node (name_read has.0 word has.1) has.2
@@ -143,7 +143,7 @@ module _ (table : Table) where
   fine role.Hex (Hex bytes) word e has = λ kind p. some_bytes word bytes (bytes_read bytes word has.0 has.1) p.1
   fine r slot word e has = absurd (omega (arith, e))
 
-  -- it tells nothing else
+  -- it spells no other value
   same : (s t : Slot) (word : List ℕ) → kind_of s ≡ kind_of t → Tells table s word → Tells table t word → s ≡ t
   same (Word text) (Word other) word e has also = ap Word (sym has ∙ also)
   same (Node node) (Node other) word e has also =
@@ -210,7 +210,7 @@ module _ (table : Table) where
   none_wrong kind [] (k, y, lt, is, h) = omega (arith, lt)
   none_wrong kind (r ∷ roles) (k, y, lt, is, h) = omega (arith, lt)
 
-  -- words that tell what their places are for have no fault in the roles of these
+  -- words that spell their values have no fault in their roles
   any_fine : (roles : List Role) (slots : List Slot) (words : List (List ℕ)) → map kind_of slots ≡ map role_kind roles → AllTell table slots words → IsFaultless (IsAnyWrong table roles words)
   any_fine roles [] [] e has kind wrong = none_wrong kind roles wrong
   any_fine roles [] (word ∷ words) e has kind wrong = absurd has
@@ -243,7 +243,7 @@ module _ (table : Table) where
   abbrev pub WordsRead : Values → List Role → List (List ℕ) → Option ScriptFaultKind → Type 0
   WordsRead values roles words fault = MatchOption fault (AllTell table (map (slot_of values) roles) words) (IsLeast (IsAnyWrong table roles words))
 
-  -- a word is read alike by values that have the same in its place
+  -- the result of parsing a word depends only on the field of its role
   pub word_kept : (values later : Values) (r : Role) (word : List ℕ) (fault : Option ScriptFaultKind) → slot_of later r ≡ slot_of values r → WordRead values r word fault → WordRead later r word fault
   word_kept values later r word None kept read = subst (λ slot. Tells table slot word) (sym kept) read
   word_kept values later r word (Some kind) kept read = read
@@ -279,11 +279,11 @@ module _ (table : Table) where
         by true less = least_later other (λ k p. omega (arith, ltb-true (script_number other) (script_number one) less, first.least k p)) rest
         by false less = least_first one first (λ k p. omega (arith, ltb-false (script_number other) (script_number one) less, rest.least k p))
 
-  -- the words after the first one, as a slice has them
+  -- the tail of a slice
   behind_first : {X : Type 0} (xs : List X) → take (length xs - 1) (drop 1 xs) ≡ drop 1 xs
   behind_first xs = take_all (length xs - 1) (drop 1 xs) (omega (arith, length-drop 1 xs))
 
-  -- the first word is read, and then those after it
+  -- the first word is parsed, then the others
   pub words_read : (values later : Values) (roles : List Role) (words : List (Bor (List ℕ))) (r : Role) (none : Bor (List ℕ)) (fault rest : Option ScriptFaultKind)
       → length words ≡ length roles → 0 < length roles → AreDistinct roles
       → WordRead values (get_or roles 0 r) (get_or words 0 none).now fault
@@ -315,7 +315,7 @@ module _ (table : Table) where
   any_after_count : (roles : List Role) (words : List (List ℕ)) (kind : ScriptFaultKind) → IsAnyWrong table roles words kind → 2 ≤ script_number kind
   any_after_count roles words kind (k, both, lt, is, wrong) = after_count both.0 both.1 kind wrong
 
-  -- too few words, or too many
+  -- too few or too many words
   pub miscounted : (roles : List Role) (words : List (List ℕ)) → length words ≢ length roles → IsLeast (AreWrong table roles words) BadCount
   miscounted roles words differ = record { has = inl (refl, differ); least = by }
     where
@@ -323,7 +323,7 @@ module _ (table : Table) where
       by kind (inl p) = omega (arith, ap script_number p.0)
       by kind (inr wrong) = any_after_count roles words kind wrong
 
-  -- as many as there are roles
+  -- the right number of words
   pub counted : (roles : List Role) (words : List (List ℕ)) (kind : ScriptFaultKind) → length words ≡ length roles → IsLeast (IsAnyWrong table roles words) kind → IsLeast (AreWrong table roles words) kind
   counted roles words kind as_many least = record { has = inr least.has; least = by }
     where

@@ -1,9 +1,9 @@
--- The nodes at which a line happens.
+-- The nodes that a line names as actors.
 use Rattle.std.specs.Prelude.{ℕ, ◌<◌}
 use Rattle.dac_script.specs.declared.line.ScriptLine.{ScriptLine}
 use Rattle.dac_script.specs.declared.line.ScriptLine.TheVariants as says
 
--- what a line says happens at nodes below this number
+-- the nodes at which the line acts are below this number, which means that they are configured
 abbrev pub HasActors : ℕ → ScriptLine → Type 0
 HasActors nodes (says.Event event) = event.node.0 < nodes
 HasActors nodes says.Share = Unit {0}

@@ -1,5 +1,5 @@
--- How lines are spelled, whatever a reader does: a table from what a line says to its words, what a word may be at each
--- place, and how words stand in a line.
+-- The grammar of lines, independent of any reader: the words that spell each line, the texts of each word, and the
+-- spaces between words.
 use Rattle.std.specs.Prelude.{◌≡◌, ◌≢◌, ◌⊎◌, ℕ, ◌<◌, ◌≤◌, Bool, true, false, List, [], ◌∷◌, ◌++◌, length, All, Some, codes}
 use Rattle.std.specs.Option.{MatchOption}
 use Rattle.std.specs.List.{AllZip}
@@ -19,8 +19,8 @@ use Rattle.dac_script.specs.declared.line.ScriptLine.TheVariants as says
 
 -- ---- words
 
--- What a place of a line is for: this very word, or a word that tells this. It is the node where something happens, or
--- the node or the application that it is about. Or it is a number, `true` or `false`, or bytes
+-- A place in a line, with its value: a fixed word, an acting node, a node or an application concerned, a number, a
+-- flag, or bytes.
 pub data Slot : Type 0 where
   Word : List ℕ → Slot
   Node : NodeId → Slot
@@ -30,16 +30,16 @@ pub data Slot : Type 0 where
   Flag : Bool → Slot
   Hex : List ℕ → Slot
 
--- an atom with this name: a bare one, or one between quotes
+-- word is an atom with this name, bare or quoted
 abbrev pub IsAtom : List ℕ → List ℕ → Type 0
 IsAtom name word = ((word ≡ name) × IsBareAtom name) ⊎ IsQuoted name word
 
--- the node with this name; the number just past all nodes if the configuration has none such
+-- the node with this name, or the number past all nodes if none has it
 abbrev pub IsNodeOf : Table → List ℕ → NodeId → Type 0
 IsNodeOf table name node =
     MatchOption (node_named table name) (node ≡ record { 0 = node_count table }) (λ found. node ≡ found)
 
--- the application with this name; the number just past all if the configuration has none such
+-- the application with this name, or the number past all applications if none has it
 abbrev pub IsAppOf : Table → List ℕ → AppId → Type 0
 IsAppOf table name app =
     MatchOption (app_named table name) (app ≡ record { 0 = app_count table }) (λ found. app ≡ found)
@@ -49,8 +49,8 @@ abbrev pub flag_word : Bool → List ℕ
 flag_word true = codes "true"
 flag_word false = codes "false"
 
--- A word tells what its place is for. A node where something happens is in the configuration. A number has no zero
--- before it and is at most MAX_NUMBER, and a byte is two digits of which the letters are small
+-- The word spells the value of its place. An acting node is configured. A number has no leading zero and is at most
+-- MAX_NUMBER. A byte is two lower-case hexadecimal digits.
 abbrev pub Tells : Table → Slot → List ℕ → Type 0
 Tells table (Word text) word = word ≡ text
 Tells table (Node node) word = (name : List ℕ) × IsAtom name word × (node_named table name ≡ Some node)
@@ -60,13 +60,13 @@ Tells table (Number number) word = (word ≡ decimal number) × (number ≤ MAX_
 Tells table (Flag value) word = word ≡ flag_word value
 Tells table (Hex bytes) word = (word ≡ encode_lower bytes) × IsBytes bytes
 
--- as many words as places, and each word tells what its place is for
+-- there are as many words as places, and each spells its value
 abbrev pub AllTell : Table → List Slot → List (List ℕ) → Type 0
 AllTell table slots words = AllZip (Tells table) slots words
 
 -- ---- lines
 
--- a command that is given at a node
+-- a command to a node
 abbrev pub command_form : NodeId → Command → List Slot
 command_form node (command.Down about) = Word (codes "down") ∷ Node node ∷ About about ∷ []
 command_form node (command.Permit app about value) =
@@ -79,7 +79,7 @@ command_form node (command.Drain about value) =
     Word (codes "drain") ∷ Node node ∷ About about ∷ Flag value ∷ []
 command_form node (command.Takeover app) = Word (codes "takeover") ∷ Node node ∷ App app ∷ []
 
--- what happens at a node
+-- an event at a node
 abbrev pub event_form : NodeId → What → List Slot
 event_form node (what.Boot now) = Word (codes "boot") ∷ Node node ∷ Number now ∷ []
 event_form node what.Crash = Word (codes "crash") ∷ Node node ∷ []
@@ -99,25 +99,25 @@ form_of (says.Same first second) = Word (codes "same") ∷ Node first ∷ Node s
 form_of (says.Bytes message) = Word (codes "bytes") ∷ Number message ∷ []
 form_of (says.Feed bytes) = Word (codes "feed") ∷ Hex bytes ∷ []
 
--- these words spell a line
+-- the words spell the line
 abbrev pub Spells : Table → ScriptLine → List (List ℕ) → Type 0
 Spells table said words = AllTell table (form_of said) words
 
 -- ---- words in a line
 
--- spaces alone, if anything
+-- only spaces, or nothing
 abbrev pub AreSpaces : List ℕ → Type 0
 AreSpaces bytes = All (λ b. b ≡ 32) bytes
 
--- one byte or more, and no space
+-- at least one byte, and no space
 abbrev pub IsWord : List ℕ → Type 0
 IsWord bytes = (0 < length bytes) × All (λ b. b ≢ 32) bytes
 
--- a word ends before these bytes: the line ends, or a space stands there
+-- a word ends before these bytes: the line ends, or a space follows
 abbrev pub EndsWord : List ℕ → Type 0
 EndsWord behind = (behind ≡ []) ⊎ Begins (λ b. b ≡ 32) behind
 
--- A line is these words with spaces between them. Spaces may also stand before the first word and behind the last
+-- The line consists of these words, separated by spaces, possibly with spaces before the first and after the last.
 abbrev pub HasWords : List (List ℕ) → List ℕ → Type 0
 HasWords [] line = AreSpaces line
 HasWords (word ∷ words) line =

@@ -1,4 +1,4 @@
--- What an input says, and why it says nothing: of a script of `sim` or of `live`.
+-- The configuration and script of an input, and why an input fails; for `sim` and `live`.
 use Rattle.std.specs.Prelude.{◌≡◌, ◌≢◌, ℕ, ◌<◌, List, length, All, Err}
 use Rattle.dac_tokens.specs.declared.fault.ConfigFault.{ConfigFault}
 use Rattle.dac_config.specs.Table.{Table}
@@ -16,17 +16,17 @@ use Rattle.dac_script.specs.Forms.{Spells}
 use Rattle.dac_script.specs.LineFaults.{HasFault}
 use Rattle.dac_script.specs.Input.{IsTaken, divider, IsParted}
 
--- the configuration of a text has this fault
+-- the configuration has this fault
 pub record HasConfigFault (text : List ℕ) (fault : ConfigFault) : Type 0 where
   pub config : List ℕ
   pub script : List ℕ
   pub parted : IsParted text config script
   pub fault_is : config_at config ≡ Err fault
 
--- inputs in general, by which words spell a line and which kinds of fault words have
+-- any kind of script, given which words spell a line and which faults words have
 module _ {Line : Type 0} (Spells : Table → Line → List (List ℕ) → Type 0)
     (HasFault : Table → List (List ℕ) → ScriptFaultKind → Type 0) where
-  -- a text has two parts, which say this configuration and this script
+  -- the text consists of this configuration and this script
   pub record HasParts (text : List ℕ) (table : Table) (lines : List Line) : Type 0 where
     pub config : List ℕ
     pub script : List ℕ
@@ -34,7 +34,7 @@ module _ {Line : Type 0} (Spells : Table → Line → List (List ℕ) → Type 0
     pub table_is : IsConfigOf config table
     pub lines_are : ReadsAs Spells HasFault table (lines_of script) lines
 
-  -- the configuration of a text has no fault, and its script has this one
+  -- the configuration is sound, and the script has this fault
   pub record HasScriptFault (text : List ℕ) (fault : ScriptFault) : Type 0 where
     pub config : List ℕ
     pub script : List ℕ
@@ -43,8 +43,7 @@ module _ {Line : Type 0} (Spells : Table → Line → List (List ℕ) → Type 0
     pub table_is : IsConfigOf config table
     pub fault_is : IsFirstFault Spells HasFault table (lines_of script) fault
 
-  -- why the parts of a text aren't read: it has only one, its configuration or its script has a fault, or memory is
-  -- refused
+  -- why a text isn't read: no divider, a fault of the configuration or of the script, or a failed allocation
   abbrev pub IsPartsFailure : List ℕ → Failure → Type 0
   IsPartsFailure text (failure.Input TooLong) = ⊥
   IsPartsFailure text (failure.Input NoScript) = All (λ line. line ≢ divider) (lines_of text)
@@ -53,13 +52,13 @@ module _ {Line : Type 0} (Spells : Table → Line → List (List ℕ) → Type 0
   IsPartsFailure text (failure.Script fault) = HasScriptFault text fault
   IsPartsFailure text failure.NoMemory = Unit {0}
 
-  -- an input isn't too long, and says this configuration and this script
+  -- the input isn't too long, and consists of this configuration and this script
   pub record SaysAll (bytes : List ℕ) (table : Table) (lines : List Line) : Type 0 where
     pub taken : IsTaken bytes
     pub parts : HasParts bytes table lines
 
-  -- Why an input isn't read. What it says is looked at only where it isn't too long. Of a failed read, and where memory
-  -- is refused, the input says nothing.
+  -- Why an input isn't read. Faults of its contents are reported only if it isn't too long. A failed read or allocation
+  -- says nothing about the contents.
   abbrev pub IsInputFailure : List ℕ → Failure → Type 0
   IsInputFailure bytes (failure.Input TooLong) = MAX_INPUT < length bytes
   IsInputFailure bytes (failure.Input NoScript) = IsTaken bytes × All (λ line. line ≢ divider) (lines_of bytes)
@@ -68,7 +67,7 @@ module _ {Line : Type 0} (Spells : Table → Line → List (List ℕ) → Type 0
   IsInputFailure bytes (failure.Script fault) = IsTaken bytes × HasScriptFault bytes fault
   IsInputFailure bytes failure.NoMemory = Unit {0}
 
--- an input of `sim` isn't too long, and says this configuration and this script
+-- the input of `sim` consists of this configuration and this script
 abbrev pub SaysScript : List ℕ → Table → List ScriptLine → Type 0
 SaysScript bytes table lines = SaysAll Spells HasFault bytes table lines
 

@@ -1,4 +1,4 @@
--- What the limits are, so that none of them can change unseen.
+-- The values of the limits, so that none changes unnoticed.
 use Rattle.std.specs.Prelude.{◌≡◌, refl}
 use Rattle.dac_base.specs.declared.limits.TheConstants.{MAX_COUNTER}
 use Rattle.dac_script.specs.declared.input.TheConstants.{MAX_INPUT}

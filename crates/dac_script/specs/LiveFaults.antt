@@ -1,4 +1,4 @@
--- The faults of a line of a script of `distac live`, whatever a reader does. They are by what each word has to be.
+-- The faults of a line of `live`, independent of any reader: the first words determine the roles of the others.
 use Rattle.std.specs.Prelude.{◌≡◌, ◌≢◌, ◌⊎◌, ℕ, List, [], ◌∷◌, Option, Some, None, codes, if◌then◌else◌, option_map}
 use Rattle.std.specs.Option.{MatchOption}
 use Rattle.std.specs.List.{AllPass}
@@ -12,42 +12,42 @@ use Rattle.dac_script.specs.declared.verb.Role.TheVariants.{Actor, Hex}
 use Rattle.dac_script.specs.LineFaults.{ask_roles, AreWrong}
 use Rattle.dac_script.specs.Verbs.{ask_of}
 
--- the words behind a first word that is there for no caller: `phase` and `feed HEX`
+-- the roles after `phase` and `feed`, the lines without a caller
 abbrev pub plain_roles : List ℕ → Option (List Role)
 plain_roles first =
     if bytes_eq first (codes "phase") then Some []
     else (if bytes_eq first (codes "feed") then Some (Hex ∷ [])
     else None)
 
--- the words behind what a caller asks for: `read NODE`, or those that it has in a script of `distac sim`
+-- the roles after `read` or a request
 abbrev pub asked_roles : List ℕ → Option (List Role)
 asked_roles word = if bytes_eq word (codes "read") then Some (Actor ∷ []) else option_map ask_roles (ask_of word)
 
--- a first word that is there for a caller: it has digits alone
+-- a first word in the place of a caller's number: only digits
 abbrev pub IsForCaller : List ℕ → Type 0
 IsForCaller word = AllPass is_ascii_digit word
 
--- a word that is no caller's number: the callers are 1 to 4, each written as one digit
+-- not a caller's number, which is one digit from 1 to 4
 abbrev pub IsNoCaller : List ℕ → Type 0
 IsNoCaller word = (word ≢ codes "1") × (word ≢ codes "2") × (word ≢ codes "3") × (word ≢ codes "4")
 
--- The words behind a caller's number have a fault of this kind: nothing is asked for, or nothing that a caller may ask
--- for, or the words behind that have it.
+-- The words after a caller's number have this fault: there are none, the first is neither `read` nor a request, or the
+-- others have the fault.
 abbrev pub IsAskedWrong : Table → List (List ℕ) → ScriptFaultKind → Type 0
 IsAskedWrong table [] kind = kind ≡ BadCount
 IsAskedWrong table (word ∷ words) kind =
     MatchOption (asked_roles word) (kind ≡ BadWord) (λ roles. AreWrong table roles words kind)
 
--- a line of a caller has a fault of this kind: its number has, or what is asked
+-- a caller's line has this fault: of its number, or of the words after it
 abbrev pub IsCallerWrong : Table → List ℕ → List (List ℕ) → ScriptFaultKind → Type 0
 IsCallerWrong table caller words kind = ((kind ≡ BadNumber) × IsNoCaller caller) ⊎ IsAskedWrong table words kind
 
--- a line that begins with neither `phase` nor `feed` has a fault of this kind
+-- a line with neither `phase` nor `feed` has this fault
 abbrev pub IsOtherWrong : Table → List ℕ → List (List ℕ) → ScriptFaultKind → Type 0
 IsOtherWrong table first words kind =
     ((kind ≡ BadWord) × ¬ IsForCaller first) ⊎ (IsForCaller first × IsCallerWrong table first words kind)
 
--- a line of these words has a fault of this kind
+-- a line of these words has this fault
 abbrev pub HasFault : Table → List (List ℕ) → ScriptFaultKind → Type 0
 HasFault table [] kind = kind ≡ BadWord
 HasFault table (first ∷ words) kind =

@@ -1,4 +1,4 @@
--- How lines of a script of `live` are spelled, whatever a reader does: a table from what a line says to its words.
+-- The grammar of lines of `live`, independent of any reader.
 use Rattle.std.specs.Prelude.{ℕ, ◌<◌, ◌≤◌, List, [], ◌∷◌, Option, Some, None, codes}
 use Rattle.dac_base.specs.declared.NodeId.{NodeId}
 use Rattle.dac_config.specs.Table.{Table}
@@ -9,25 +9,25 @@ use Rattle.dac_script.specs.declared.line.Request.{Request}
 use Rattle.dac_script.specs.declared.live_line.LiveLine.{LiveLine}
 use Rattle.dac_script.specs.declared.live_line.LiveLine.TheVariants.{Do, Read, Feed, Phase}
 
--- what a caller asks of a node, or a read of its page
+-- a caller's request, or a read of its node's page
 abbrev pub asked_form : NodeId × Option Request → List Slot
 asked_form (node, Some asked) = event_form node (what_of asked)
 asked_form (node, None) = Word (codes "read") ∷ Node node ∷ []
 
--- a line of a script: behind a caller's number stands what is asked for, as in a script of `sim`, or a read
+-- a line: after a caller's number comes a request, spelled as in `sim`, or a read
 abbrev pub live_form : LiveLine → List Slot
 live_form (Do node caller asked) = Number caller ∷ asked_form (node, Some asked)
 live_form (Read node caller) = Number caller ∷ asked_form (node, None)
 live_form (Feed bytes) = Word (codes "feed") ∷ Hex bytes ∷ []
 live_form Phase = Word (codes "phase") ∷ []
 
--- the caller of a line, if it has one, is 1, 2, 3 or 4
+-- the caller, if the line has one, is 1 to 4
 abbrev pub HasCaller : LiveLine → Type 0
 HasCaller (Do node caller asked) = (0 < caller) × (caller ≤ 4)
 HasCaller (Read node caller) = (0 < caller) × (caller ≤ 4)
 HasCaller (Feed bytes) = Unit {0}
 HasCaller Phase = Unit {0}
 
--- these words spell a line
+-- the words spell the line
 abbrev pub SpellsLive : Table → LiveLine → List (List ℕ) → Type 0
 SpellsLive table said words = HasCaller said × AllTell table (live_form said) words

@@ -1,4 +1,4 @@
--- A whole script, of `sim` or of `live`: by which words spell a line, and which faults words have.
+-- Scripts of `sim` or `live`, given which words spell a line and which faults words have.
 use Rattle.std.specs.Prelude.{◌≡◌, ◌↔◌, ℕ, ◌-◌, ◌<◌, Bool, true, false, not, List, [], ◌∷◌, All, filter, take, Some, Ok, Result, slice_get, ◌==◌}
 use Rattle.std.specs.List.{slice_split, AllZip}
 use Rattle.std.specs.Result.{MatchResult}
@@ -11,7 +11,7 @@ use Rattle.dac_script.specs.Words.{words_of}
 use Rattle.dac_script.specs.Forms.{HasWords}
 use Rattle.dac_script.specs.LineFaults.{IsFaultless, IsLeast}
 
--- the lines of a text stand between its line feeds
+-- the lines of a text are separated by line feeds
 abbrev pub lines_of : List ℕ → List (List ℕ)
 lines_of text = slice_split (λ b. b == 10) text
 
@@ -20,7 +20,7 @@ abbrev pub is_said : List ℕ → Bool
 is_said [] = false
 is_said (b ∷ bs) = not (b == 37)
 
--- scripts in general, by which words spell a line and which kinds of fault words have
+-- any kind of script, given which words spell a line and which faults words have
 module _ {Line : Type 0} (Spells : Table → Line → List (List ℕ) → Type 0)
     (HasFault : Table → List (List ℕ) → ScriptFaultKind → Type 0) where
   -- Words that spell a line have no fault, and spell no other line.
@@ -28,38 +28,37 @@ module _ {Line : Type 0} (Spells : Table → Line → List (List ℕ) → Type 0
   IsExact = (table : Table) (line : Line) (words : List (List ℕ)) → Spells table line words
       → IsFaultless (HasFault table words) × ((other : Line) → Spells table other words → other ≡ line)
 
-  -- What is read of words: the line that they spell, if they spell one. Otherwise it is the least kind of fault that they
-  -- have.
+  -- The result of parsing words: the line that they spell, or otherwise their least fault.
   pub record IsReading (table : Table) (words : List (List ℕ)) (said : Result Line ScriptFaultKind) : Type 0 where
     pub judged : MatchResult said (λ line. Spells table line words × IsFaultless (HasFault table words)) (IsLeast (HasFault table words))
     pub exact : (line : Line) → Spells table line words → said ≡ Ok line
 
-  -- a line of a text spells this: the words between its spaces do
+  -- the words of the line's text spell this line
   abbrev pub IsSpelling : Table → Line → List ℕ → Type 0
   IsSpelling table said line = (words : List (List ℕ)) × HasWords words line × Spells table said words
 
-  -- Whatever is read of the words of a line, it is this exactly if the line spells this.
+  -- Any result of parsing a line's words is this value exactly if the line spells it.
   abbrev pub IsAcceptedInWords : Type 0
   IsAcceptedInWords = (table : Table) (said : Line) (line : List ℕ) (read : Result Line ScriptFaultKind)
       → IsReading table (words_of line) read → (read ≡ Ok said) ↔ IsSpelling table said line
 
-  -- why the line of this number isn't read: its least fault, or `NoMemory`
+  -- why the line with this number isn't read: its least fault, or a failed allocation
   abbrev pub IsLineFailure : Table → ℕ → List ℕ → Failure → Type 0
   IsLineFailure table number line (failure.Input fault) = ⊥
   IsLineFailure table number line (failure.Config fault) = ⊥
   IsLineFailure table number line (failure.Script fault) = (fault.line ≡ number) × IsLeast (HasFault table (words_of line)) fault.kind
   IsLineFailure table number line failure.NoMemory = Unit {0}
 
-  -- a line of a text spells this
+  -- the words of this text spell the line
   abbrev pub LineSpells : Table → List ℕ → Line → Type 0
   LineSpells table line said = Spells table said (words_of line)
 
-  -- of these lines, those that say something have no fault and spell this, in their order
+  -- the lines that aren't skipped have no fault and spell this script, in order
   pub record ReadsAs (table : Table) (lines : List (List ℕ)) (script : List Line) : Type 0 where
     pub said : AllZip (LineSpells table) (filter is_said lines) script
     pub faultless : All (λ line. IsFaultless (HasFault table (words_of line))) (filter is_said lines)
 
-  -- the fault of the first line that has one, and of that line the least kind: all lines before it can be read
+  -- the least fault of the first faulty line; the lines before it are sound
   pub record IsFirstFault (table : Table) (lines : List (List ℕ)) (fault : ScriptFault) : Type 0 where
     pub before : List Line
     pub reads : ReadsAs table (take (fault.line - 1) lines) before
@@ -69,7 +68,7 @@ module _ {Line : Type 0} (Spells : Table → Line → List (List ℕ) → Type 0
     pub said : is_said line ≡ true
     pub least : IsLeast (HasFault table (words_of line)) fault.kind
 
-  -- why a script isn't read: its first fault, or `NoMemory`
+  -- why a script isn't read: its first fault, or a failed allocation
   abbrev pub IsScriptFailure : Table → List (List ℕ) → Failure → Type 0
   IsScriptFailure table lines (failure.Input fault) = ⊥
   IsScriptFailure table lines (failure.Config fault) = ⊥

@@ -6,7 +6,7 @@ use Rattle.dac_script.specs.declared.verb.Ask.TheVariants as ask
 use Rattle.dac_script.specs.declared.verb.Verb.{Verb}
 use Rattle.dac_script.specs.declared.verb.Verb.TheVariants as verb
 
--- the word that stands for a request
+-- the word of a request
 abbrev pub ask_text : Ask → List ℕ
 ask_text ask.Boot = codes "boot"
 ask_text ask.Crash = codes "crash"
@@ -18,7 +18,7 @@ ask_text ask.Stop = codes "stop"
 ask_text ask.Drain = codes "drain"
 ask_text ask.Takeover = codes "takeover"
 
--- the word that stands for a verb
+-- the word of a verb
 abbrev pub text_of : Verb → List ℕ
 text_of (verb.Ask request) = ask_text request
 text_of verb.Ship = codes "ship"
@@ -31,7 +31,7 @@ text_of verb.Same = codes "same"
 text_of verb.Bytes = codes "bytes"
 text_of verb.Feed = codes "feed"
 
--- the request that a word stands for
+-- the request of a word
 abbrev pub ask_of : List ℕ → Option Ask
 ask_of word =
     if bytes_eq word (codes "boot") then Some ask.Boot
@@ -45,7 +45,7 @@ ask_of word =
     else (if bytes_eq word (codes "takeover") then Some ask.Takeover
     else None))))))))
 
--- the verb that a word is
+-- the verb of a word
 abbrev pub verb_of : List ℕ → Option Verb
 verb_of word =
     if bytes_eq word (codes "ship") then Some verb.Ship

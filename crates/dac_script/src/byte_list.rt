@@ -1,14 +1,14 @@
-//! Bytes in a line of a script.
+//! A list of bytes as a value of a script line.
 ghost use Rattle.std.specs.Prelude.{◌≡◌};
 
 use std::marker::Model;
 
-/// A list of bytes in some order. Contracts see it as the list.
+/// A list of bytes. Contracts see the list.
 pub struct ByteList {
     bytes: Vec<u8>,
 }
 
-/// Written out: a drop is one call for a proof, wherever it stands.
+/// Written out so that proofs see each drop as one call.
 impl Drop for ByteList {
     fn drop(self) {
         let ByteList { bytes: _bytes } = self;
@@ -24,14 +24,14 @@ impl Model for ByteList {
 }
 
 impl ByteList {
-    /// The bytes of a vector, in its order. It takes no memory.
+    /// Wraps a vector.
     pub fn new(bytes: Vec<u8>) -> Self
         ensures { result ≡ bytes.items }
     {
         ByteList { bytes }
     }
 
-    /// The bytes in their order.
+    /// The bytes, in order.
     pub fn as_slice(&self) -> &[u8]
         ensures { result.now ≡ self.now }
     {

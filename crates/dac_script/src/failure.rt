@@ -1,4 +1,4 @@
-//! Why nothing is run.
+//! Errors of reading an input.
 
 ghost use Rattle.std.specs.Prelude.{◌≡◌};
 ghost use Rattle.dac_script.specs.declared.failure.Failure.TheVariants.{NoMemory as WantOfMemory};
@@ -8,16 +8,16 @@ use dac_base::NoMemory;
 use dac_tokens::{ConfigFault, FaultKind};
 use std::alloc::{AllocError, AllocFailed};
 
-/// Why an input isn't run. The whole input is read and checked first, in the order of this list.
+/// Why an input isn't run. Input, configuration and script are checked in this order, and the first fault is reported.
 #[derive(Clone, Copy, Debug, PartialEq, Eq)]
 pub enum Failure {
-    /// The input as a whole has a fault.
+    /// The input as a whole is faulty.
     Input(InputFault),
-    /// The configuration has a fault.
+    /// The configuration is faulty.
     Config(ConfigFault),
-    /// The script has a fault.
+    /// The script is faulty.
     Script(ScriptFault),
-    /// Memory was refused; nothing is said of the input.
+    /// An allocation failed, whether the input is faulty or not.
     NoMemory,
 }
 

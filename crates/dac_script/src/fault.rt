@@ -1,14 +1,13 @@
-//! Why an input runs nothing.
+//! Faults of an input and of script lines.
 
 ghost use Rattle.std.specs.Prelude.{◌≡◌};
 
-/// What is wrong with the whole input, before its parts are looked at. The number and the name of each kind
-/// are part of the program's output.
+/// What is wrong with the input as a whole. Numbers and names are part of the program's output.
 #[derive(Clone, Copy, Debug, PartialEq, Eq, Hash)]
 pub enum InputFault {
     /// The input has more than 2,097,152 bytes.
     TooLong = 1,
-    /// No line of the input is `--`, so it has no script.
+    /// No line is `--`, so there is no script.
     NoScript,
     /// A read failed, or the input didn't end within 4,194,304 reads.
     Read,
@@ -17,14 +16,14 @@ pub enum InputFault {
 impl InputFault {
     ghost use Rattle.dac_script.specs.Faults.{input_number, input_name};
 
-    /// The number that stands for it in the program's output.
+    /// The number printed for this fault.
     pub fn number(self) -> u8
         ensures { result ≡ input_number self }
     {
         self as u8
     }
 
-    /// Its name in the program's output.
+    /// The name printed for this fault.
     pub fn name(self) -> &'static str
         ensures { result.now ≡ input_name self }
     {
@@ -36,35 +35,35 @@ impl InputFault {
     }
 }
 
-/// What is wrong with a line of a script. Of several kinds in one line the first of this list is answered. The number
-/// and the name of each are part of the program's output.
+/// What is wrong with a script line. If a line has several faults, the first in this list is reported. Numbers and
+/// names are part of the program's output.
 #[derive(Clone, Copy, Debug, PartialEq, Eq, Hash)]
 pub enum ScriptFaultKind {
-    /// The line begins with no word that a script knows.
+    /// The first word is unknown, or the word after a caller's number is.
     BadWord = 1,
     /// The line has too few or too many words.
     BadCount,
-    /// A word that has to be a name is no atom, or one that has to be `true` or `false` is neither.
+    /// A name isn't an atom, or a flag is neither `true` nor `false`.
     BadName,
-    /// A word that has to be a number isn't decimal, has a leading zero or is above 2^62.
+    /// A number isn't decimal, has a leading zero or exceeds 2^62, or a caller isn't 1 to 4.
     BadNumber,
-    /// The node where the event is to happen isn't in the configuration.
+    /// A node that must be configured isn't: the one at which the line acts, or one of the two that `same` compares.
     UnknownActor,
-    /// A word that has to spell bytes has an odd number of digits, or one that isn't 0 to 9 or a to f.
+    /// Hexadecimal bytes have an odd number of digits, or a character other than 0 to 9 and a to f.
     BadHex,
 }
 
 impl ScriptFaultKind {
     ghost use Rattle.dac_script.specs.Faults.{script_number, script_name};
 
-    /// The number that stands for it in the program's output.
+    /// The number printed for this fault.
     pub fn number(self) -> u8
         ensures { result ≡ script_number self }
     {
         self as u8
     }
 
-    /// Its name in the program's output.
+    /// The name printed for this fault.
     pub fn name(self) -> &'static str
         ensures { result.now ≡ script_name self }
     {
@@ -79,11 +78,11 @@ impl ScriptFaultKind {
     }
 }
 
-/// The first line of a script that has a fault.
+/// The fault of a script: that of its first faulty line.
 #[derive(Clone, Copy, Debug, PartialEq, Eq, Hash)]
 pub struct ScriptFault {
-    /// The number of the line, counted from 1.
+    /// The number of the line, from 1.
     pub line: usize,
-    /// What is wrong with it.
+    /// The least fault of that line.
     pub kind: ScriptFaultKind,
 }

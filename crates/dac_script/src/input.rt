@@ -1,4 +1,4 @@
-//! The whole input: how it is read, and how a script is parted from its configuration.
+//! Reads an input, and splits it into configuration and script.
 
 ghost use Rattle.std.specs.Prelude.{◌≡◌, ◌≢◌, [], ◌∷◌, ◌++◌, ◌+◌, ◌<◌, ◌≤◌, length, All, IfOk, IfErr, OnErr, IfSome, IfNone, MatchOption};
 ghost use Rattle.dac_script.specs.Script.{lines_of};
@@ -13,12 +13,12 @@ use dac_base::NoMemory;
 use std::alloc::Global;
 use std::io::Read;
 
-/// The most bytes that an input may have.
+/// The maximum size of an input, in bytes.
 pub const MAX_INPUT: usize = 2_097_152;
 
 const MARK: &[u8] = b"--";
 
-/// How many bytes stand before the first line feed.
+/// The length of the first line, without its line feed.
 fn line_len(text: &[u8]) -> usize
     ensures length { result ≡ line_len text.now }
     ensures within { result ≤ length text.now }
@@ -26,7 +26,7 @@ fn line_len(text: &[u8]) -> usize
     text.iter().take_while(|byte| **byte != b'\n').count()
 }
 
-/// The first line of the text, and what stands behind its line feed, if it ends at one.
+/// Returns the first line, and the text after its line feed if it has one.
 pub(crate) fn first_line(text: &[u8]) -> (&[u8], Option<&[u8]>)
     ensures last { IfNone result.1 (lines_of text.now ≡ result.0.now ∷ []) }
     ensures whole { IfSome result.1 (λ behind. text.now ≡ result.0.now ++ 10 ∷ behind.now) }
@@ -40,9 +40,8 @@ pub(crate) fn first_line(text: &[u8]) -> (&[u8], Option<&[u8]>)
     }
 }
 
-/// Parts an input at its first line that is exactly `--`. The first part is what stands before it, up to and with the
-/// line feed that ends the line before. The second is what stands behind its own line feed. `None` where no line is
-/// the divider.
+/// Splits an input at its first line `--`. Returns the lines before it, with their line feeds, and the text after it,
+/// or `None` if no line is `--`.
 pub fn split_input(text: &[u8]) -> Option<(&[u8], &[u8])>
     ensures { MatchOption result (All (λ line. line ≢ divider) (lines_of text.now))
         (λ parts. IsParted text.now parts.0.now parts.1.now) }
@@ -58,7 +57,7 @@ pub fn split_input(text: &[u8]) -> Option<(&[u8], &[u8])>
     }
 }
 
-/// One read of at most `room` bytes, which go behind the text.
+/// Reads at most `room` bytes and appends them to `text`.
 fn read_on<R: Read>(
     source: &mut Source<'_, R>,
     room: usize,
@@ -84,10 +83,10 @@ fn read_on<R: Read>(
     Ok(())
 }
 
-/// Reads an input to its end, of at most so many bytes.
+/// Reads an input of at most `most` bytes to its end.
 ///
-/// Reading stops at one byte more than that, and where the source was read as often as it may be. A read that
-/// was only interrupted is tried again; any other failed read is answered.
+/// Stops after `most + 1` bytes or [`MAX_READS`] reads. Interrupted reads are repeated; any other failed read is an
+/// error.
 pub(crate) fn read_within<R: Read>(
     alloc: Global,
     source: &mut Source<'_, R>,
@@ -115,10 +114,10 @@ pub(crate) fn read_within<R: Read>(
     }
 }
 
-/// Reads an input to its end. It is too long where it has more bytes than an input may have.
+/// Reads an input to its end.
 ///
-/// The errors are `TooLong`, `Read` and `NoMemory`. `Read` comes of a failed read, and where the source was read as
-/// often as it may be without an end.
+/// Fails with `TooLong` if it has more than [`MAX_INPUT`] bytes, with `Read` if a read fails or the input doesn't end
+/// within [`MAX_READS`] reads, and with `NoMemory`.
 pub fn read_input<R: Read>(alloc: Global, source: &mut Source<'_, R>) -> Result<Vec<u8>, Failure>
     ensures whole { IfOk result (λ text. IfSome source.old.left (λ bytes. text.items ≡ bytes)) }
     ensures short { IfOk result (λ text. IsTaken text.items) }

@@ -1,11 +1,14 @@
-//! Inputs of `distac sim` and `distac live`: a configuration, a line `--`, and a script, line by line.
+//! Reads the inputs of `distac sim` and `distac live`: a configuration, a line `--`, and a script.
 //!
-//! [`prepare`] and [`prepare_live`] read a whole input, or return its first fault. An input is split at its first line `--`.
-//! A script is read up to the first fault of the first line that has one. Nothing is run or printed here.
+//! [`prepare`] and [`prepare_live`] read a whole input, or return its first fault: of its size, of its configuration,
+//! or the least fault of the first faulty line. Nothing is run or printed here.
 //!
-//! The first word of a line determines the roles of the other words. One reader reads words by their roles, for both kinds
-//! of scripts, and returns the least fault. [`laws`] states which lines are accepted. The trait [`ReadsLine`] is what a kind
-//! of lines provides, so that whole inputs of both kinds are read alike.
+//! The first word of a line determines the roles of the other words. One reader reads words by their roles, for both
+//! kinds of scripts, and [`laws`] states which lines are accepted. A kind of lines implements [`ReadsLine`], so that
+//! the rest of the crate serves both.
+//!
+//! Functions without an out-of-memory error allocate nothing. A call fails with `NoMemory` only if an allocation fails
+//! before it finds a fault, so the error doesn't mean that the input is sound.
 #![tactic(auto)]
 
 mod byte_list;

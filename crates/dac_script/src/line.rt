@@ -1,4 +1,4 @@
-//! One line of a script.
+//! Script lines of `sim`.
 
 ghost use Rattle.std.specs.Prelude.{◌≡◌, ◌∷◌, IfOk, map};
 ghost use Rattle.dac_config.specs.Table.{node_count};
@@ -20,45 +20,45 @@ use dac_config::Config;
 use dac_events::{Command, What, WorldEvent};
 use std::alloc::Global;
 
-/// What a caller asks of a node.
+/// A request to a node, by an operator in `sim` or a caller in `live`.
 #[derive(Clone, Copy, Debug, PartialEq, Eq)]
 pub enum Request {
-    /// The node comes up at this moment.
+    /// The node boots.
     Boot {
-        /// The moment.
+        /// The time in ms.
         now: u64,
     },
-    /// The node goes down.
+    /// The node crashes.
     Crash,
-    /// A command is given.
+    /// The node receives a command.
     Command(Command),
-    /// The node looks after its applications at this moment.
+    /// The node re-evaluates placement.
     Tick {
-        /// The moment.
+        /// The time in ms.
         now: u64,
     },
 }
 
-/// A line of a script that says something.
+/// A line of a script, other than empty lines and comments.
 #[derive(Drop)]
 pub enum ScriptLine {
-    /// Something happens at a node.
+    /// An event at a node.
     Event(WorldEvent),
-    /// Each node that runs ships to each other node that runs, and each message is delivered at once.
+    /// An anti-entropy round: every running node ships to every other one, and each message is delivered at once.
     Share,
-    /// The page of a node is printed.
+    /// Prints a node's page.
     Page(NodeId),
-    /// The bytes of a node's state are printed.
+    /// Prints the bytes of a node's state.
     State(NodeId),
-    /// The bytes of two nodes' states are compared.
+    /// Compares the bytes of two nodes' states.
     Same(NodeId, NodeId),
-    /// The bytes of the message of this number are printed.
+    /// Prints the bytes of the message with this number.
     Bytes(u64),
-    /// These bytes are read as a message or an operation, which comes to no node.
+    /// Parses these bytes as a message or an operation, which no node receives.
     Feed(ByteList),
 }
 
-/// What a caller asks for by these words.
+/// Builds a request from the values of its words.
 pub(crate) fn request_for(ask: Ask, values: &Values) -> Request
     ensures { event_form values.now.actor (what_of result)
         ≡ Word (ask_text ask) ∷ map (slot_of values.now) (ask_roles ask) }
@@ -85,7 +85,7 @@ pub(crate) fn request_for(ask: Ask, values: &Values) -> Request
     }
 }
 
-/// What happens at a node of which this is asked.
+/// The request as a world event.
 fn what_of(request: Request) -> What
     ensures { result ≡ what_of request }
 {
@@ -97,14 +97,13 @@ fn what_of(request: Request) -> What
     }
 }
 
-/// An event at a node.
 fn event(node: NodeId, what: What) -> ScriptLine
     ensures { form_of result ≡ event_form node what }
 {
     ScriptLine::Event(WorldEvent { node, what })
 }
 
-/// What a line says by these words.
+/// Builds a line from the values of its words.
 fn line(verb: Verb, values: Values) -> ScriptLine
     ensures { form_of result ≡ Word (text_of verb) ∷ map (slot_of values) (roles_of verb) }
 {
@@ -126,7 +125,7 @@ fn line(verb: Verb, values: Values) -> ScriptLine
     }
 }
 
-/// Reads the words of a line. Of its faults it returns the least kind.
+/// Parses the words of a line, or returns their least fault.
 #[tactic(auto, using(crate::proofs::SpelledLines::no_verb))]
 pub fn line_of(
     alloc: Global,

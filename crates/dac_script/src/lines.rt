@@ -15,18 +15,18 @@ use dac_base::NoMemory;
 use dac_config::Config;
 use std::alloc::Global;
 
-/// A kind of lines, of which a script may be made: those of `sim` and those of `live`.
+/// A kind of script lines: those of `sim` or those of `live`.
 pub trait ReadsLine: Drop {
-    /// These words spell this line.
+    /// The words spell the line.
     ghost spells: { Table → Self → List (List ℕ) → Type 0 };
 
-    /// Which kinds of fault words have.
+    /// The kinds of fault that words have.
     ghost has_fault: { Table → List (List ℕ) → FaultKind → Type 0 };
 
-    /// A line names nodes below this number.
+    /// The nodes at which the line acts are below this number.
     ghost has_actors: { ℕ → Self → Type 0 };
 
-    /// Reads the words of a line. Of its faults it returns the least kind.
+    /// Parses the words of a line, or returns their least fault.
     fn read_words(
         alloc: Global,
         config: &Config,
@@ -37,7 +37,7 @@ pub trait ReadsLine: Drop {
         ensures actors { IfOk result (λ said. IfOk said (has_actors (node_count config.now))) };
 }
 
-/// Whether the line says something: empty lines and lines that begin with `%` don't.
+/// Returns false for empty lines and for comments, which begin with `%`.
 pub fn is_said(line: &[u8]) -> bool
     ensures { result ≡ is_said line.now }
 {
@@ -47,7 +47,7 @@ pub fn is_said(line: &[u8]) -> bool
     }
 }
 
-/// What the line of this number says.
+/// Reads the line with this number.
 fn read_line<L: ReadsLine>(
     alloc: Global,
     config: &Config,
@@ -67,7 +67,7 @@ fn read_line<L: ReadsLine>(
     }
 }
 
-/// Reads the line of this number, if it says something, behind what the lines before it say.
+/// Appends the line with this number to the script, unless it's empty or a comment.
 fn read_next<L: ReadsLine>(
     alloc: Global,
     config: &Config,
@@ -89,11 +89,10 @@ fn read_next<L: ReadsLine>(
     Ok(())
 }
 
-/// Reads a script of such lines. They end at a line feed or at the end of the text, and are counted from 1. Empty lines and
-/// lines that begin with `%` say nothing.
+/// Reads a script. Lines end at a line feed or at the end of the text, and are counted from 1. Empty lines and lines
+/// that begin with `%` are skipped.
 ///
-/// The first line that has a fault is answered, with the first kind of fault that it has. `NoMemory` comes only where
-/// memory is refused before a fault is met.
+/// Fails with the least fault of the first faulty line.
 pub fn read_lines<L: ReadsLine>(
     alloc: Global,
     config: &Config,

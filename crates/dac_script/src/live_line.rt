@@ -1,4 +1,4 @@
-//! One line of a script of `distac live`.
+//! Script lines of `live`.
 
 ghost use Rattle.std.specs.Prelude.{◌≡◌, IfOk, MatchResult, map};
 ghost use Rattle.dac_config.specs.Table.{node_count};
@@ -18,39 +18,39 @@ use dac_base::{NoMemory, NodeId};
 use dac_config::Config;
 use std::alloc::Global;
 
-/// A line that says something.
+/// A line of a live script, other than empty lines and comments.
 #[derive(Drop)]
 pub enum LiveLine {
-    /// A caller of a node asks this of it.
+    /// A caller sends a request to its node.
     Do {
-        /// The node.
+        /// The node, one of the configuration.
         node: NodeId,
         /// The caller's number, from 1 to 4.
         caller: u8,
-        /// What it asks.
+        /// The request.
         request: Request,
     },
-    /// A caller reads the page of its node.
+    /// A caller reads its node's page.
     Read {
-        /// The node.
+        /// The node, one of the configuration.
         node: NodeId,
         /// The caller's number, from 1 to 4.
         caller: u8,
     },
-    /// These bytes are read as a message or an operation, which comes to no node.
+    /// Parses these bytes as a message or an operation, which no node receives.
     Feed(ByteList),
-    /// A phase ends.
+    /// Ends a phase.
     Phase,
 }
 
-/// Whether the word is the number of a caller, or of none: it has digits alone.
+/// Returns whether the word is in the place of a caller's number: it has only digits.
 fn is_caller_word(word: &[u8]) -> bool
     ensures { result ≡ is_caller_word word.now }
 {
     word.iter().all(|byte| byte.is_ascii_digit())
 }
 
-/// The caller's number that the word is: from 1 to 4, with no zero before it.
+/// The caller's number, from 1 to 4, without leading zeros.
 fn caller_of(word: &[u8]) -> Option<u8>
     ensures { result ≡ caller_of word.now }
 {
@@ -63,7 +63,7 @@ fn caller_of(word: &[u8]) -> Option<u8>
     }
 }
 
-/// What a caller asks of which node, by the words after its number. `None` reads the node's page.
+/// Parses the words after a caller's number: its node and request, or `None` for `read`.
 #[tactic(auto, using(crate::proofs::LiveLines::asked_fails, crate::proofs::LiveLines::nothing_asked))]
 fn asked(
     alloc: Global,
@@ -93,7 +93,7 @@ fn asked(
     }
 }
 
-/// A line of this caller. A number that is no caller's is a fault like any of the other words: the least one is returned.
+/// Combines a caller's number with its request. The lesser of their faults is returned.
 fn with_caller(
     caller: Option<u8>,
     said: Result<(NodeId, Option<Request>), ScriptFaultKind>,
@@ -113,7 +113,7 @@ fn with_caller(
     }
 }
 
-/// Reads the words of a line. Of its faults it returns the least kind.
+/// Parses the words of a line, or returns their least fault.
 #[tactic(auto, using(crate::proofs::LiveLines::read_actors))]
 pub fn live_line_of(
     alloc: Global,

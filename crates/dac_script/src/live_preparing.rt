@@ -1,4 +1,4 @@
-//! A whole input of `distac live` read: its configuration and its script.
+//! Reads a whole input of `live`.
 
 ghost use Rattle.std.specs.Prelude.{◌≡◌, IfOk, IfErr, IfSome, All};
 ghost use Rattle.dac_config.specs.Table.{node_count};
@@ -15,8 +15,8 @@ use dac_config::Config;
 use std::alloc::Global;
 use std::io::Read;
 
-/// Reads and checks a whole input of `distac live`: the input as such, its configuration and then its script. The first
-/// of these that has a fault is answered; `NoMemory` only where memory is refused before a fault is met.
+/// Reads and checks a whole input of `distac live`: its size, its configuration, then its script. Fails with the first
+/// fault.
 pub fn prepare_live<R: Read>(
     alloc: Global,
     source: &mut Source<'_, R>,
@@ -27,7 +27,7 @@ pub fn prepare_live<R: Read>(
     ensures fails { IfErr result
         (λ why. IfSome source.old.left (λ bytes. IsLiveFailureOf bytes why)) }
     ensures reads { IsReadBy result source.new }
-    // However it ends, no more was read than the bound and one byte.
+    // Whatever the result, at most one byte beyond the bound was read.
     ensures bound { IsReadWithinBound source.old.left source.new.left }
     ensures same_reader { source.new.reader ≡ source.old.reader }
 {

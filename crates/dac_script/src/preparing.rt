@@ -1,4 +1,4 @@
-//! A whole input read: its configuration and its script.
+//! Reads a whole input.
 
 ghost use Rattle.std.specs.Prelude.{◌≡◌, IfOk, IfErr, IfSome, All};
 ghost use Rattle.dac_config.specs.Table.{node_count};
@@ -17,7 +17,7 @@ use dac_config::{Config, read_config};
 use std::alloc::Global;
 use std::io::Read;
 
-/// Reads both parts of an input: its configuration, and then its script.
+/// Reads the configuration and then the script of a text.
 fn parts_of<L: ReadsLine>(alloc: Global, text: &[u8]) -> Result<(Config, Vec<L>), Failure>
     ensures says { IfOk result
         (λ both. HasParts L.spells L.has_fault text.now both.0 both.1.items) }
@@ -32,8 +32,8 @@ fn parts_of<L: ReadsLine>(alloc: Global, text: &[u8]) -> Result<(Config, Vec<L>)
     Ok((config, script))
 }
 
-/// Reads and checks a whole input with a script of such lines: the input as such, its configuration and then its script.
-/// The first of these that has a fault is answered; `NoMemory` only where memory is refused before a fault is met.
+/// Reads and checks a whole input with any kind of script: its size, its configuration, then its script. Fails with the
+/// first fault.
 pub fn prepare_lines<L: ReadsLine, R: Read>(
     alloc: Global,
     source: &mut Source<'_, R>,
@@ -45,7 +45,7 @@ pub fn prepare_lines<L: ReadsLine, R: Read>(
     ensures fails { IfErr result
         (λ why. IfSome source.old.left (λ bytes. IsInputFailure L.spells L.has_fault bytes why)) }
     ensures reads { IsReadBy result source.new }
-    // However it ends, no more was read than the bound and one byte.
+    // Whatever the result, at most one byte beyond the bound was read.
     ensures bound { IsReadWithinBound source.old.left source.new.left }
     ensures same_reader { source.new.reader ≡ source.old.reader }
 {
@@ -54,8 +54,8 @@ pub fn prepare_lines<L: ReadsLine, R: Read>(
     Ok(both)
 }
 
-/// Reads and checks a whole input: the input as such, its configuration and then its script. The first of these
-/// that has a fault is answered; `NoMemory` only where memory is refused before a fault is met.
+/// Reads and checks a whole input of `distac sim`: its size, its configuration, then its script. Fails with the first
+/// fault.
 pub fn prepare<R: Read>(
     alloc: Global,
     source: &mut Source<'_, R>,
@@ -65,7 +65,7 @@ pub fn prepare<R: Read>(
     ensures actors { IfOk result (λ both. All (HasActors (node_count both.0)) both.1.items) }
     ensures fails { IfErr result (λ why. IfSome source.old.left (λ bytes. IsFailureOf bytes why)) }
     ensures reads { IsReadBy result source.new }
-    // However it ends, no more was read than the bound and one byte.
+    // Whatever the result, at most one byte beyond the bound was read.
     ensures bound { IsReadWithinBound source.old.left source.new.left }
     ensures same_reader { source.new.reader ≡ source.old.reader }
 {

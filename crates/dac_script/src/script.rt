@@ -1,4 +1,4 @@
-//! A script of `distac sim`: what is to happen, line by line.
+//! Scripts of `sim`.
 
 ghost use Rattle.std.specs.Prelude.{IfOk, IfErr, All};
 ghost use Rattle.dac_config.specs.Table.{node_count};
@@ -31,11 +31,10 @@ impl ReadsLine for ScriptLine {
     }
 }
 
-/// Reads a script. Its lines end at a line feed or at the end of the text, and are counted from 1. Empty lines and
-/// lines that begin with `%` say nothing.
+/// Reads a script of `distac sim`. Lines end at a line feed or at the end of the text, and are counted from 1. Empty
+/// lines and lines that begin with `%` are skipped.
 ///
-/// The first line that has a fault is answered, with the first kind of fault that it has. `NoMemory` comes only where
-/// memory is refused before a fault is met.
+/// Fails with the least fault of the first faulty line.
 pub fn read_script(alloc: Global, config: &Config, text: &[u8]) -> Result<Vec<ScriptLine>, Failure>
     ensures ok { IfOk result
         (λ script. ReadsAs Spells HasFault config.now (lines_of text.now) script.items) }

@@ -1,4 +1,4 @@
-//! A reader in use: how often it was read, and how that went.
+//! A reader whose reads are counted.
 
 ghost use Rattle.std.specs.Prelude.{◌≡◌, ◌≢◌, ◌+◌, ◌<◌, ◌≤◌, length, IfOk, IfErr, IsTrue, ◌↔◌};
 ghost use Rattle.std.specs.IoError.{error_kind};
@@ -10,21 +10,21 @@ use std::io;
 use std::io::{ErrorKind, Read};
 use std::marker::Model;
 
-/// After so many reads an input that hasn't ended is given up.
+/// The most reads of one input. It bounds the time that a source which never ends can take.
 pub const MAX_READS: u32 = 4_194_304;
 
-/// How the reads of a source went so far.
+/// The outcome of the reads so far.
 #[derive(Clone, Copy, Debug, PartialEq, Eq)]
 pub enum Progress {
-    /// Each gave bytes or was only interrupted.
+    /// Each read returned bytes or was interrupted.
     Open,
-    /// The last one met the end.
+    /// The last read returned the end.
     Ended,
-    /// The last one failed.
+    /// The last read failed, other than by an interrupt.
     Failed,
 }
 
-/// A reader in use, which counts its reads and remembers how they went.
+/// A reader with the number and outcome of its reads.
 #[derive(Drop)]
 pub struct Source<'a, R: Read> {
     reader: &'a mut R,
@@ -53,7 +53,7 @@ impl<'a, R: Read> Model for Source<'a, R> {
 }
 
 impl<'a, R: Read> Source<'a, R> {
-    /// A source of which nothing was read.
+    /// A source without reads so far.
     pub fn new(reader: &'a mut R) -> Self
         ensures { result ≡ unread reader.entry.ghost_name (R.remaining reader.old) }
     {
@@ -64,7 +64,7 @@ impl<'a, R: Read> Source<'a, R> {
         }
     }
 
-    /// The reader, as the reads left it.
+    /// Returns the reader, positioned after the last read.
     pub fn into_reader(self) -> &'a mut R
         ensures same_reader { result.ghost_name ≡ self.entry.reader }
         ensures left { R.remaining result.now ≡ self.entry.left }
@@ -77,7 +77,7 @@ impl<'a, R: Read> Source<'a, R> {
         reader
     }
 
-    /// Whether it may be read on: its end wasn't met, no read failed, and there were fewer reads than there may be.
+    /// Returns whether another read is allowed: none met the end or failed, and there were fewer than [`MAX_READS`].
     pub(crate) fn is_open(&self) -> bool
         ensures value { IsTrue result ↔ IsOpen self.now }
         ensures most { self.now.reads ≤ MAX_READS }
@@ -85,7 +85,7 @@ impl<'a, R: Read> Source<'a, R> {
         self.progress == Progress::Open && self.reads < MAX_READS
     }
 
-    /// How its reads went so far.
+    /// The outcome of the reads so far.
     pub fn progress(&self) -> Progress
         ensures value { result ≡ self.now.progress }
         ensures end { self.now.progress ≡ Progress.Ended → IsAtEnd self.now.left }
@@ -93,7 +93,7 @@ impl<'a, R: Read> Source<'a, R> {
         self.progress
     }
 
-    /// One read, which is counted. One that is only interrupted leaves the source open.
+    /// Reads once and counts it. An interrupted read leaves the source open.
     pub(crate) fn read(&mut self, buffer: &mut [u8]) -> io::Result<usize>
         requires is_open { IsOpen self.old }
         requires room { 0 < length buffer.old }
@@ -119,7 +119,7 @@ impl<'a, R: Read> Source<'a, R> {
     }
 }
 
-/// How it goes on after a read with this error.
+/// The outcome after a read with this error.
 fn progress_after(kind: ErrorKind) -> Progress
     ensures interrupted { kind ≡ ErrorKind.Interrupted → result ≡ Progress.Open }
     ensures failed { kind ≢ ErrorKind.Interrupted → result ≡ Progress.Failed }

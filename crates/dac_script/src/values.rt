@@ -1,4 +1,4 @@
-//! The words of a line, read by their roles.
+//! Parses words by their roles.
 
 ghost use Rattle.std.specs.Prelude.{◌≡◌, ◌≢◌, length, map, IfOk, MatchResult, MatchOption};
 ghost use Rattle.dac_script.specs.Forms.{flag_word, Tells, AllTell};
@@ -17,7 +17,7 @@ use dac_base::{AppId, NoMemory, NodeId};
 use dac_config::Config;
 use std::alloc::Global;
 
-/// What the words of a line say, a field for each role. Fields whose role a line doesn't have mean nothing.
+/// The values of a line's words, one field per role. Fields of absent roles mean nothing.
 #[derive(Drop)]
 pub(crate) struct Values {
     pub(crate) actor: NodeId,
@@ -30,7 +30,6 @@ pub(crate) struct Values {
 }
 
 impl Values {
-    /// Values of no words.
     fn new(alloc: Global) -> Self {
         Values {
             actor: NodeId(0),
@@ -44,7 +43,7 @@ impl Values {
     }
 }
 
-/// A node of the configuration, by its name.
+/// Parses the name of a configured node.
 #[tactic(auto, using(crate::proofs::Told::no_node, crate::proofs::Told::unknown_node))]
 fn node_in(config: &Config, word: &[u8]) -> Result<NodeId, ScriptFaultKind>
     ensures { MatchResult result (λ node. Tells config.now (TheNode node) word.now)
@@ -59,7 +58,7 @@ fn node_in(config: &Config, word: &[u8]) -> Result<NodeId, ScriptFaultKind>
     }
 }
 
-/// The node that a line is about: the number past all nodes if the configuration has no node of this name.
+/// Parses the name of a node. An unknown one is the number past all nodes, because a request can concern any node.
 #[tactic(auto, using(crate::proofs::Told::no_name))]
 fn about_in(config: &Config, word: &[u8]) -> Result<NodeId, ScriptFaultKind>
     ensures { MatchResult result (λ node. Tells config.now (AboutNode node) word.now)
@@ -71,7 +70,7 @@ fn about_in(config: &Config, word: &[u8]) -> Result<NodeId, ScriptFaultKind>
     }
 }
 
-/// The application that a line is about: the number past all if the configuration has none of this name.
+/// Parses the name of an application. An unknown one is the number past all applications.
 #[tactic(auto, using(crate::proofs::Told::no_name))]
 fn app_in(config: &Config, word: &[u8]) -> Result<AppId, ScriptFaultKind>
     ensures { MatchResult result (λ app. Tells config.now (TheApp app) word.now)
@@ -83,7 +82,7 @@ fn app_in(config: &Config, word: &[u8]) -> Result<AppId, ScriptFaultKind>
     }
 }
 
-/// `true` or `false`, neither of them in quotes.
+/// Parses `true` or `false`, without quotes.
 fn flag_in(word: &[u8]) -> Result<bool, ScriptFaultKind>
     ensures { MatchResult result (λ flag. word.now ≡ flag_word flag)
         (IsLeast (λ kind. (kind ≡ NoName) × IsNoFlag word.now)) }
@@ -95,7 +94,7 @@ fn flag_in(word: &[u8]) -> Result<bool, ScriptFaultKind>
     }
 }
 
-/// Reads a word whose role takes no memory.
+/// Parses a word of any role but `Hex`, the only one that needs memory.
 #[tactic(auto, using(crate::proofs::Told::no_number))]
 fn read_plain(
     config: &Config,
@@ -122,7 +121,7 @@ fn read_plain(
     Ok(())
 }
 
-/// Reads a word. Returns its fault, if it has one.
+/// Parses a word into its field, or returns its fault.
 fn read_word(
     alloc: Global,
     config: &Config,
@@ -148,7 +147,7 @@ fn read_word(
     }
 }
 
-/// The fault that is the first of the two in the list of kinds.
+/// The one that comes first in the list of kinds.
 pub(crate) fn least_of(one: ScriptFaultKind, other: ScriptFaultKind) -> ScriptFaultKind
     ensures { result ≡ least_of one other }
 {
@@ -158,7 +157,7 @@ pub(crate) fn least_of(one: ScriptFaultKind, other: ScriptFaultKind) -> ScriptFa
     one
 }
 
-/// The least of two faults, if there is one.
+/// The lesser fault, if there is any.
 fn lesser(
     first: Option<ScriptFaultKind>,
     second: Option<ScriptFaultKind>,
@@ -172,7 +171,7 @@ fn lesser(
     }
 }
 
-/// Reads as many words as there are roles. Returns the least fault, if a word has one.
+/// Parses words into the fields of their roles, or returns the least fault.
 #[tactic(auto, using(crate::proofs::Told::nothing_read))]
 fn read_words(
     alloc: Global,
@@ -198,7 +197,7 @@ fn read_words(
     Ok(lesser(fault, later))
 }
 
-/// What the words say in these roles, or the least of their faults. Too few or too many words are the first one.
+/// Parses the words in these roles, or returns their least fault. `BadCount` precedes the faults of single words.
 #[tactic(auto, using(crate::proofs::Told::miscounted))]
 pub(crate) fn values_of(
     alloc: Global,

@@ -1,10 +1,10 @@
-//! The first word of a line, and the roles of the words after it.
+//! The first word of a line, and the roles of the others.
 
 ghost use Rattle.std.specs.Prelude.{◌≡◌};
 ghost use Rattle.dac_script.specs.Verbs.{ask_of, verb_of};
 ghost use Rattle.dac_script.specs.LineFaults.{ask_roles, roles_of, AreDistinct};
 
-/// What an operator, or a caller of a node, asks of a node.
+/// The first word of a request.
 #[derive(Clone, Copy, Debug, PartialEq, Eq)]
 pub(crate) enum Ask {
     Boot,
@@ -18,7 +18,7 @@ pub(crate) enum Ask {
     Takeover,
 }
 
-/// What the first word of a line asks for.
+/// The first word of a line of `sim`.
 #[derive(Clone, Copy, Debug, PartialEq, Eq)]
 pub(crate) enum Verb {
     Ask(Ask),
@@ -33,26 +33,26 @@ pub(crate) enum Verb {
     Feed,
 }
 
-/// What a word must be. No two words of a line have the same role.
+/// The role of a word. No role occurs twice in a line.
 #[derive(Clone, Copy, Debug, PartialEq, Eq)]
 pub(crate) enum Role {
-    /// The node at which it happens.
+    /// The node at which the line acts, which must be configured.
     Actor,
-    /// Another node of the configuration.
+    /// A second node that must be configured.
     Other,
-    /// The application that it is about.
+    /// The application concerned, configured or not.
     Application,
-    /// The node that it is about.
+    /// The node concerned, configured or not.
     About,
-    /// A number.
+    /// A decimal number.
     Number,
     /// `true` or `false`.
     Flag,
-    /// Bytes, in hexadecimal digits.
+    /// Bytes in hexadecimal digits.
     Hex,
 }
 
-/// The request that the word stands for.
+/// Parses the first word of a request.
 pub(crate) fn ask_of(word: &[u8]) -> Option<Ask>
     ensures { result ≡ ask_of word.now }
 {
@@ -86,7 +86,7 @@ pub(crate) fn ask_of(word: &[u8]) -> Option<Ask>
     None
 }
 
-/// The verb that the word is.
+/// Parses the first word of a line.
 pub(crate) fn verb_of(word: &[u8]) -> Option<Verb>
     ensures { result ≡ verb_of word.now }
 {
@@ -120,7 +120,7 @@ pub(crate) fn verb_of(word: &[u8]) -> Option<Verb>
     Some(Verb::Ask(ask_of(word)?))
 }
 
-/// The roles of the words after a request.
+/// The roles of a request's other words.
 pub(crate) fn ask_roles(ask: Ask) -> &'static [Role]
     ensures roles { result.now ≡ ask_roles ask }
     ensures distinct { AreDistinct result.now }
@@ -136,7 +136,7 @@ pub(crate) fn ask_roles(ask: Ask) -> &'static [Role]
     }
 }
 
-/// The roles of the words after a verb.
+/// The roles of the other words of a line.
 pub(crate) fn roles_of(verb: Verb) -> &'static [Role]
     ensures roles { result.now ≡ roles_of verb }
     ensures distinct { AreDistinct result.now }

@@ -1,4 +1,4 @@
-//! The words of a line, and what a single word says.
+//! Splits lines into words, and parses single words.
 
 ghost use Rattle.std.specs.Prelude.{◌≡◌, ◌<◌, ◌^◌, IfOk, map, option_map, Some, None, nat_lt, if◌then◌else◌};
 ghost use Rattle.std.specs.List.{list_all};
@@ -13,13 +13,13 @@ use dac_config::is_bare;
 use hex::FromHexError;
 use std::alloc::{AllocError, Global};
 
-/// The greatest number that a script may name. No counter goes further.
+/// The greatest number in a script, because no counter goes further.
 pub const MAX_NUMBER: u64 = MAX_COUNTER;
 
-/// How many words a line mostly has at most. For more words more room is made.
+/// The initial capacity for words. Most lines have fewer; longer ones grow it.
 const ROOM: usize = 8;
 
-/// The words of a line: what stands between its spaces. Only spaces part words.
+/// The words of a line, which are separated by spaces and by nothing else.
 pub fn words_of<'a>(alloc: Global, line: &'a [u8]) -> Result<Vec<&'a [u8]>, AllocError>
     ensures { IfOk result (λ words. map (λ word. word.now) words.items ≡ words_of line.now) }
 {
@@ -31,7 +31,7 @@ pub fn words_of<'a>(alloc: Global, line: &'a [u8]) -> Result<Vec<&'a [u8]>, Allo
     Ok(words)
 }
 
-/// Whether the byte may stand between the quotes of an atom.
+/// Returns whether the byte can stand between the quotes of an atom.
 fn is_quotable(byte: u8) -> bool
     ensures { result ≡ is_quotable byte }
 {
@@ -50,7 +50,7 @@ fn all_digits(digits: &[u8]) -> bool
     digits.iter().all(|byte| byte.is_ascii_digit())
 }
 
-/// What stands between the quotes of a word that is an atom in quotes.
+/// The name in a quoted atom.
 fn quoted_name(word: &[u8]) -> Option<&[u8]>
     ensures { option_map (λ name. name.now) result ≡ quoted_name word.now }
 {
@@ -62,7 +62,7 @@ fn quoted_name(word: &[u8]) -> Option<&[u8]>
     Some(name)
 }
 
-/// The name of the atom that the word is, bare or in quotes, as Erlang writes atoms.
+/// The name of an atom, bare or quoted, in Erlang's syntax.
 pub fn name_in(word: &[u8]) -> Option<&[u8]>
     ensures { option_map (λ name. name.now) result ≡ name_in word.now }
 {
@@ -72,7 +72,7 @@ pub fn name_in(word: &[u8]) -> Option<&[u8]>
     quoted_name(word)
 }
 
-/// Whether the word is a number in decimal digits, without a zero before its first other digit.
+/// Returns whether the word has only decimal digits, at least one, and no leading zero.
 fn is_digits(word: &[u8]) -> bool
     ensures { result ≡ is_digits word.now }
 {
@@ -83,7 +83,7 @@ fn is_digits(word: &[u8]) -> bool
     }
 }
 
-/// The number that the digits are, where it has 64 bits.
+/// The value of decimal digits, if it fits 64 bits.
 fn value_of(digits: &[u8]) -> Option<u64>
     ensures { result
         ≡ (if nat_lt (value_from 0 digits.now) (2 ^ 64) then Some (value_from 0 digits.now)
@@ -98,7 +98,7 @@ fn value_of(digits: &[u8]) -> Option<u64>
     Some(value)
 }
 
-/// The number that the word is: decimal, without a leading zero, at most [`MAX_NUMBER`].
+/// Parses a decimal number without leading zeros, at most [`MAX_NUMBER`].
 pub fn number_in(word: &[u8]) -> Option<u64>
     ensures { result ≡ number_in word.now }
 {
@@ -112,7 +112,7 @@ pub fn number_in(word: &[u8]) -> Option<u64>
     Some(value)
 }
 
-/// Whether the byte is a hexadecimal digit. Capital letters are none here.
+/// Returns whether the byte is a hexadecimal digit, in lower case.
 fn is_small_digit(byte: u8) -> bool
     ensures { result ≡ is_small_digit byte }
 {
@@ -125,7 +125,7 @@ fn all_small_digits(word: &[u8]) -> bool
     word.iter().all(|byte| is_small_digit(*byte))
 }
 
-/// The bytes that the word spells, each by two hexadecimal digits, of which the letters are small.
+/// Parses bytes of two lower-case hexadecimal digits each. Fails only with [`NoMemory`].
 pub fn bytes_in(alloc: Global, word: &[u8]) -> Result<Option<ByteList>, NoMemory>
     ensures { IfOk result (λ bytes. bytes ≡ bytes_in word.now) }
 {

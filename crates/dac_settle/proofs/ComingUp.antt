@@ -1,5 +1,5 @@
--- Nodes that come up in the worked runs: who is live, which counters are used. Each of them says that it may run the application,
--- and one that knows of no other claims it.
+-- Boots in the worked runs: the live nodes and the counters used. Each node requests a start, and one that knows of no
+-- other claims the application.
 use Rattle.std.proofs.Common.{◌≡◌, ℕ, ◌+◌, ◌<◌, Bool, true, false, not, cond, ◌||◌, List, [], ◌∷◌, length, Option, Some, None, option_map, refl, sym, ap, subst, ◌∙◌, arith, inl, inr}
 use Rattle.std.specs.Prelude.{nat_lt, nat_le, unwrap_or, IsSome}
 use Rattle.std.specs.Option.{is_some, option_map_or}
@@ -52,7 +52,7 @@ use Rattle.dac_commands.specs.Commands.{greatest_counter, live_key, live, live_o
 use Rattle.dac_commands.specs.Causes.{first, no_node, unlisted, not_live, too_many, used_up, terms_used_up}
 use Rattle.dac_commands.specs.laws.Counters.{next-is}
 use Rattle.dac_peers.specs.Peers.{no_peers}
-use Rattle.dac_ticks.specs.Ticks.{Turn, turn_of, turn_from, claim_of, claimed_by, is_mine}
+use Rattle.dac_ticks.specs.Ticks.{Sweep, sweep_of, sweep_from, claim_of, claimed_by, is_mine}
 use Rattle.dac_ticks.specs.laws.Words.{if_own}
 use Rattle.dac_model_world.specs.ModelNode.{ModelNode, joined, shown, base_after}
 use Rattle.dac_model_world.specs.EventRefusals.{refusal_of, otherwise}
@@ -70,7 +70,7 @@ none_some e = cc
 pair_of : {X Y : Type 0} {a c : X} {b d : Y} → ◌≡◌ {A = Option (X × Y)} (Some (a, b)) (Some (c, d)) → (a ≡ c) × (b ≡ d)
 pair_of {X = X} {Y = Y} {a = a} {c = c} {b = b} {d = d} e = let pair : ◌≡◌ {A = X × Y} (a, b) (c, d) = one e in (ap (λ (p : X × Y). p.0) pair, ap (λ (p : X × Y). p.1) pair)
 
--- ---- sets by which one node is up, in its first incarnation
+-- ---- sets in which one node is up, in its first incarnation
 abbrev SayNoLife : List Operation → Type 0
 SayNoLife rest = (o : Operation) → IsOperationOf o rest → (m : NodeId) (l : Life) → life_said o.dot o.act ≡ Some (m, l) → ⊥
 
@@ -78,8 +78,8 @@ module _ (n : NodeId) (rest : List Operation) (none : SayNoLife rest) where
   abbrev pub lone : List Operation
   lone = up_of n ∷ rest
 
-  said_life : (m : NodeId) (l : Life) → SaysFor life_said lone m l → (n ≡ m) × (up_life ≡ l)
-  said_life m l says = elim says.1.0 [
+  life_report : (m : NodeId) (l : Life) → SaysFor life_said lone m l → (n ≡ m) × (up_life ≡ l)
+  life_report m l says = elim says.1.0 [
     | inl same ↦ pair_of (sym (ap (λ (q : Operation). life_said q.dot q.act) same) ∙ says.1.1)
     | inr more ↦ absurd (none says.0 more m l says.1.1)
   ]
@@ -89,17 +89,17 @@ module _ (n : NodeId) (rest : List Operation) (none : SayNoLife rest) where
     where
       by_life : (o : Option Life) → IsGreatest life_cmp (IsSaid life_said (pairs lone) n) o → o ≡ Some up_life
       by_life None nothing = absurd (nothing up_life (is_said life_said lone n up_life (up_of n, (inl refl, refl))))
-      by_life (Some l) is = ap (λ k. Some k) (sym (said_life n l (of_said life_said lone n l is.0)).1)
+      by_life (Some l) is = ap (λ k. Some k) (sym (life_report n l (of_said life_said lone n l is.0)).1)
 
   live_only : (m : NodeId) (inc : ℕ) → IsLive (meaning_of lone).lives m inc → (n ≡ m) × (1 ≡ inc)
   live_only m inc alive =
       let l : Life = record { inc = inc; flag = IsUpFlag } in
       let is : IsGreatest life_cmp (IsSaid life_said (pairs lone) m) (Some l) = subst (IsGreatest life_cmp (IsSaid life_said (pairs lone) m)) (sym (ap (λ lives. map.get lives m) (lives-meaning lone)) ∙ alive) (lives_are lone m) in
-      let said = said_life m l (of_said life_said lone m l is.0) in
+      let said = life_report m l (of_said life_said lone m l is.0) in
       (said.0, ap (λ (k : Life). k.inc) said.1)
 
 -- ---- counters
--- a known dot is that of an operation, where none replaces any
+-- a known dot is that of an operation, if none replaces any
 pub named_in : (os : List Operation) → ((o : Operation) → IsOperationOf o os → (d : Dot) → replaces d o ≡ false) → (d : Dot) → set.contains (meaning_of os).known d ≡ true → (o : Operation) × (IsOperationOf o os × (d ≡ o.dot))
 named_in os bare d t =
     let f = found (names d) os (sym (known-meaning os d) ∙ t) in
@@ -116,7 +116,7 @@ start_at n = start_of the_app n 2
 abbrev pub claiming_at : NodeId → Operation
 claiming_at n = operation (dot (first_of n) 3) (Claims the_app 1 Normal None)
 
--- what a node holds once it came up, and once it may run the application
+-- the set of a node after its boot, and after its start
 abbrev came : NodeId → List Operation
 came n = up_of n ∷ []
 
@@ -193,7 +193,7 @@ begun_state n = meaning_of (begun n)
 begun_live : (n : NodeId) → IsLive (begun_state n).lives n 1
 begun_live n = is_live n (start_at n ∷ []) (no_life_begun n)
 
--- ---- a node that came up says that it may run the application
+-- ---- a booted node requests a start
 came_live : (n : NodeId) → IsLive (meaning_of (came n)).lives n 1
 came_live n = is_live n [] no_life_came
 
@@ -256,17 +256,17 @@ begun_log n = meaning_of (came n) ∷ meaning_of (start_at n ∷ []) ∷ []
 abbrev pub begun_node : NodeId → Operation → ModelNode
 begun_node n o = record { last = 1; running = Some (record { origin = first_of n; moments = record { booted = 0; last = 0 }; is_open = false; notes = []; log = meaning_of (came n) ∷ meaning_of (o ∷ []) ∷ []; base = base_after 0 2 0; peers = no_peers }) }
 
--- ---- a node that knows of no other claims it
+-- ---- a node that knows of no other claims the application
 
--- the application's list has the node, and by what the node says of itself it may run the application
+-- the application's list contains the node, which is eligible by its own set
 pub record CanClaim (n : NodeId) : Type 0 where
   pub there : n.0 < node_count worked_table
   pub listed : IsSome (group_of worked_table the_app n)
   pub started : IsStartedAt (begun_state n) (key_at the_app n 1)
   pub agree : DotsDetermine (begun n)
 
-own_turn_by : NodeId → StateValue → Turn
-own_turn_by n u = turn_of worked_table (first_of n) (waits_of worked_table (record { state = u; moment = 0 } ∷ [])) 0 u
+own_sweep_by : NodeId → StateValue → Sweep
+own_sweep_by n u = sweep_of worked_table (first_of n) (waits_of worked_table (record { state = u; moment = 0 } ∷ [])) 0 u
 
 module _ (n : NodeId) (can : CanClaim n) where
   abbrev own_state : StateValue
@@ -326,14 +326,14 @@ module _ (n : NodeId) (can : CanClaim n) where
   own_act : claimed_by own_state the_app (verdict_of worked_table own_state the_app) ≡ Claims the_app 1 Normal None
   own_act = ap (claimed_by own_state the_app) starts_it ∙ ap (λ (c : Option Claim). Claims the_app (option_map_or (λ (k : Claim). k.term) c 0 + 1) Normal None) (none_claimed n the_app)
 
-  abbrev claims_so : Operation → Turn
+  abbrev claims_so : Operation → Sweep
   claims_so o = record { ops = o ∷ []; passed = []; state = join own_state (meaning_of (o ∷ [])) }
 
-  pub turn_alone : turn_of worked_table (first_of n) (waits_of worked_table (record { state = joined (begun_log n); moment = 0 } ∷ [])) 0 (joined (begun_log n)) ≡ claims_so (claiming_at n)
-  unfolding own_turn_by
-  turn_alone =
+  pub sweep_alone : sweep_of worked_table (first_of n) (waits_of worked_table (record { state = joined (begun_log n); moment = 0 } ∷ [])) 0 (joined (begun_log n)) ≡ claims_so (claiming_at n)
+  unfolding own_sweep_by
+  sweep_alone =
       let o = claim_of worked_table (first_of n) own_state the_app in
-      (λ i. own_turn_by n (begun_is i))
-      ∙ (λ i. cond (own_mine i) (cond (terms_used_up own_state the_app) (record { ops = []; passed = the_app ∷ []; state = own_state }) (claims_so o)) (turn_from own_state))
+      (λ i. own_sweep_by n (begun_is i))
+      ∙ (λ i. cond (own_mine i) (cond (terms_used_up own_state the_app) (record { ops = []; passed = the_app ∷ []; state = own_state }) (claims_so o)) (sweep_from own_state))
       ∙ (λ i. cond (own_terms i) (record { ops = []; passed = the_app ∷ []; state = own_state }) (claims_so o))
       ∙ (λ i. claims_so (operation (dot (first_of n) (begun_counter n i)) (own_act i)))

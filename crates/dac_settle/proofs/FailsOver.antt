@@ -1,4 +1,4 @@
--- The worked run: the world is ready once two nodes noted the loss, and their round is the one that fails over.
+-- The worked run with a loss: the world is ready after two nodes have noted the loss, and their round fails over.
 use Rattle.std.proofs.Common.{◌≡◌, append-nil, ℕ, ◌+◌, ◌≤◌, Bool, true, false, not, cond, ◌||◌, ◌&&◌, List, [], ◌∷◌, ◌++◌, length, Option, Some, None, option_map, Ok, refl, sym, ap, subst, ◌∙◌, arith, inl, inr}
 use Rattle.std.specs.Prelude.{nat_eq, nat_lt, IsSome, ◌==◌}
 use Rattle.std.specs.Option.{is_some, option_map_or, option_and_then}
@@ -31,7 +31,7 @@ use Rattle.dac_events.specs.declared.refusal.Refusal.{Refusal}
 use Rattle.dac_events.specs.declared.refusal.Refusal.TheVariants.{DeclaredDown, MomentBack, DotsUsedUp}
 use Rattle.dac_commands.specs.Commands.{greatest_counter}
 use Rattle.dac_commands.specs.Causes.{first, terms_used_up}
-use Rattle.dac_ticks.specs.Ticks.{Turn, turn_of, turn_from, claim_of, is_mine, is_mine_by}
+use Rattle.dac_ticks.specs.Ticks.{Sweep, sweep_of, sweep_from, claim_of, is_mine, is_mine_by}
 use Rattle.dac_model_world.specs.ModelNode.{ModelNode, ModelRunning, joined, shown, base_after}
 use Rattle.dac_model_world.specs.EventRefusals.{refusal_of}
 use Rattle.dac_model_world.specs.Transitions.{meanings}
@@ -45,12 +45,12 @@ use Rattle.dac_settle.specs.WorldRounds.{members_of, AreRounds, EndsInRounds}
 use Rattle.dac_settle.specs.Worked.{first_node, second_node, IsEither, the_app, worked_table, first_of, up_of, both_go_round}
 use Rattle.dac_settle.specs.WorkedLoss.{lost_node, lost_claim, losing, RunsCanFailOver}
 use Rattle.dac_settle.specs.laws.WorldsSettle.{worlds_settle}
-use Rattle.dac_settle.proofs.ComingUp.{CanClaim, start_at, started_op, booted, starts_on, begun, begun_log, begun_node, ticks_alone, turn_alone}
+use Rattle.dac_settle.proofs.ComingUp.{CanClaim, start_at, started_op, booted, starts_on, begun, begun_log, begun_node, ticks_alone, sweep_alone}
 use Rattle.dac_settle.proofs.Handed.{Answer, w0, pushed, known_there, run_of, waiting, with_op, base_with, hearing, few_by, longer, hears_op, wide}
 use Rattle.dac_settle.proofs.Losing.{claiming, loss_set, loss_state, loss_note, is_live, only_live, late, claimed, is_lost, few, up_there, terms_left, mine, claims_it, verdict_is, the_claim, fails_over}
-use Rattle.dac_settle.proofs.RoundOfTwo.{happens_so, is_ready, told, turn, turn_is, the_rounds}
+use Rattle.dac_settle.proofs.RoundOfTwo.{happens_so, is_ready, told, sweep, sweep_is, the_rounds}
 
--- ---- the events up to the handing
+-- ---- the events before operations are handed
 abbrev w1 : ModelWorld
 w1 = (answered_by w0 lost_node (booted lost_node) (Ok (Booted (up_of lost_node)))).world
 
@@ -80,7 +80,7 @@ abbrev w3 : ModelWorld
 w3 = (answered_by w2 lost_node d3 (Ok (Ticked (claiming ∷ []) []))).world
 
 is3 : happens worked_table w2 (record { node = lost_node; what = Ticking 0 }) ≡ answered_by w2 lost_node d3 (Ok (Ticked (claiming ∷ []) []))
-is3 = happens_so w2 lost_node (Ticking 0) (Tick 0) refl refl (ticks_alone lost_node lost_can) ∙ ap (λ (u : Turn). answered_by w2 lost_node d3 (Ok (Ticked u.ops u.passed))) (turn_alone lost_node lost_can)
+is3 = happens_so w2 lost_node (Ticking 0) (Tick 0) refl refl (ticks_alone lost_node lost_can) ∙ ap (λ (u : Sweep). answered_by w2 lost_node d3 (Ok (Ticked u.ops u.passed))) (sweep_alone lost_node lost_can)
 
 abbrev gone : ModelNode
 gone = record { last = 1; running = None }
@@ -91,7 +91,7 @@ w4 = (answered_by w3 lost_node gone (Ok Crashed)).world
 is4 : happens worked_table w3 (record { node = lost_node; what = Crashing }) ≡ answered_by w3 lost_node gone (Ok Crashed)
 is4 = happens_so w3 lost_node Crashing Crash refl refl refl
 
--- ---- each of the others comes up, and may run the application
+-- ---- each of the others boots and requests a start
 abbrev w5 : ModelWorld
 w5 = (answered_by w4 first_node (booted first_node) (Ok (Booted (up_of first_node)))).world
 
@@ -120,8 +120,8 @@ is8 =
     happens_so w7 second_node (Telling (Start the_app second_node)) (Commanded (Start the_app second_node)) refl refl (starts_on second_node refl refl)
     ∙ ap (λ (o : Operation). answered_by w7 second_node (begun_node second_node o) (Ok (Issued o))) (started_op second_node)
 
--- ---- operations that are handed
--- each is handed the claim, and what the other issued
+-- ---- handed operations
+-- each is handed the claim, and the operations of the other
 abbrev other_of : NodeId → NodeId
 other_of n = cond (nat_eq n.0 0) second_node first_node
 
@@ -194,7 +194,7 @@ w14 = (answered_by w13 second_node (waiting second_node (log3 second_node) (base
 is14 : happens worked_table w13 (record { node = second_node; what = Hand 5 }) ≡ answered_by w13 second_node (waiting second_node (log3 second_node) (base3 second_node)) (Ok (hearing (log2 second_node) (start_at first_node)))
 is14 = happens_so w13 second_node (Hand 5) (HearOp (start_at first_node)) refl refl (hears_op second_node false [] (log2 second_node) (base2 second_node) (start_at first_node) (wide (length (log2 second_node)) 4 (short2 second_node) (omega arith)))
 
--- ---- the run up to there
+-- ---- the run so far
 abbrev e1 : WorldEvent
 e1 = record { node = lost_node; what = Booting 0 }
 
@@ -324,7 +324,7 @@ es14 = e1 ∷ e2 ∷ e3 ∷ e4 ∷ e5 ∷ e6 ∷ e7 ∷ e8 ∷ e9 ∷ e10 ∷ e1
 abbrev as14 : List Answer
 as14 = a1 ∷ a2 ∷ a3 ∷ a4 ∷ a5 ∷ a6 ∷ a7 ∷ a8 ∷ a9 ∷ a10 ∷ a11 ∷ a12 ∷ a13 ∷ a14 ∷ []
 
--- ---- what both know then
+-- ---- the states of both nodes then
 abbrev s14 : SetWorld
 s14 = set_run no_sets es14 as14
 
@@ -334,7 +334,7 @@ holding n = up_of n ∷ start_at n ∷ claiming ∷ up_of (other_of n) ∷ start
 abbrev holding_set : NodeId → NodeSet
 holding_set n = record { inc = 1; operations = holding n }
 
--- of two who hold the same in this order
+-- two nodes hold the same operations in these orders
 same_five : (a b c d e : Operation) → AreOperationsOf (a ∷ b ∷ c ∷ d ∷ e ∷ []) (d ∷ e ∷ c ∷ a ∷ b ∷ [])
 same_five a b c d e o (inl x) = inr (inr (inr (inl x)))
 same_five a b c d e o (inr (inl x)) = inr (inr (inr (inr (inl x))))
@@ -387,7 +387,7 @@ known_at n either = elim either [
   | inr b ↦ subst (λ (k : NodeId). joined (log3 k) ≡ loss_state) (sym b) (known_there w14 s14 second_node (run_at second_node) (holding_set second_node) sound14 refl refl ∙ means second_node (inr refl))
 ]
 
--- ---- each notes the loss, whose time isn't over
+-- ---- each notes the loss, whose wait isn't over
 few3 : (n : NodeId) → nat_lt MAX_COUNTER (length (log3 n) + 1) ≡ false
 few3 n = few_by (length (log3 n)) (wide (length (log3 n)) 5 (short3 n) (omega arith))
 
@@ -425,24 +425,24 @@ not_mine n =
     ∙ (λ i. (first_node.0 == n.0) && due i)
     ∙ and_none (first_node.0 == n.0)
 
-own_turn_by : NodeId → StateValue → Turn
-own_turn_by n u = turn_of worked_table (first_of n) (waits_of worked_table (record { state = u; moment = 0 } ∷ [])) 0 u
+own_sweep_by : NodeId → StateValue → Sweep
+own_sweep_by n u = sweep_of worked_table (first_of n) (waits_of worked_table (record { state = u; moment = 0 } ∷ [])) 0 u
 
-claims_so : NodeId → Turn
+claims_so : NodeId → Sweep
 claims_so n = let o = claim_of worked_table (first_of n) loss_state the_app in record { ops = o ∷ []; passed = []; state = join loss_state (meaning_of (o ∷ [])) }
 
-abbrev passes : Turn
+abbrev passes : Sweep
 passes = record { ops = []; passed = the_app ∷ []; state = loss_state }
 
-own_turn : (n : NodeId) → IsEither n → turn_of worked_table (first_of n) (waits_of worked_table (record { state = joined (log3 n); moment = 0 } ∷ [])) 0 (joined (log3 n)) ≡ turn_from loss_state
-unfolding own_turn_by claims_so
-own_turn n either = (λ i. own_turn_by n (known_at n either i)) ∙ (λ i. cond (not_mine n i) (cond (terms_used_up loss_state the_app) passes (claims_so n)) (turn_from loss_state))
+own_sweep : (n : NodeId) → IsEither n → sweep_of worked_table (first_of n) (waits_of worked_table (record { state = joined (log3 n); moment = 0 } ∷ [])) 0 (joined (log3 n)) ≡ sweep_from loss_state
+unfolding own_sweep_by claims_so
+own_sweep n either = (λ i. own_sweep_by n (known_at n either i)) ∙ (λ i. cond (not_mine n i) (cond (terms_used_up loss_state the_app) passes (claims_so n)) (sweep_from loss_state))
 
-abbrev noting : NodeId → StateValue → Turn → ModelNode
+abbrev noting : NodeId → StateValue → Sweep → ModelNode
 noting n s u = record { last = 1; running = Some (run_of n true (record { state = s; moment = 0 } ∷ []) (log3 n ++ meanings u.ops) (base_after (base3 n) (length (log3 n ++ meanings u.ops)) 0)) }
 
 abbrev noted_node : NodeId → ModelNode
-noted_node n = noting n loss_state (turn_from loss_state)
+noted_node n = noting n loss_state (sweep_from loss_state)
 
 abbrev w15 : ModelWorld
 w15 = (answered_by w14 first_node (noted_node first_node) (Ok (Ticked [] []))).world
@@ -450,7 +450,7 @@ w15 = (answered_by w14 first_node (noted_node first_node) (Ok (Ticked [] []))).w
 is15 : happens worked_table w14 (record { node = first_node; what = Ticking 0 }) ≡ answered_by w14 first_node (noted_node first_node) (Ok (Ticked [] []))
 is15 =
     happens_so w14 first_node (Ticking 0) (Tick 0) refl refl (ticks_first first_node (inl refl))
-    ∙ (λ i. answered_by w14 first_node (noting first_node (known_at first_node (inl refl) i) (own_turn first_node (inl refl) i)) (Ok (Ticked (own_turn first_node (inl refl) i).ops (own_turn first_node (inl refl) i).passed)))
+    ∙ (λ i. answered_by w14 first_node (noting first_node (known_at first_node (inl refl) i) (own_sweep first_node (inl refl) i)) (Ok (Ticked (own_sweep first_node (inl refl) i).ops (own_sweep first_node (inl refl) i).passed)))
 
 abbrev w16 : ModelWorld
 w16 = (answered_by w15 second_node (noted_node second_node) (Ok (Ticked [] []))).world
@@ -458,7 +458,7 @@ w16 = (answered_by w15 second_node (noted_node second_node) (Ok (Ticked [] [])))
 is16 : happens worked_table w15 (record { node = second_node; what = Ticking 0 }) ≡ answered_by w15 second_node (noted_node second_node) (Ok (Ticked [] []))
 is16 =
     happens_so w15 second_node (Ticking 0) (Tick 0) refl refl (ticks_first second_node (inr refl))
-    ∙ (λ i. answered_by w15 second_node (noting second_node (known_at second_node (inr refl) i) (own_turn second_node (inr refl) i)) (Ok (Ticked (own_turn second_node (inr refl) i).ops (own_turn second_node (inr refl) i).passed)))
+    ∙ (λ i. answered_by w15 second_node (noting second_node (known_at second_node (inr refl) i) (own_sweep second_node (inr refl) i)) (Ok (Ticked (own_sweep second_node (inr refl) i).ops (own_sweep second_node (inr refl) i).passed)))
 
 abbrev the_replies : List Answer
 the_replies = as14 ++ Ok (Ticked [] []) ∷ Ok (Ticked [] []) ∷ []
@@ -471,7 +471,7 @@ run16 =
 abbrev s16 : SetWorld
 s16 = set_run no_sets losing the_replies
 
--- ---- nobody else runs
+-- ---- no other node runs
 sets_none : (a b c : Bool) (x14 x13 x12 x11 x10 x9 x8 x7 x6 x5 x3 x2 x1 : Option NodeSet) → a ≡ false → b ≡ false
     → cond b x14 (cond b x13 (cond b x12 (cond a x11 (cond a x10 (cond a x9 (cond b x8 (cond b x7 (cond a x6 (cond a x5 (cond c None (cond c x3 (cond c x2 (cond c x1 None))))))))))))) ≡ None
 sets_none true b c x14 x13 x12 x11 x10 x9 x8 x7 x6 x5 x3 x2 x1 e f = absurd (true≢false e)
@@ -492,7 +492,7 @@ no_set n away apart = sets_none (nat_eq n.0 0) (nat_eq n.0 1) (nat_eq n.0 2) _ _
 no_run : (n : NodeId) → nat_eq n.0 0 ≡ false → nat_eq n.0 1 ≡ false → (w14.node n).running ≡ None
 no_run n away apart = nodes_none (nat_eq n.0 0) (nat_eq n.0 1) (nat_eq n.0 2) _ _ _ _ _ _ _ _ _ _ _ _ _ away apart
 
--- ---- both know the loss
+-- ---- both nodes know the loss
 abbrev log4 : NodeId → List StateValue
 log4 n = log3 n ++ []
 
@@ -516,25 +516,25 @@ world_is_ready : IsReady (members_of w16 s16)
 world_is_ready = is_ready loss_state are_open own_notes is_live only_live few terms_left (λ n either. late) (λ n either app claim lost. lost) log4 base4 holding w16.operations w14.node s14.node s16.issued short4 known4 means alike no_run no_set
 
 -- ---- the first tick fails over
-abbrev turn_of_node : NodeId → Turn
-turn_of_node = turn loss_state are_open own_notes is_live only_live few terms_left (λ n either. late) (λ n either app claim lost. lost) log4 base4 holding w16.operations w14.node s14.node s16.issued short4 known4 means alike no_run no_set
+abbrev sweep_of_node : NodeId → Sweep
+sweep_of_node = sweep loss_state are_open own_notes is_live only_live few terms_left (λ n either. late) (λ n either app claim lost. lost) log4 base4 holding w16.operations w14.node s14.node s16.issued short4 known4 means alike no_run no_set
 
-first_turn : turn_of_node first_node ≡ claims_it
-first_turn =
-    turn_is loss_state are_open own_notes is_live only_live few terms_left (λ n either. late) (λ n either app claim lost. lost) log4 base4 holding w16.operations w14.node s14.node s16.issued short4 known4 means alike no_run no_set first_node (inl refl)
-    ∙ (λ i. cond (mine i) (cond (terms_used_up loss_state the_app) passes claims_it) (turn_from loss_state))
+first_sweep : sweep_of_node first_node ≡ claims_it
+first_sweep =
+    sweep_is loss_state are_open own_notes is_live only_live few terms_left (λ n either. late) (λ n either app claim lost. lost) log4 base4 holding w16.operations w14.node s14.node s16.issued short4 known4 means alike no_run no_set first_node (inl refl)
+    ∙ (λ i. cond (mine i) (cond (terms_used_up loss_state the_app) passes claims_it) (sweep_from loss_state))
     ∙ (λ i. cond (terms_left i) passes claims_it)
 
--- the answers after the first tick
+-- the results after the first tick
 abbrev later_answers : List Answer
-later_answers = Ok (Ticked (turn_of_node second_node).ops (turn_of_node second_node).passed) ∷ told loss_state are_open own_notes is_live only_live few terms_left (λ n either. late) (λ n either app claim lost. lost) log4 base4 holding w16.operations w14.node s14.node s16.issued short4 known4 means alike no_run no_set
+later_answers = Ok (Ticked (sweep_of_node second_node).ops (sweep_of_node second_node).passed) ∷ told loss_state are_open own_notes is_live only_live few terms_left (λ n either. late) (λ n either app claim lost. lost) log4 base4 holding w16.operations w14.node s14.node s16.issued short4 known4 means alike no_run no_set
 
--- the answers to the round
+-- the results of the round
 abbrev all_answers : List Answer
 all_answers = Ok (Ticked (the_claim ∷ []) []) ∷ later_answers
 
 round_comes : AreRounds worked_table (app_count worked_table) w16 s16 both_go_round all_answers
-round_comes = the_rounds loss_state are_open own_notes is_live only_live few terms_left (λ n either. late) (λ n either app claim lost. lost) log4 base4 holding w16.operations w14.node s14.node s16.issued short4 known4 means alike no_run no_set claims_it (turn_of_node second_node) first_turn refl
+round_comes = the_rounds loss_state are_open own_notes is_live only_live few terms_left (λ n either. late) (λ n either app claim lost. lost) log4 base4 holding w16.operations w14.node s14.node s16.issued short4 known4 means alike no_run no_set claims_it (sweep_of_node second_node) first_sweep refl
 
 holds_at : (n : NodeId) → IsEither n → s16.node n ≡ Some (holding_set n)
 holds_at n either = elim either [

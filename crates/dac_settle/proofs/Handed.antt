@@ -1,4 +1,4 @@
--- The worked runs, up to their rounds: one event more that is accepted, and operations that are handed.
+-- The worked runs before their rounds: one more accepted event, and handed operations.
 use Rattle.std.proofs.Common.{◌≡◌, ℕ, ◌+◌, ◌≤◌, Bool, true, false, not, cond, ◌&&◌, List, [], ◌∷◌, ◌++◌, length, Some, None, Ok, refl, sym, ap, ◌∙◌, arith, inl}
 use Rattle.std.specs.Prelude.{nat_lt, Result}
 use Rattle.std.proofs.lemmas.Bool.{leb-true, le-ltb}
@@ -36,31 +36,31 @@ Answer = Result Reply WorldFault
 abbrev pub w0 : ModelWorld
 w0 = start worked_table
 
--- one event more, which is accepted
+-- one more event, which is accepted
 pub pushed : (w : ModelWorld) (es : List WorldEvent) (answers : List Answer) (e : WorldEvent) (d : ModelNode) (reply : Reply) → Run worked_table w0 es answers w → happens worked_table w e ≡ answered_by w e.node d (Ok reply) →
     Run worked_table w0 (es ++ e ∷ []) (answers ++ Ok reply ∷ []) (answered_by w e.node d (Ok reply)).world
 pushed w es answers e d reply run is = Run-push worked_table w0 es answers w e (Ok reply) (answered_by w e.node d (Ok reply)).world run (inl (record { answered = sym (ap (λ (by : WorldStepped). by.answer) is); went_on = sym (ap (λ (by : WorldStepped). by.world) is) }))
 
--- what a node knows is what its set means
+-- a node's state is the meaning of its set
 pub known_there : (w : ModelWorld) (s : SetWorld) (n : NodeId) (r : ModelRunning) (set : NodeSet) → Sound w s → (w.node n).running ≡ Some r → s.node n ≡ Some set → joined r.log ≡ meaning_of set.operations
 known_there w s n r set h runs holds =
     let held = held_at w s n r h runs in
     let same : set ≡ held.set = one (sym holds ∙ held.is) in
     held.state ∙ sym (ap (λ (x : NodeSet). meaning_of x.operations) same)
 
--- ---- operations that are handed
+-- ---- handed operations
 abbrev pub run_of : NodeId → Bool → List Note → List StateValue → ℕ → ModelRunning
 run_of n opened notes log base = record { origin = first_of n; moments = record { booted = 0; last = 0 }; is_open = opened; notes = notes; log = log; base = base; peers = no_peers }
 
--- a node that runs so
+-- a node with this running state
 abbrev pub running_so : NodeId → Bool → List Note → List StateValue → ℕ → ModelNode
 running_so n opened notes log base = record { last = 1; running = Some (run_of n opened notes log base) }
 
--- a node that came up and looked after nothing yet
+-- a node that booted and hasn't ticked
 abbrev pub waiting : NodeId → List StateValue → ℕ → ModelNode
 waiting n log base = running_so n false [] log base
 
--- its log once it is handed an operation
+-- its log after it is handed an operation
 abbrev pub with_op : List StateValue → Operation → List StateValue
 with_op log o = log ++ brings (joined log) (meaning_of (o ∷ []))
 
@@ -70,7 +70,7 @@ base_with base log o = base_after base (length (with_op log o)) 0
 abbrev pub hearing : List StateValue → Operation → Reply
 hearing log o = Heard (not (is_below (meaning_of (o ∷ [])) (joined log)))
 
--- whatever is new, there are numbers left for it
+-- numbers of deltas are left for anything new
 has_room : (b : Bool) → first ((b && false, DotsUsedUp) ∷ []) ≡ None
 has_room true = refl
 has_room false = refl

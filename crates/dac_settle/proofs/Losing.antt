@@ -1,5 +1,5 @@
--- What the two nodes know in the worked run: who is live, which counters are used, that the claim is lost, and the verdict. The
--- first of them is to take the application once the time is over.
+-- The state of the two nodes in the worked run with a loss: the live nodes, the counters used, the lost claim, and the
+-- verdict. The first node should claim the application after the wait.
 use Rattle.std.proofs.Common.{◌≡◌, ℕ, ◌+◌, ◌≤◌, ◌<◌, Bool, true, false, ◌||◌, List, [], ◌∷◌, ◌++◌, Option, Some, None, option_map, refl, sym, ap, subst, ◌∙◌, arith, inl, inr}
 use Rattle.std.specs.Prelude.{nat_eq, nat_lt, All}
 use Rattle.std.specs.Option.{option_map_or}
@@ -41,7 +41,7 @@ use Rattle.dac_decide.specs.laws.Kept.{kept_is}
 use Rattle.dac_commands.specs.Commands.{greatest_counter}
 use Rattle.dac_commands.specs.Causes.{first, terms_used_up}
 use Rattle.dac_commands.specs.laws.Counters.{next-is}
-use Rattle.dac_ticks.specs.Ticks.{Turn, claim_of, claimed_by, is_mine}
+use Rattle.dac_ticks.specs.Ticks.{Sweep, claim_of, claimed_by, is_mine}
 use Rattle.dac_ticks.specs.laws.Words.{if_own}
 use Rattle.dac_ticks.specs.laws.Claimed.{MayRunAlike}
 use Rattle.dac_settle.specs.Settling.{IsLate}
@@ -54,7 +54,7 @@ use Rattle.dac_settle.specs.laws.BothTick.{no_row}
 use Rattle.dac_settle.specs.WorkedLoss.{lost_node, lost_claim}
 use Rattle.dac_settle.proofs.ComingUp.{none_some, claiming_at}
 
--- ---- what is known
+-- ---- the set
 abbrev the_starts : List Operation
 the_starts = start_of the_app first_node 2 ∷ start_of the_app second_node 2 ∷ []
 
@@ -183,8 +183,8 @@ few n either = ap (nat_lt MAX_COUNTER) (counters n either)
 pub up_there : (n : NodeId) → IsEither n → is_up loss_state (first_of n) ≡ true
 up_there n either = (up_is loss_state (first_of n)).1 (is_live n either)
 
--- ---- what was noted has waited
--- what was noted at moment 0
+-- ---- the note has waited
+-- the note at moment 0
 abbrev pub loss_note : Note
 loss_note = record { state = loss_state; moment = 0 }
 
@@ -208,7 +208,7 @@ late app claim since noted = by_row noted.row noted.begin noted.before noted.par
         wait (only_claimed app claim there.greatest) (ap (λ (k : Note). k.moment) is ∙ moment)
     by_row (x ∷ row) begin before parts lost moment = absurd (no_row row begin before (rest_is x begin row before parts))
 
--- ---- the first node takes it
+-- ---- the first node claims the application
 may_run : IsEligible worked_table loss_state the_app first_node
 may_run = record {
   listed = refl;
@@ -278,7 +278,7 @@ terms_left = ap (λ c. nat_lt MAX_COUNTER (option_map_or (λ (claim : Claim). cl
 abbrev pub the_claim : Operation
 the_claim = claim_of worked_table (first_of first_node) loss_state the_app
 
-abbrev pub claims_it : Turn
+abbrev pub claims_it : Sweep
 claims_it = record { ops = the_claim ∷ []; passed = []; state = join loss_state (meaning_of (the_claim ∷ [])) }
 
 pub fails_over : the_claim.act ≡ Claims the_app 2 FailedOver (Some lost_node)

@@ -1,4 +1,5 @@
--- The worked run with a drain: the world is ready once both nodes heard of the drain, and their round moves the application.
+-- The worked run with a drain: the world is ready after both nodes have heard of the drain, and their round moves the
+-- application.
 use Rattle.std.proofs.Common.{◌≡◌, ◌⊎◌, ℕ, ◌+◌, ◌<◌, ◌≤◌, Bool, true, false, not, cond, ◌||◌, List, [], ◌∷◌, ◌++◌, length, Option, Some, None, option_map, Ok, refl, sym, ap, subst, ◌∙◌, arith, inl, inr}
 use Rattle.std.specs.Prelude.{nat_eq, nat_lt, nat_le, IsSome, All, unwrap_or}
 use Rattle.std.specs.Option.{is_some, option_map_or}
@@ -47,7 +48,7 @@ use Rattle.dac_commands.specs.Commands.{greatest_counter, live, live_or_none, li
 use Rattle.dac_commands.specs.Causes.{first, not_live, too_many, used_up, terms_used_up}
 use Rattle.dac_commands.specs.laws.Counters.{next-is, used_up_is}
 use Rattle.dac_commands.specs.laws.Standing.{drains_at-has}
-use Rattle.dac_ticks.specs.Ticks.{Turn, turn_from, claim_of, claimed_by, is_mine, is_mine_by}
+use Rattle.dac_ticks.specs.Ticks.{Sweep, sweep_from, claim_of, claimed_by, is_mine, is_mine_by}
 use Rattle.dac_model_world.specs.ModelNode.{ModelNode, joined, shown, base_after}
 use Rattle.dac_model_world.specs.EventRefusals.{refusal_of, otherwise}
 use Rattle.dac_model_world.specs.Transitions.{meanings}
@@ -69,15 +70,15 @@ use Rattle.dac_settle.specs.laws.Started.{AreStarts, are_live}
 use Rattle.dac_settle.specs.laws.BothTick.{no_row}
 use Rattle.dac_settle.specs.laws.MovedRound.{drained_state, is_live, only_live, claimed, said_by, never_lost, is_drained, terms_left, to_move}
 use Rattle.dac_settle.specs.laws.WorldsSettle.{held_shown, set_there, worlds_settle}
-use Rattle.dac_settle.proofs.ComingUp.{CanClaim, none_some, none_claimed, named_in, bare_by, number_of, below, empty_if, start_at, started_op, booted, starts_on, begun as begun_alone, begun_log, begun_node, begun_is, ticks_alone, turn_alone}
+use Rattle.dac_settle.proofs.ComingUp.{CanClaim, none_some, none_claimed, named_in, bare_by, number_of, below, empty_if, start_at, started_op, booted, starts_on, begun as begun_alone, begun_log, begun_node, begun_is, ticks_alone, sweep_alone}
 use Rattle.dac_settle.proofs.Handed.{Answer, w0, pushed, known_there, run_of, running_so, waiting, with_op, base_with, hearing, few_by, longer, hears_op, wide}
-use Rattle.dac_settle.proofs.RoundOfTwo.{happens_so, is_ready, told, turn, turn_is, the_rounds, all_hold}
+use Rattle.dac_settle.proofs.RoundOfTwo.{happens_so, is_ready, told, sweep, sweep_is, the_rounds, all_hold}
 
--- of either node, where it is so of the first and of the second
+-- a property of both nodes holds of either
 at_either : (P : NodeId → Type 0) → P first_node → P second_node → (n : NodeId) → IsEither n → P n
 at_either P a b n either = elim either [ inl is ↦ subst P (sym is) a | inr is ↦ subst P (sym is) b ]
 
--- ---- what the second node knows when it is told of the drain
+-- ---- the second node's state before its drain command
 abbrev heard_up : List Operation
 heard_up = up_of second_node ∷ start_at second_node ∷ up_of first_node ∷ []
 
@@ -134,7 +135,7 @@ first_lives = (live_is heard_state.lives first_node 1).1 (heard_live first_node 
 none_drained : (at : Origin) → standing_drains heard_state at ≡ []
 none_drained at = empty_if (standing_drains heard_state at) (λ d. drains_at-has at heard_state.drains d ∙ ap is_some (drains-meaning heard_up (keyed_write at d)))
 
--- ---- it drains the first
+-- ---- the drain of the first node
 says_drain : act_of worked_table heard_state (Drain first_node true) ≡ Drains first_node 1 true []
 says_drain =
     let inc : live_or_none heard_state first_node ≡ 1 = ap (λ o. unwrap_or o 0) first_lives in
@@ -165,7 +166,7 @@ drains_on log base short is =
     is_left : (g : ℕ) → g + 1 ≡ 3 → nat_le MAX_COUNTER g ≡ false
     is_left g e = ap (nat_le MAX_COUNTER) (is_two g e)
 
--- ---- what each keeps, event by event
+-- ---- the state of each node, event by event
 first_can : CanClaim first_node
 first_can = record {
   there = omega arith;
@@ -180,9 +181,9 @@ base0 = base_after 0 2 0
 abbrev notes3 : List Note
 notes3 = record { state = joined (begun_log first_node); moment = 0 } ∷ []
 
--- the first node once its tick did so much
-abbrev claimed_by_turn : Turn → ModelNode
-claimed_by_turn u = running_so first_node true notes3 (begun_log first_node ++ meanings u.ops) (base_after base0 (length (begun_log first_node ++ meanings u.ops)) 0)
+-- the first node after this effect of its tick
+abbrev claimed_by_sweep : Sweep → ModelNode
+claimed_by_sweep u = running_so first_node true notes3 (begun_log first_node ++ meanings u.ops) (base_after base0 (length (begun_log first_node ++ meanings u.ops)) 0)
 
 abbrev log3 : List StateValue
 log3 = begun_log first_node ++ meaning_of (claiming ∷ []) ∷ []
@@ -217,7 +218,7 @@ log6 = with_op log5 (up_of first_node)
 abbrev base6 : ℕ
 base6 = base_with base0 log5 (up_of first_node)
 
--- the second node once it issued the operation
+-- the second node after it issued the operation
 abbrev drained_node : Operation → ModelNode
 drained_node o = waiting second_node (log6 ++ meaning_of (o ∷ []) ∷ []) (base_after base6 (length (log6 ++ meaning_of (o ∷ []) ∷ [])) 0)
 
@@ -311,7 +312,7 @@ w3 = (answered_by w2 first_node (running_so first_node true notes3 log3 base3) (
 is3 : happens worked_table w2 e3 ≡ answered_by w2 first_node (running_so first_node true notes3 log3 base3) (Ok (Ticked (claiming ∷ []) []))
 is3 =
     happens_so w2 first_node (Ticking 0) (Tick 0) refl refl (ticks_alone first_node first_can)
-    ∙ ap (λ (u : Turn). answered_by w2 first_node (claimed_by_turn u) (Ok (Ticked u.ops u.passed))) (turn_alone first_node first_can)
+    ∙ ap (λ (u : Sweep). answered_by w2 first_node (claimed_by_sweep u) (Ok (Ticked u.ops u.passed))) (sweep_alone first_node first_can)
 
 run3 : Run worked_table w0 (e1 ∷ e2 ∷ e3 ∷ []) (a1 ∷ a2 ∷ a3 ∷ []) w3
 run3 = pushed w2 (e1 ∷ e2 ∷ []) (a1 ∷ a2 ∷ []) e3 (running_so first_node true notes3 log3 base3) (Ticked (claiming ∷ []) []) run2 is3
@@ -372,7 +373,7 @@ a7 = Ok (Issued draining)
 abbrev w7 : ModelWorld
 w7 = (answered_by w6 second_node (drained_node draining) (Ok (Issued draining))).world
 
--- the second node knows of both boots and of its own start
+-- the second node knows both boots and its own start
 abbrev s6 : SetWorld
 s6 = set_run no_sets (e1 ∷ e2 ∷ e3 ∷ e4 ∷ e5 ∷ e6 ∷ []) (a1 ∷ a2 ∷ a3 ∷ a4 ∷ a5 ∷ a6 ∷ [])
 
@@ -475,7 +476,7 @@ s12 = set_run no_sets drains_first the_replies
 sound12 : Sound w12 s12
 sound12 = sound_run worked_table w0 no_sets drains_first the_replies w12 (sound_start worked_table) run12
 
--- ---- what both hold then
+-- ---- the sets of both nodes then
 abbrev by_node : {X : Type 0} → X → X → NodeId → X
 by_node a b n = cond (nat_eq n.0 0) a b
 
@@ -539,7 +540,7 @@ alike m n of_m of_n o i = all_drained n of_n o (in_drained m of_m o i)
 means : (n : NodeId) → IsEither n → meaning_of (holding n) ≡ drained_state
 means n either = meaning-same (holding n) drained_set (in_drained n either) (all_drained n either)
 
--- ---- what both know then
+-- ---- the states of both nodes then
 abbrev are_open : NodeId → Bool
 are_open = by_node true false
 
@@ -603,7 +604,7 @@ few n either = by_test (nat_le MAX_COUNTER (greatest_counter (first_of n) draine
         let less = leb-false MAX_COUNTER (greatest_counter (first_of n) drained_state.known) left in
         le-ltb MAX_COUNTER (greatest_counter (first_of n) drained_state.known + 1) (omega (arith, less))
 
--- ---- nothing was noted as lost
+-- ---- no loss was noted
 never_late : (x : Note) → ((app : AppId) (claim : Claim) → IsLost x.state app claim → ⊥) → IsLate worked_table (x ∷ []) 5000
 never_late x never app claim since noted = absurd (by_row noted.row noted.begin noted.before noted.parts noted.lost)
   where
@@ -630,7 +631,7 @@ late = at_either (λ n. IsLate worked_table (notes n) 5000)
 noted : (n : NodeId) → IsEither n → (app : AppId) (claim : Claim) → IsLost drained_state app claim → IsLostByNewest (notes n) app claim
 noted n either app claim lost = absurd (never_lost app claim lost)
 
--- ---- nobody else runs
+-- ---- no other node runs
 sets_none : (a b : Bool) (x10 x9 x8 x7 x6 x5 x4 x3 x2 x1 : Option NodeSet) → a ≡ false → b ≡ false
     → cond a x10 (cond a x9 (cond b x8 (cond b x7 (cond b x6 (cond b x5 (cond b x4 (cond a x3 (cond a x2 (cond a x1 None))))))))) ≡ None
 sets_none true b x10 x9 x8 x7 x6 x5 x4 x3 x2 x1 e f = absurd (true≢false e)
@@ -662,27 +663,27 @@ not_mine = ap (is_mine_by worked_table (first_of first_node) (the_waits first_no
 mine : is_mine worked_table (first_of second_node) (the_waits second_node) 5000 drained_state the_app ≡ true
 mine = ap (is_mine_by worked_table (first_of second_node) (the_waits second_node) 5000 drained_state the_app) to_move
 
-abbrev passes : Turn
+abbrev passes : Sweep
 passes = record { ops = []; passed = the_app ∷ []; state = drained_state }
 
-abbrev claims_so : Operation → Turn
+abbrev claims_so : Operation → Sweep
 claims_so o = record { ops = o ∷ []; passed = []; state = join drained_state (meaning_of (o ∷ [])) }
 
 abbrev the_claim : Operation
 the_claim = claim_of worked_table (first_of second_node) drained_state the_app
 
-first_turn : turn drained_state are_open notes is_live only_live few terms_left late noted log base holding w12.operations w10.node s10.node s12.issued short known means alike no_run no_set first_node ≡ turn_from drained_state
-first_turn =
-    turn_is drained_state are_open notes is_live only_live few terms_left late noted log base holding w12.operations w10.node s10.node s12.issued short known means alike no_run no_set first_node (inl refl)
-    ∙ (λ i. cond (not_mine i) (cond (terms_used_up drained_state the_app) passes (claims_so (claim_of worked_table (first_of first_node) drained_state the_app))) (turn_from drained_state))
+first_sweep : sweep drained_state are_open notes is_live only_live few terms_left late noted log base holding w12.operations w10.node s10.node s12.issued short known means alike no_run no_set first_node ≡ sweep_from drained_state
+first_sweep =
+    sweep_is drained_state are_open notes is_live only_live few terms_left late noted log base holding w12.operations w10.node s10.node s12.issued short known means alike no_run no_set first_node (inl refl)
+    ∙ (λ i. cond (not_mine i) (cond (terms_used_up drained_state the_app) passes (claims_so (claim_of worked_table (first_of first_node) drained_state the_app))) (sweep_from drained_state))
 
-second_turn : turn drained_state are_open notes is_live only_live few terms_left late noted log base holding w12.operations w10.node s10.node s12.issued short known means alike no_run no_set second_node ≡ claims_so the_claim
-second_turn =
-    turn_is drained_state are_open notes is_live only_live few terms_left late noted log base holding w12.operations w10.node s10.node s12.issued short known means alike no_run no_set second_node (inr refl)
-    ∙ (λ i. cond (mine i) (cond (terms_used_up drained_state the_app) passes (claims_so the_claim)) (turn_from drained_state))
+second_sweep : sweep drained_state are_open notes is_live only_live few terms_left late noted log base holding w12.operations w10.node s10.node s12.issued short known means alike no_run no_set second_node ≡ claims_so the_claim
+second_sweep =
+    sweep_is drained_state are_open notes is_live only_live few terms_left late noted log base holding w12.operations w10.node s10.node s12.issued short known means alike no_run no_set second_node (inr refl)
+    ∙ (λ i. cond (mine i) (cond (terms_used_up drained_state the_app) passes (claims_so the_claim)) (sweep_from drained_state))
     ∙ (λ i. cond (terms_left i) passes (claims_so the_claim))
 
--- the answers after both ticks, and all answers to the round
+-- the results after both ticks, and all results of the round
 abbrev later_answers : List Answer
 later_answers = told drained_state are_open notes is_live only_live few terms_left late noted log base holding w12.operations w10.node s10.node s12.issued short known means alike no_run no_set
 
@@ -690,14 +691,14 @@ abbrev all_answers : List Answer
 all_answers = Ok (Ticked [] []) ∷ Ok (Ticked (the_claim ∷ []) []) ∷ later_answers
 
 round_comes : AreRounds worked_table (app_count worked_table) w12 s12 both_go_round all_answers
-round_comes = the_rounds drained_state are_open notes is_live only_live few terms_left late noted log base holding w12.operations w10.node s10.node s12.issued short known means alike no_run no_set (turn_from drained_state) (claims_so the_claim) first_turn second_turn
+round_comes = the_rounds drained_state are_open notes is_live only_live few terms_left late noted log base holding w12.operations w10.node s10.node s12.issued short known means alike no_run no_set (sweep_from drained_state) (claims_so the_claim) first_sweep second_sweep
 
 takes : the_claim.act ≡ Claims the_app 2 Normal None
 takes =
     ap (claimed_by drained_state the_app) to_move
     ∙ ap (λ (c : Option Claim). Claims the_app (option_map_or (λ (k : Claim). k.term) c 0 + 1) Normal None) claimed
 
--- ---- who holds it in the end
+-- ---- the holder at the end
 abbrev second_claim : Claim
 second_claim = record { term = 2; origin = first_of second_node; how = Normal; from = None }
 
@@ -735,7 +736,7 @@ taken = by_claim (map.get (meaning_of all_held).claims the_app) (claim_greatest 
       | inr new ↦ ap (λ k. Some k) (sym new)
     ]
 
--- ---- all of it
+-- ---- the whole run
 ready_there : IsReady (members_of (world_after worked_table w0 drains_first the_replies) s12)
 ready_there = subst (λ (w : ModelWorld). IsReady (members_of w s12)) run12.1 world_is_ready
 
@@ -763,7 +764,7 @@ held_then v ran n state runs =
     let sets = set_run no_sets (drains_first ++ both_go_round) (the_replies ++ all_answers) in
     let sound = sound_run worked_table w0 no_sets (drains_first ++ both_go_round) (the_replies ++ all_answers) ran.final (sound_start worked_table) ran.run in
     let set = set_there (sets.node (numbered n)) state (held_shown worked_table ran.final sets v ran.shows sound n state runs) in
-    let same = all_hold drained_state are_open notes is_live only_live few terms_left late noted log base holding w12.operations w10.node s10.node s12.issued short known means alike no_run no_set (turn_from drained_state) (claims_so the_claim) first_turn second_turn (numbered n) set.0 set.1 in
+    let same = all_hold drained_state are_open notes is_live only_live few terms_left late noted log base holding w12.operations w10.node s10.node s12.issued short known means alike no_run no_set (sweep_from drained_state) (claims_so the_claim) first_sweep second_sweep (numbered n) set.0 set.1 in
     sym set.2 ∙ meaning-same set.0.operations all_held same.0 same.1
 
 holds_at : (n : NodeId) → IsEither n → s12.node n ≡ Some (holding_set n)

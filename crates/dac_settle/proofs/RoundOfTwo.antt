@@ -1,5 +1,5 @@
--- The round of the worked runs: both nodes know the same and tick, ship and hear. What each claims by its tick is told
--- where it is known.
+-- The round of the worked runs: both nodes know the same, tick, ship and hear. Their claims are given where they are
+-- known.
 use Rattle.std.proofs.Common.{◌≡◌, append-nil, ◌⊎◌, ℕ, ◌+◌, ◌≤◌, Bool, true, false, not, cond, ◌||◌, ◌&&◌, List, [], ◌∷◌, ◌++◌, length, Option, Some, None, option_map, Ok, Err, refl, sym, ap, subst, ◌∙◌, arith, inl, inr}
 use Rattle.std.specs.Prelude.{nat_eq, nat_lt, IsSome, Result}
 use Rattle.std.specs.Option.{is_some, option_and_then}
@@ -37,8 +37,8 @@ use Rattle.dac_commands.specs.Commands.{greatest_counter}
 use Rattle.dac_commands.specs.Causes.{first, no_node, terms_used_up}
 use Rattle.dac_peers.specs.declared.positions.Position.{Position}
 use Rattle.dac_peers.specs.Peers.{no_peers, begins, acked_at, acked_by, kept_from, ack_for, has_all}
-use Rattle.dac_ticks.specs.Ticks.{Turn, turn_of, turn_from}
-use Rattle.dac_ticks.specs.laws.Turning.{turned_by}
+use Rattle.dac_ticks.specs.Ticks.{Sweep, sweep_of, sweep_from}
+use Rattle.dac_ticks.specs.laws.Sweeping.{swept_by}
 use Rattle.dac_events.specs.declared.world_fault.WorldFault.{WorldFault}
 use Rattle.dac_model_world.specs.ModelNode.{ModelNode, ModelRunning, joined, shown, running_shown, base_after}
 use Rattle.dac_model_world.specs.EventRefusals.{refusal_of}
@@ -106,7 +106,7 @@ e5 = record { node = second_node; what = Deliver 1 }
 abbrev e6 : WorldEvent
 e6 = record { node = first_node; what = Deliver 2 }
 
--- an event that isn't refused
+-- the step of an event that isn't refused
 abbrev not_refused : ModelWorld → NodeId → Event → WorldStepped
 not_refused w n e = answered_by w n (step_by None worked_table n (w.node n) e).node (step_by None worked_table n (w.node n) e).answer
 
@@ -128,12 +128,12 @@ has_set w sets m d e = by_set (w.node m).running (sets.node m) refl e
     by_set (Some r) None is e = none_some e
     by_set (Some r) (Some set) is e = (set, (is, ap (λ (k : Member). k.held) (one e)))
 
--- the turn of a tick at moment 5000 of a node that noted so much and knows so much
-turn_by : NodeId → List Note → StateValue → Turn
-turn_by n notes u = turn_of worked_table (first_of n) (waits_of worked_table (record { state = u; moment = 5000 } ∷ notes)) 5000 u
+-- the effect of a tick at moment 5000, of a node with these notes and this state
+sweep_by : NodeId → List Note → StateValue → Sweep
+sweep_by n notes u = sweep_of worked_table (first_of n) (waits_of worked_table (record { state = u; moment = 5000 } ∷ notes)) 5000 u
 
--- ---- a world in which both know the same
--- Each of the two runs with such a log and such notes, holds such a set, and knows this state. Nobody else runs.
+-- ---- a world in which both nodes know the same
+-- Each of the two nodes has such a log, notes and set, and this state. No other node runs.
 module _ (state : StateValue) (opened : NodeId → Bool) (notes : NodeId → List Note)
     (live : (n : NodeId) → IsEither n → IsLive state.lives n 1)
     (only_live : (n : NodeId) (inc : ℕ) → IsLive state.lives n inc → IsEither n × (1 ≡ inc))
@@ -149,7 +149,7 @@ module _ (state : StateValue) (opened : NodeId → Bool) (notes : NodeId → Lis
     (no_run : (n : NodeId) → nat_eq n.0 0 ≡ false → nat_eq n.0 1 ≡ false → (rest n).running ≡ None)
     (no_set : (n : NodeId) → nat_eq n.0 0 ≡ false → nat_eq n.0 1 ≡ false → sets n ≡ None)
   where
-    -- a node whose start gate is open or not
+    -- a node whose start gate is open or shut
     abbrev known_by : Bool → NodeId → ModelNode
     known_by is_open n = record { last = 1; running = Some (record { origin = first_of n; moments = record { booted = 0; last = 0 }; is_open = is_open; notes = notes n; log = log n; base = base n; peers = no_peers }) }
 
@@ -165,7 +165,7 @@ module _ (state : StateValue) (opened : NodeId → Bool) (notes : NodeId → Lis
     abbrev pub known_sets : SetWorld
     known_sets = record { node = λ m. cond (nat_eq m.0 1) (Some (held_set second_node)) (cond (nat_eq m.0 0) (Some (held_set first_node)) (sets m)); issued = issues; copies = [] }
 
-    -- ---- who runs
+    -- ---- the running nodes
     abbrev the_member : NodeId → Member
     the_member n = record { inc = 1; held = held n; notes = notes n }
 
@@ -228,28 +228,28 @@ module _ (state : StateValue) (opened : NodeId → Bool) (notes : NodeId → Lis
         refused : Bool → Bool → Bool → Option Refusal
         refused down used many = first ((down, DeclaredDown) ∷ (false, MomentBack) ∷ (used || many, DotsUsedUp) ∷ [])
 
-    -- what a tick of the node does where it knows this
-    abbrev pub turn_at : NodeId → StateValue → Turn
-    turn_at n s = turn_of worked_table (first_of n) (waits_of worked_table (record { state = s; moment = 5000 } ∷ notes n)) 5000 s
+    -- the effect of a tick of the node at this state
+    abbrev pub sweep_at : NodeId → StateValue → Sweep
+    sweep_at n s = sweep_of worked_table (first_of n) (waits_of worked_table (record { state = s; moment = 5000 } ∷ notes n)) 5000 s
 
-    abbrev pub turn : NodeId → Turn
-    turn n = turn_at n (joined (log n))
+    abbrev pub sweep : NodeId → Sweep
+    sweep n = sweep_at n (joined (log n))
 
-    pub turn_is : (n : NodeId) → IsEither n → turn n ≡ turn_at n state
-    unfolding turn_by
-    turn_is n either = λ i. turn_by n (notes n) (known n either i)
+    pub sweep_is : (n : NodeId) → IsEither n → sweep n ≡ sweep_at n state
+    unfolding sweep_by
+    sweep_is n either = λ i. sweep_by n (notes n) (known n either i)
 
-    few_done : (n : NodeId) → IsEither n → ((turn n).passed ≡ []) × (length (turn n).ops ≤ 1)
+    few_done : (n : NodeId) → IsEither n → ((sweep n).passed ≡ []) × (length (sweep n).ops ≤ 1)
     few_done n either =
-        turned_by worked_table (first_of n) (waits_of worked_table (record { state = joined (log n); moment = 5000 } ∷ notes n)) 5000 (λ turn. (turn.passed ≡ []) × (length turn.ops ≤ 1)) (turn_from (joined (log n))) the_app
+        swept_by worked_table (first_of n) (waits_of worked_table (record { state = joined (log n); moment = 5000 } ∷ notes n)) 5000 (λ sweep. (sweep.passed ≡ []) × (length sweep.ops ≤ 1)) (sweep_from (joined (log n))) the_app
         (λ none. (refl, omega arith))
         (λ mine used. absurd (true≢false (sym used ∙ ap (λ u. terms_used_up u the_app) (known n either) ∙ left)))
         (λ mine left. (refl, omega arith))
 
     -- ---- the ships
-    -- the run after the tick
+    -- the node after its tick
     abbrev ticked_log : NodeId → List StateValue
-    ticked_log n = log n ++ meanings (turn n).ops
+    ticked_log n = log n ++ meanings (sweep n).ops
 
     abbrev ticked_run : NodeId → ModelRunning
     ticked_run n = record {
@@ -265,7 +265,7 @@ module _ (state : StateValue) (opened : NodeId → Bool) (notes : NodeId → Lis
     abbrev ticked_node : NodeId → ModelNode
     ticked_node n = record { last = 1; running = Some (ticked_run n) }
 
-    -- what is shipped
+    -- the message shipped
     abbrev shipped_body : NodeId → NodeId → Option Position → Message
     shipped_body n to p = record { from = first_of n; to = to; only = option_map (λ (p : Position). p.inc) p; up_to = length (ticked_log n); body = body_from (running_shown worked_table (ticked_run n)) p; ack = ack_for no_peers to }
 
@@ -281,10 +281,10 @@ module _ (state : StateValue) (opened : NodeId → Bool) (notes : NodeId → Lis
         refused : Bool → Bool → Bool → Option Refusal
         refused none self up = first ((none, UnknownNode) ∷ (self, OnSelf) ∷ (up, UpToDate) ∷ [])
 
-    -- ---- what is heard
+    -- ---- the messages heard
     few_deltas : (n : NodeId) → IsEither n → nat_lt MAX_COUNTER (length (ticked_log n) + 1) ≡ false
     few_deltas n either =
-        at_most (length (ticked_log n)) (count (length (log n)) (length (turn n).ops) (length (meanings (turn n).ops)) (length (ticked_log n)) (length-append (log n) (meanings (turn n).ops)) (length-map (turn n).ops (λ (o : Operation). meaning_of (o ∷ []))) (short n) (few_done n either).1)
+        at_most (length (ticked_log n)) (count (length (log n)) (length (sweep n).ops) (length (meanings (sweep n).ops)) (length (ticked_log n)) (length-append (log n) (meanings (sweep n).ops)) (length-map (sweep n).ops (λ (o : Operation). meaning_of (o ∷ []))) (short n) (few_done n either).1)
       where
         count : (a k m l : ℕ) → l ≡ a + m → m ≡ k → a ≤ 9 → k ≤ 1 → l ≤ 10
         count a k m l e f g h = omega arith
@@ -296,9 +296,9 @@ module _ (state : StateValue) (opened : NodeId → Bool) (notes : NodeId → Lis
     few_after n either = ap (λ (l : List StateValue). nat_lt MAX_COUNTER (length l + 1)) (append-nil (ticked_log n)) ∙ few_deltas n either
 
     abbrev tick_reply : NodeId → Reply
-    tick_reply n = Ticked (turn n).ops (turn n).passed
+    tick_reply n = Ticked (sweep n).ops (sweep n).passed
 
-    -- the start gate is open then, since no sync is asked for
+    -- the start gate opens, because no sync is configured
     tick_is : (w : ModelWorld) (n : NodeId) (is_open : Bool) →
         answered_by w n (step_by None worked_table n (known_by is_open n) (Tick 5000)).node (step_by None worked_table n (known_by is_open n) (Tick 5000)).answer ≡ answered_by w n (ticked_node n) (Ok (tick_reply n))
     tick_is w n true = refl
@@ -359,17 +359,17 @@ module _ (state : StateValue) (opened : NodeId → Bool) (notes : NodeId → Lis
     is6 : happens worked_table w5 e6 ≡ answered_by w5 first_node (hearing_node first_node second_node) (Ok (Heard (is_new first_node second_node)))
     is6 = happens_so w5 first_node (Deliver 2) (Hear (the_message second_node first_node)) refl refl (hears_on first_node second_node (inl refl) refl refl)
 
-    -- the answers after the ticks, and all answers where the ticks do so much
+    -- the results after the ticks, and all results for given effects of the ticks
     abbrev pub told : List Answer
     told =
         Ok (Shipped (the_message first_node second_node)) ∷ Ok (Shipped (the_message second_node first_node))
         ∷ Ok (Heard (is_new second_node first_node)) ∷ Ok (Heard (is_new first_node second_node)) ∷ []
 
-    abbrev pub answers_by : Turn → Turn → List Answer
+    abbrev pub answers_by : Sweep → Sweep → List Answer
     answers_by u v = Ok (Ticked u.ops u.passed) ∷ Ok (Ticked v.ops v.passed) ∷ told
 
     abbrev the_answers : List Answer
-    the_answers = answers_by (turn first_node) (turn second_node)
+    the_answers = answers_by (sweep first_node) (sweep second_node)
 
     all_come : Comes known_world both_go_round the_answers
     all_come =
@@ -380,9 +380,9 @@ module _ (state : StateValue) (opened : NodeId → Bool) (notes : NodeId → Lis
         (comes w4 e5 _ _ _ _ is5 (omega arith)
         (comes w5 e6 _ _ _ _ is6 (omega arith) (ended _))))))
 
-    -- ---- what all hold in the end
+    -- ---- the sets at the end
     abbrev held_after : NodeId → List Operation
-    held_after n = held n ++ (turn n).ops
+    held_after n = held n ++ (sweep n).ops
 
     abbrev set_first : NodeSet
     set_first = record { inc = 1; operations = held_after first_node ++ held_after second_node }
@@ -432,20 +432,20 @@ module _ (state : StateValue) (opened : NodeId → Bool) (notes : NodeId → Lis
       same = all_same (world_after worked_table known_world both_go_round the_answers);
     }
 
-    -- ---- the answers, where it is known what the ticks do
-    module _ (u v : Turn) (first_is : turn first_node ≡ u) (second_is : turn second_node ≡ v) where
+    -- ---- the results, for known effects of the ticks
+    module _ (u v : Sweep) (first_is : sweep first_node ≡ u) (second_is : sweep second_node ≡ v) where
       pub the_rounds : AreRounds worked_table (app_count worked_table) known_world known_sets both_go_round (answers_by u v)
       the_rounds =
-          subst (λ (p : Turn × Turn). AreRounds worked_table (app_count worked_table) known_world known_sets both_go_round (answers_by p.0 p.1)) (λ i. (first_is i, second_is i)) (both_go_round, [], the_answers, [], refl, refl, the_round, (refl, refl))
+          subst (λ (p : Sweep × Sweep). AreRounds worked_table (app_count worked_table) known_world known_sets both_go_round (answers_by p.0 p.1)) (λ i. (first_is i, second_is i)) (both_go_round, [], the_answers, [], refl, refl, the_round, (refl, refl))
 
-      -- what both hold in the end
+      -- the set of both nodes at the end
       abbrev pub held_by_both : List Operation
       held_by_both = (held first_node ++ u.ops) ++ (held second_node ++ v.ops)
 
       pub all_hold : (m : NodeId) (set : NodeSet) → (set_run known_sets both_go_round (answers_by u v)).node m ≡ Some set → AreOperationsOf set.operations held_by_both × AreOperationsOf held_by_both set.operations
       all_hold =
           subst
-          (λ (p : Turn × Turn). (m : NodeId) (set : NodeSet) → (set_run known_sets both_go_round (answers_by p.0 p.1)).node m ≡ Some set →
+          (λ (p : Sweep × Sweep). (m : NodeId) (set : NodeSet) → (set_run known_sets both_go_round (answers_by p.0 p.1)).node m ≡ Some set →
           AreOperationsOf set.operations ((held first_node ++ p.0.ops) ++ (held second_node ++ p.1.ops)) × AreOperationsOf ((held first_node ++ p.0.ops) ++ (held second_node ++ p.1.ops)) set.operations)
           (λ i. (first_is i, second_is i))
           (λ m set is. let at = set_is m set is in (same_held set set_first at (inl refl), same_held set_first set (inl refl) at))

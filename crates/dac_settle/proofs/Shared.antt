@@ -1,4 +1,4 @@
--- The worked run with a share: both come up, one hears of the other, and each tells the other all that it has.
+-- The worked run with a share: both nodes boot, one hears of the other, and each ships its whole set to the other.
 use Rattle.std.proofs.Common.{◌≡◌, append-nil, ◌⊎◌, ℕ, ◌+◌, ◌≤◌, Bool, true, false, not, cond, ◌&&◌, List, [], ◌∷◌, ◌++◌, length, Option, Some, None, option_map, Ok, refl, sym, ap, subst, ◌∙◌, arith, inl, inr}
 use Rattle.std.specs.Prelude.{nat_eq, nat_lt}
 use Rattle.std.specs.FinMap as map
@@ -59,11 +59,11 @@ module _ (n : NodeId) (log : List StateValue) (base : ℕ) (to : NodeId) where
       refused : Bool → Bool → Bool → Option Refusal
       refused none self up = first ((none, UnknownNode) ∷ (self, OnSelf) ∷ (up, UpToDate) ∷ [])
 
-  -- after the ship
+  -- the node after the ship
   abbrev shipping : ModelNode
   shipping = (step_by None worked_table n (waiting n log base) (Ship to)).node
 
-  -- it hears this from the other, which knows so much
+  -- the node hears this message from the other, which has this log
   module _ (theirs : List StateValue) (m : Message) where
     few : length log ≤ 9 → nat_lt MAX_COUNTER (length (log ++ []) + 1) ≡ false
     few short = ap (λ (l : List StateValue). nat_lt MAX_COUNTER (length l + 1)) (append-nil log) ∙ few_by (length log) short
@@ -209,7 +209,7 @@ run7 =
     pushed w6 (e1 ∷ e2 ∷ e3 ∷ e4 ∷ e5 ∷ e6 ∷ []) (a1 ∷ a2 ∷ a3 ∷ a4 ∷ a5 ∷ a6 ∷ []) e7 d7 (Heard (not (is_below (joined log3) (joined (log1 ++ []))))) run6
     (happens_so w6 first_node (Deliver 2) (Hear m2) refl refl (hears_on first_node second_node log1 log3 0 base3 (omega arith) refl refl))
 
--- ---- what each holds before the share
+-- ---- the sets before the share
 
 abbrev replies : List Answer
 replies = a1 ∷ a2 ∷ a3 ∷ []

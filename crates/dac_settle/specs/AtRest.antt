@@ -1,4 +1,4 @@
--- What it means to a controller that all is settled: its ticks claim nothing, at whatever moment they come.
+-- The meaning of settled for a controller: its ticks claim nothing, at any moment.
 use Rattle.std.specs.Prelude.{◌≡◌, ℕ, ◌<◌, List, [], Some, Ok}
 use Rattle.dac_base.specs.declared.NodeId.{NodeId}
 use Rattle.dac_base.specs.declared.AppId.{AppId}
@@ -11,8 +11,8 @@ use Rattle.dac_model_world.specs.Step.{model_step}
 use Rattle.dac_settle.specs.Settling.{IsSettled}
 use Rattle.dac_settle.specs.Rules.{judged}
 
--- By what a running node knows each application of the configuration is settled: whatever it noted, and however much time has
--- passed, a tick by which it looks after its applications claims none.
+-- If each application of the configuration is settled by the state of a running node, then a tick that finds its start
+-- gate open claims none, whatever the node has noted and however much time has passed.
 abbrev pub SettledClaimNothing : Type 0
 SettledClaimNothing = (t : Table) (me : NodeId) (d : ModelNode) (r : ModelRunning) (now : ℕ) (ops : List Operation) (passed : List AppId)
     → d.running ≡ Some r → ((app : AppId) → app.0 < app_count t → IsSettled (judged t (joined r.log) app))

@@ -1,4 +1,4 @@
--- Placement by the verdicts of a configuration: what is used of it in rounds.
+-- Placement by the verdicts of a configuration: the properties that rounds rely on.
 use Rattle.std.proofs.Common.{◌≡◌, ℕ, List, Some}
 use Rattle.std.specs.Prelude.{unwrap_or, IsSome}
 use Rattle.dac_base.specs.declared.NodeId.{NodeId}
@@ -15,14 +15,14 @@ use Rattle.dac_ticks.specs.Ticks.{claim_of}
 use Rattle.dac_settle.specs.Rounds.{Placement}
 use Rattle.dac_meaning.specs.StateValue.{StateValue}
 
--- The node may run the application at this incarnation, which is live, and no eligible node is of an earlier group.
+-- The node is eligible for the application at this live incarnation, and no eligible node is of an earlier group.
 pub record IsFit (t : Table) (s : StateValue) (app : AppId) (o : Origin) : Type 0 where
   pub eligible : IsEligible t s app o.node
   pub earliest : EachEligible t s app (λ m. ¬ IsEarlier t app m o.node)
   pub live : IsUp s o
 
--- Beside s, the operation is the next claim of the application, which isn't settled in s. Its node is live at its
--- incarnation and eligible, and no eligible node is of an earlier group.
+-- The operation is the next claim of an application that isn't settled in s. Its node is live at its incarnation and
+-- eligible, and no eligible node is of an earlier group.
 pub record IsGood (t : Table) (s : List Operation) (app : AppId) (o : Operation) : Type 0 where
   pub open_app : IsSome (candidate_of (verdict_of t (meaning_of s) app))
   pub claim : Claim

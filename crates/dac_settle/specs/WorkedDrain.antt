@@ -1,5 +1,5 @@
--- A worked run of the model world: the node that has an application is drained by a command. Both nodes hear of it, and
--- a round of both moves the application.
+-- A worked run of the model world: a command drains the node that holds an application. Both nodes learn of it, and a
+-- round moves the application.
 use Rattle.std.specs.Prelude.{◌≡◌, ℕ, true, List, [], ◌∷◌, ◌++◌, Some, None, IsSome, Result, Ok}
 use Rattle.dac_base.specs.declared.NodeId.{NodeId}
 use Rattle.dac_chains.specs.declared.claims.How.TheVariants.{Normal}
@@ -26,9 +26,9 @@ use Rattle.dac_settle.specs.Worked.{first_node, second_node, IsEither, the_app, 
 
 -- ---- the case
 
--- The first node comes up, may run the application and claims it. The second comes up, may run it too, and is handed
--- the first one's boot. By a command at the second node the first one is drained. Each is handed what else the other
--- issued: the first node the drain, the second one the claim
+-- The first node boots, requests a start and claims the application. The second boots, requests a start too, and is
+-- handed the first one's boot. Its command drains the first. Then each is handed the operations that it lacks, among
+-- them the drain and the claim.
 abbrev pub drains_first : List WorldEvent
 drains_first =
     (record { node = first_node; what = Boot 0 }) ∷ (record { node = first_node; what = Command (Start the_app first_node) }) ∷ (record { node = first_node; what = Tick 0 })
@@ -37,16 +37,16 @@ drains_first =
     ∷ (record { node = first_node; what = Hand 4 }) ∷ (record { node = first_node; what = Hand 5 }) ∷ (record { node = first_node; what = Hand 6 })
     ∷ (record { node = second_node; what = Hand 3 }) ∷ []
 
--- so it is of the state of each node that runs after these events and the round, answered so
+-- P holds of the state of each node that runs after these events and the round, with these results
 abbrev pub InTheEnd : List (Result Reply WorldFault) → (StateValue → Type 0) → Type 0
 InTheEnd answers P = (v : WorldValue) → RanAs worked_table (drains_first ++ both_go_round) answers v
     → (n : ℕ) (state : StateValue) → RunsWith v n state → P state
 
--- The model world answers the events so, from the start. It is ready after them, and two nodes run. By what each of
--- them holds the first node is drained, and the verdict is to move the application to the second. The events after
--- them, answered so, are as many rounds as there are applications. In them the first node claims nothing, and the
--- second takes the application. After all events both nodes still run. At each node that runs the application is
--- settled then, and the second node holds it.
+-- These are the results of the events from the start, in the model world. After them the world is ready, and two nodes
+-- run. By the set of each of them the first node is drained, and the verdict is to move the application to the second.
+-- The later events with their results are as many rounds as there are applications, in which the first node claims
+-- nothing and the second claims the application. At the end both nodes still run, and at each running node the
+-- application is settled and the second node holds it.
 pub record RunsCanMove : Type 0 where
   pub replies : List (Result Reply WorldFault)
   pub answered : AnsweredAs worked_table (start worked_table) drains_first replies

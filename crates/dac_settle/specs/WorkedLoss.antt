@@ -1,5 +1,4 @@
--- A worked run of the model world: a claim is lost and noted by two nodes. Once its time is over, a round
--- of both fails over.
+-- A worked run of the model world: a claim is lost, and two nodes note it. After its wait a round of both fails over.
 use Rattle.std.specs.Prelude.{◌≡◌, ℕ, List, [], ◌∷◌, ◌++◌, Some, None, IsSome, Result, Ok}
 use Rattle.dac_base.specs.declared.NodeId.{NodeId}
 use Rattle.dac_chains.specs.declared.claims.Claim.{Claim}
@@ -35,8 +34,8 @@ lost_node = record { 0 = 2 }
 abbrev pub lost_claim : Claim
 lost_claim = record { term = 1; origin = first_of lost_node; how = Normal; from = None }
 
--- The third node comes up, claims the application and goes down. Each of the two others comes up and may run the
--- application. It is handed the claim and what the other of the two issued, and it notes that the claim is lost
+-- The third node boots, claims the application and crashes. Each of the two others boots and requests a start. It is
+-- handed the claim, and the operations of the other one, and notes that the claim is lost
 abbrev pub losing : List WorldEvent
 losing =
     (record { node = lost_node; what = Boot 0 }) ∷ (record { node = lost_node; what = Command (Start the_app lost_node) }) ∷ (record { node = lost_node; what = Tick 0 }) ∷ (record { node = lost_node; what = Crash })
@@ -46,10 +45,10 @@ losing =
     ∷ (record { node = second_node; what = Hand 3 }) ∷ (record { node = second_node; what = Hand 4 }) ∷ (record { node = second_node; what = Hand 5 })
     ∷ (record { node = first_node; what = Tick 0 }) ∷ (record { node = second_node; what = Tick 0 }) ∷ []
 
--- The model world answers the events so, from the start. It is ready after them, two nodes run, and the claim is lost
--- in what each of them holds. The events after them, answered so, are as many rounds as there are applications. By its
--- tick the first node takes the application from the lost one, in a failover. After all events both nodes still run,
--- and the application is settled at each node that runs.
+-- These are the results of the events from the start, in the model world. After them the world is ready, two nodes run,
+-- and the claim is lost by the set of each. The later events with their results are as many rounds as there are
+-- applications. In them the first node claims the application from the lost one, as a failover. At the end both nodes
+-- still run, and the application is settled at each running node.
 pub record RunsCanFailOver : Type 0 where
   pub replies : List (Result Reply WorldFault)
   pub answered : AnsweredAs worked_table (start worked_table) losing replies

@@ -1,5 +1,5 @@
--- A worked case of settling with a drain: the application runs at a node that is drained. Both nodes hold the drain,
--- and a round moves the application to the other one.
+-- A worked case of settling with a drain: the node that runs the application is drained. Both nodes hold the drain, and
+-- a round moves the application to the other one.
 use Rattle.std.specs.Prelude.{◌≡◌, true, List, [], ◌∷◌, Option, Some, None, IsSome}
 use Rattle.dac_base.specs.declared.NodeId.{NodeId}
 use Rattle.dac_origins.specs.Dots.{dot}
@@ -21,16 +21,16 @@ first_claim = record { term = 1; origin = first_of first_node; how = Normal; fro
 abbrev pub claiming : Operation
 claiming = operation (dot (first_of first_node) 3) (Claims the_app 1 Normal None)
 
--- by a command at the second node the first one is drained
+-- the second node's command that drains the first
 abbrev pub draining : Operation
 draining = operation (dot (first_of second_node) 3) (Drain first_node 1 true [])
 
--- what both hold: the application is started at both, the first node claimed it, and it is drained
+-- the set of both nodes: the application is started at both, the first node claimed it, and the first node is drained
 abbrev pub drained_set : List Operation
 drained_set = begun (start_of the_app first_node 2 ∷ start_of the_app second_node 2 ∷ claiming ∷ draining ∷ [])
 
--- Rounds move what is drained. Both nodes are ready, the first one holds the application and is drained, and
--- the verdict is to move it. There are as many rounds as applications. After them both nodes still run, and it
+-- Rounds can move an application. Both nodes are ready, the first one holds the application and is drained, and the
+-- verdict is to move it. There are as many rounds as applications. After them both nodes still run, and the application
 -- is settled at each.
 pub record RoundsCanMove : Type 0 where
   pub ready : IsReady (both_hold drained_set)

@@ -1,5 +1,5 @@
--- A worked run of the model world with a share: one node knows of the other's present incarnation, each tells the other all that
--- it has, and both have the union then.
+-- A worked run of the model world with a share: one node knows the other's present incarnation, each ships its whole
+-- set to the other, and both end with the union.
 use Rattle.std.specs.Prelude.{◌≡◌, List, [], ◌∷◌, ◌++◌, Some, Result}
 use Rattle.dac_base.specs.declared.NodeId.{NodeId}
 use Rattle.dac_chains.specs.Lives.{IsLive}
@@ -16,19 +16,19 @@ use Rattle.dac_settle.specs.Worked.{first_node, second_node, IsEither, worked_ta
 
 -- ---- the case
 
--- both come up, and the second is handed the first one's boot
+-- both boot, and the second is handed the first one's boot
 abbrev pub coming : List WorldEvent
 coming = (record { node = first_node; what = Boot 0 }) ∷ (record { node = second_node; what = Boot 0 }) ∷ (record { node = second_node; what = Hand 1 }) ∷ []
 
--- then both ship, and each hears the other
+-- both ship, and each hears the other
 abbrev pub telling : List WorldEvent
 telling =
     (record { node = first_node; what = Ship second_node }) ∷ (record { node = second_node; what = Ship first_node })
     ∷ (record { node = second_node; what = Deliver 1 }) ∷ (record { node = first_node; what = Deliver 2 }) ∷ []
 
--- The model world answers the events so, from the start. Both nodes run after the first of them, and by what the second one holds
--- the first is live. Each knows the present incarnation of the other, or nothing of its life. The events after them, answered so,
--- are a share, and it leaves both the union.
+-- These are the results of the events from the start, in the model world. After the first part both nodes run, and by
+-- the set of the second one the first is live. Each knows the other's present incarnation, or nothing of its life. The
+-- second part is a share, and leaves the union to both.
 pub record SharesCanBe : Type 0 where
   pub replies : List (Result Reply WorldFault)
   pub answers : List (Result Reply WorldFault)

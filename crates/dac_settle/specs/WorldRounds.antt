@@ -1,4 +1,4 @@
--- Ready worlds and rounds, of the model world beside the world of sets.
+-- Ready worlds and rounds, of the model world together with the world of sets.
 use Rattle.std.specs.Prelude.{◌≡◌, ◌⊎◌, ℕ, ◌<◌, List, [], ◌∷◌, ◌++◌, length, Option, Some, None, IsSome, Result, Ok, Err}
 use Rattle.std.proofs.Common.{zero, suc}
 use Rattle.dac_base.specs.declared.NodeId.{NodeId}
@@ -20,9 +20,9 @@ use Rattle.dac_model_world.specs.Shares.{IsSince}
 use Rattle.dac_model_world.specs.Convergence.{RunsWith}
 use Rattle.dac_settle.specs.Settling.{Member, IsLate, AllSame, IsReady, IsSettled}
 
--- ---- what settling sees of a world
+-- ---- members: the part of a world that settling depends on
 
--- a running node and its set: its incarnation, its operations and its notes
+-- a running node with its set: its incarnation, operations and notes
 abbrev pub member_by : Option ModelRunning → Option NodeSet → Option Member
 member_by None held = None
 member_by (Some r) None = None
@@ -31,23 +31,22 @@ member_by (Some r) (Some set) = Some (record { inc = r.origin.inc; held = set.op
 abbrev pub members_of : ModelWorld → SetWorld → NodeId → Option Member
 members_of w s n = member_by (w.node n).running (s.node n)
 
--- All running nodes hold the same set. Who is live in it runs, at that incarnation, and who runs is live in it. Each
--- running node has noted each lost claim.
+-- All running nodes hold the same set. The incarnations live in that set are those that run. Each running node has
+-- noted each lost claim.
 abbrev pub IsReadyWorld : ModelWorld → SetWorld → Type 0
 IsReadyWorld w s = IsReady (members_of w s)
 
 -- ---- rounds
 
--- where a running node ticks, each claim that it noted as lost has waited its application's time by then
+-- if a running node ticks, each claim that it has noted as lost has waited its application's timeout
 abbrev pub IsLateBy : Table → Option ModelRunning → What → Type 0
 IsLateBy t (Some r) (Ticks now) = IsLate t r.notes now
 IsLateBy t (Some r) _ = Unit {0}
 IsLateBy t None what = Unit {0}
 
--- What may be accepted in a round before which so much was shipped. It is a tick, a ship, or a delivery of what was
--- shipped in the round. The tick comes when all that was noted has waited its time, and it passes no application.
--- Whatever is refused may come, since it changes nothing. Nothing else may be accepted: no boot, no crash, no command
--- and no operation that is handed.
+-- The events accepted in a round: ticks, ships, and deliveries of messages shipped in this round. A tick comes after
+-- the waits of all noted losses, and passes no application. Refused events are permitted, because they change nothing.
+-- Boots, crashes, commands and handed operations aren't accepted.
 abbrev pub InRound : Table → ℕ → ModelWorld → NodeId → What → Result Reply WorldFault → Type 0
 InRound t before w n what (Err why) = Unit {0}
 InRound t before w n what (Ok (Ticked ops passed)) = (passed ≡ []) × IsLateBy t (w.node n).running what
@@ -55,7 +54,7 @@ InRound t before w n what (Ok (Shipped m)) = Unit {0}
 InRound t before w n what (Ok (Heard fresh)) = IsSince before what
 InRound t before w n what (Ok _) = ⊥
 
--- so are these events with their answers, one after another from w
+-- all these events, with their results, are in a round that begins at w
 abbrev pub AreInRound : Table → ℕ → ModelWorld → List WorldEvent → List (Result Reply WorldFault) → Type 0
 AreInRound t before w [] answers = Unit {0}
 AreInRound t before w (e ∷ es) [] = Unit {0}
@@ -66,14 +65,14 @@ abbrev pub IsTicked : Result Reply WorldFault → Type 0
 IsTicked (Ok (Ticked ops passed)) = Unit {0}
 IsTicked _ = ⊥
 
--- a tick of node n is accepted in these events
+-- one of these events is an accepted tick of node n
 abbrev pub AnswersTick : NodeId → List WorldEvent → List (Result Reply WorldFault) → Type 0
 AnswersTick n [] answers = ⊥
 AnswersTick n (e ∷ es) [] = ⊥
 AnswersTick n (e ∷ es) (a ∷ answers) = ((e.node ≡ n) × IsTicked a) ⊎ AnswersTick n es answers
 
--- These events with these answers are a round. Each node that runs ticks in it, and in the end all running nodes hold
--- the same set.
+-- These events with their results are a round: each running node ticks, and at the end all running nodes hold the same
+-- set.
 pub record IsWorldRound (t : Table) (w : ModelWorld) (s : SetWorld) (events : List WorldEvent)
     (answers : List (Result Reply WorldFault)) : Type 0 where
   pub answered : AnsweredAs t w events answers
@@ -81,7 +80,7 @@ pub record IsWorldRound (t : Table) (w : ModelWorld) (s : SetWorld) (events : Li
   pub ticks : (n : NodeId) → IsSome (w.node n).running → AnswersTick n events answers
   pub same : AllSame (members_of (world_after t w events answers) (set_run s events answers))
 
--- they are so many rounds, one after another
+-- the events are this many rounds, one after another
 abbrev pub AreRounds : Table → ℕ → ModelWorld → SetWorld → List WorldEvent → List (Result Reply WorldFault) → Type 0
 AreRounds t zero w s events answers = (events ≡ []) × (answers ≡ [])
 AreRounds t (suc k) w s events answers =
@@ -89,7 +88,7 @@ AreRounds t (suc k) w s events answers =
     × (events ≡ first ++ later) × (answers ≡ replies ++ more)
     × IsWorldRound t w s first replies × AreRounds t k (world_after t w first replies) (set_run s first replies) later more
 
--- The events with their answers end in as many rounds as there are applications, and the world was ready before these.
+-- The events with their results end in as many rounds as there are applications, begun in a ready world.
 pub record EndsInRounds (t : Table) (events : List WorldEvent) (answers : List (Result Reply WorldFault)) : Type 0 where
   pub before : List WorldEvent
   pub rounds : List WorldEvent
@@ -102,7 +101,7 @@ pub record EndsInRounds (t : Table) (events : List WorldEvent) (answers : List (
   pub last : AreRounds t (app_count t) (world_after t (start t) before replies)
       (set_run no_sets before replies) rounds more
 
--- If the events end in such rounds, then nothing is to be done for any application at any running node.
+-- If the events end in rounds as by `EndsInRounds`, each application is settled at each running node.
 pub record Settles (t : Table) (events : List WorldEvent) (answers : List (Result Reply WorldFault))
     (v : WorldValue) : Type 0 where
   pub each : EndsInRounds t events answers

@@ -4,7 +4,7 @@ pub mod OnlyClaims
 pub mod LeftAlone
 pub mod Placed
 pub mod Due
-pub mod Turns
+pub mod Sweeps
 pub mod Settled
 pub mod OneEvent
 pub mod WorldsSettle

@@ -1,4 +1,5 @@
--- What is read of tokens, lists, pairs and terms: its words are in the grammar, and its names may stand where they stand.
+-- Soundness of the parser for tokens, lists, pairs and terms: their words are in the grammar, and their names are
+-- allowed.
 use Rattle.std.proofs.Common.{◌≡◌, Bool, true, false, cond, eqb, List, [], ◌∷◌, ◌++◌, map, Result, Ok, Err, refl, sym, ap, subst, ◌∙◌, append_assoc, inl, inr, ℕ, zero, suc, ◌⊎◌, IfOk, All}
 use Rattle.std.proofs.lemmas.List.Elements.{All-nil, All-cons}
 use Rattle.dac_tokens.specs.declared.fault.ConfigFault.{ConfigFault}
@@ -17,7 +18,7 @@ pub bind_ok : {A B : Type 0} (r : Result A ConfigFault) (f : A → Result B Conf
 bind_ok (Ok x) f y e = (x, refl, e)
 bind_ok (Err d) f y e = absurd cc
 
--- a test that had to hold, and one that had to fail
+-- a test must have held, or failed, because the result is `Ok`
 pub held : {A : Type 0} (b : Bool) (x : A) (e : ConfigFault) (y : A) → cond b (Ok x) (Err e) ≡ Ok y → (b ≡ true) × (x ≡ y)
 held true x e y h = (refl, cc)
 held false x e y h = absurd cc
@@ -36,16 +37,16 @@ ok_is x y e = cc
 abbrev pub words_in : State → List Word
 words_in s = map (λ t. t.word) s.left.tokens
 
--- what stands behind the tokens is a fault or the end
+-- the last token of the stream is the end, unless it has a fault
 abbrev pub EndsWell : State → Type 0
 EndsWell s = IfOk s.left.last (λ t. t.word ≡ End)
 
--- from s on these words were read, and u is left
+-- from s to u exactly these words were read
 pub record Moves (s : State) (ws : List Word) (u : State) : Type 0 where
   pub words : words_in s ≡ ws ++ words_in u
   pub last : u.left.last ≡ s.left.last
 
--- and no name was seen
+-- from s to u exactly these words were read, and no name was seen
 pub record Passes (s : State) (ws : List Word) (u : State) : Type 0 where
   pub moves : Moves s ws u
   pub well : EndsWell u
@@ -68,7 +69,7 @@ token_is s t u e =
     let q = ok_is (b.0.0, record s { left = b.0.1 }) (t, u) b.2 in
     (b.1 ∙ ap (λ (p : Located × State). Ok (p.0, p.1.left)) q, sym (ap (λ (p : Located × State). p.1.seen) q))
 
--- a token leaves the end as it is
+-- taking a token leaves the last one unchanged
 pub same_last : (s : State) (t : Located) (u : State) → EndsWell s → token s ≡ Ok (t, u) → EndsWell u
 same_last s t u well e = subst (λ r. IfOk r (λ x. x.word ≡ End)) (sym (taken_is s.left.tokens s.left.last t u.left (token_is s t u e).0).0) well
 
@@ -83,7 +84,7 @@ token_moves s t u well e more =
     no_end : (w : Word) → w ≡ End → is_end w ≡ false → ⊥
     no_end w e f = let g : true ≡ false = ap is_end (sym e) ∙ f in cc
 
--- this word was read, which is no end
+-- this word was read, which isn't the end
 pub word_passes : (s : State) (t : Located) (u : State) (w : Word) → EndsWell s → token s ≡ Ok (t, u) → t.word ≡ w → is_end w ≡ false → Passes s (w ∷ []) u
 word_passes s t u w well e is more = record {
   moves = subst (λ (v : Word). Moves s (v ∷ []) u) is (token_moves s t u well e (ap is_end is ∙ more));
@@ -111,7 +112,7 @@ symbol_passes x s u well e =
     let h = held _ _ _ _ b.2 in
     subst (λ (v : State). Passes s (Punctuation x ∷ []) v) h.1 (word_passes s b.0.0 b.0.1 (Punctuation x) well b.1 (mark_is x b.0.0.word h.0) refl)
 
--- the symbol that parts or closes
+-- a comma, or the closing symbol
 abbrev pub part : Bool → Symbol → Symbol
 part more close = cond more Comma close
 
@@ -126,11 +127,11 @@ more_passes close s more u well e =
           subst (λ (p : Bool × State). Passes s (Punctuation (part p.0 close) ∷ []) p.1) g.1 (word_passes s b.0.0 b.0.1 (Punctuation close) well b.1 (mark_is close b.0.0.word g.0) refl)
     ]
 
--- s, with the token t before it
+-- the state s before its token t was taken
 abbrev pub back : Located → State → State
 back t s = record s { left = record { tokens = t ∷ s.left.tokens; last = s.left.last } }
 
--- from the token t on something was read, which may stand there
+-- from the token t an item was read, which is allowed
 pub record Reads {A : Type 0} (Is : List Word → A → Type 0) (step : Seen → A → Seen) (May : Seen → A → Type 0) (t : Located) (s : State) (x : A) (u : State) : Type 0 where
   pub ws : List Word
   pub is : Is ws x
@@ -139,7 +140,7 @@ pub record Reads {A : Type 0} (Is : List Word → A → Type 0) (step : Seen →
   pub may : May s.seen x
   pub seen : u.seen ≡ step s.seen x
 
--- from s on something was read, which may stand there
+-- from s an item was read, which is allowed
 pub record Gets {A : Type 0} (Is : List Word → A → Type 0) (step : Seen → A → Seen) (May : Seen → A → Type 0) (s : State) (x : A) (u : State) : Type 0 where
   pub ws : List Word
   pub is : Is ws x
@@ -147,7 +148,7 @@ pub record Gets {A : Type 0} (Is : List Word → A → Type 0) (step : Seen → 
   pub may : May s.seen x
   pub seen : u.seen ≡ step s.seen x
 
--- a token, and what is read from it on
+-- a token, and the item read from it
 pub token_then : (s : State) (t : Located) (u : State) (ws : List Word) (v : State) → EndsWell s → token s ≡ Ok (t, u) → is_end t.word ≡ false → Moves (back t u) ws v → Moves s ws v
 token_then s t u ws v well e begun m =
     let n = token_moves s t u well e begun in
@@ -155,7 +156,7 @@ token_then s t u ws v well e begun m =
 
 module _ {A : Type 0} (Is : List Word → A → Type 0) (read : List A → Located → State → Result (A × State) ConfigFault) (close : Symbol) (step : Seen → A → Seen) (May : List A → Seen → A → Type 0)
     (reads : (before : List A) (t : Located) (s : State) (x : A) (u : State) → EndsWell s → read before t s ≡ Ok (x, u) → Reads Is step (May before) t s x u) where
-  -- what a list of such things is: what came before, and the things that were read up to the closing symbol
+  -- the result of a list: the items before, and those read up to the closing symbol
   pub record Lists (before : List A) (t : Located) (s : State) (all : List A) (u : State) : Type 0 where
     pub xs : List A
     pub whole : all ≡ before ++ xs
@@ -182,7 +183,7 @@ module _ {A : Type 0} (Is : List Word → A → Type 0) (read : List A → Locat
     seen = m.seen ∙ r.seen;
   }
 
-  -- one more, a comma, the token after it and what is read from that on
+  -- one more item, a comma, and the items from the token after it
   one_more : (before : List A) (t : Located) (s : State) (x : A) (s1 s2 : State) (t' : Located) (s3 : State) (all : List A) (u : State) → Reads Is step (May before) t s x s1 → Passes s1 (Punctuation Comma ∷ []) s2 → token s2 ≡ Ok (t', s3)
       → Lists (before ++ x ∷ []) t' s3 all u → Lists before t s all u
   one_more before t s x s1 s2 t' s3 all u r m k l =
@@ -226,7 +227,6 @@ module _ {A : Type 0} (Is : List Word → A → Type 0) (read : List A → Locat
 
 module _ {A : Type 0} (Is : List Word → A → Type 0) (read : List A → Located → State → Result (A × State) ConfigFault) (step : Seen → A → Seen) (May : List A → Seen → A → Type 0)
     (reads : (before : List A) (t : Located) (s : State) (x : A) (u : State) → EndsWell s → read before t s ≡ Ok (x, u) → Reads Is step (May before) t s x u) where
-  -- a list in brackets
   pub bracketed_found : (s : State) (xs : List A) (u : State) → EndsWell s → list_of read s ≡ Ok (xs, u) → Gets (IsListOf Is) (steps step) (AllMay step May []) s xs u
   unfolding list_of
   bracketed_found s xs u well e =
@@ -258,7 +258,7 @@ module _ {A : Type 0} (Is : List Word → A → Type 0) (read : List A → Locat
             })
       ]
 
--- the words of a pair up to its comma, and then these
+-- the words of a pair up to its comma, followed by these
 abbrev pub pair_begun : List ℕ → List Word → List Word
 pair_begun name rest = Punctuation OpenTuple ∷ Name name ∷ Punctuation Comma ∷ rest
 
@@ -314,13 +314,13 @@ module _ {K A : Type 0} (Is : List Word → A → Type 0) (name_of : Located →
         seen = v.seen ∙ ap (λ (y : Seen). step y x) before;
       }
 
--- these words were passed over from s on, and behind them the token t was read
+-- these words were skipped from s, and then the token t was read
 pub record Jumps (Is : List Word → Type 0) (s : State) (t : Located) (u : State) : Type 0 where
   pub well : EndsWell u
   pub seen : u.seen ≡ s.seen
   pub moved : is_end t.word ≡ false → (ws : List Word) × Is ws × Moves s ws (back t u)
 
--- the same from the token b on, which is not the end
+-- these words were skipped from the token b, which isn't the end, and then the token t was read
 pub record Skips (Is : List Word → Type 0) (b : Located) (s : State) (t : Located) (u : State) : Type 0 where
   pub begun : is_end b.word ≡ false
   pub jumps : Jumps Is (back b s) t u
@@ -332,7 +332,7 @@ token_jumps Is none s t u well e = record {
   moved = λ begun. ([], none, token_then s t u [] (back t u) well e begun (record { words = refl; last = refl }));
 }
 
--- a word before
+-- words skipped, with one more word before them
 word_before : (Is IsAll : List Word → Type 0) (w : Word) (s : State) (t : Located) (u : State) → ((ws : List Word) → Is ws → IsAll (w ∷ ws)) → (b : Located) → b.word ≡ w → Jumps Is s t u → Jumps IsAll (back b s) t u
 word_before Is IsAll w s t u more b is j = record {
   well = j.well;
@@ -342,7 +342,7 @@ word_before Is IsAll w s t u more b is j = record {
       (w ∷ m.0, more m.0 m.1, record { words = rw is (ap (λ (v : List Word). w ∷ v) m.2.words); last = m.2.last });
 }
 
--- a token taken before
+-- words skipped from a token, after taking that token
 taken_before : (Is : List Word → Type 0) (s : State) (b : Located) (v : State) (t : Located) (u : State) → EndsWell s → token s ≡ Ok (b, v) → Skips Is b v t u → Jumps Is s t u
 taken_before Is s b v t u well e k = record {
   well = k.jumps.well;
@@ -374,17 +374,17 @@ texts_found (suc n) s t u well e =
 
 -- ---- terms between brackets
 
--- terms parted by commas, and the closing symbol
+-- terms separated by commas, and the closing symbol
 abbrev AreClosed : Symbol → List Word → Type 0
 AreClosed close words = (inner : List Word) × (words ≡ inner ++ Punctuation close ∷ []) × AreTerms inner
 
--- nothing, or terms parted by commas, and the closing symbol
+-- no terms, or terms separated by commas, and the closing symbol
 abbrev AreClosedOrNone : Symbol → List Word → Type 0
 AreClosedOrNone close words = (words ≡ Punctuation close ∷ []) ⊎ AreClosed close words
 
 module _ (pass : Located → State → Result (Located × State) ConfigFault) (close : Symbol)
     (passes : (b : Located) (s : State) (t : Located) (u : State) → EndsWell s → pass b s ≡ Ok (t, u) → Skips IsTerm b s t u) where
-  -- a term, a symbol and what is passed over from the token behind it on
+  -- a term, a symbol, and the words skipped from the token after it
   after_term : (IsRest IsAll : List Word → Type 0) (x : Symbol) → ((first rest : List Word) → IsTerm first → IsRest rest → IsAll (first ++ Punctuation x ∷ rest)) → (b : Located) (s : State) (m : Located) (v : State) (t : Located) (u : State)
       → Skips IsTerm b s m v → m.word ≡ Punctuation x → Jumps IsRest v t u → Skips IsAll b s t u
   after_term IsRest IsAll x more b s m v t u k w j = record {
@@ -435,7 +435,7 @@ module _ (pass : Located → State → Result (Located × State) ConfigFault) (c
             record { well = j.well; seen = j.seen; moved = λ begun. let m = j.moved begun in (m.0, inr m.1, m.2) }
       ]
 
-  -- what stands between brackets is a term with them
+  -- brackets with their contents are a term
   brackets_found : (n : ℕ) (open_mark : Symbol) (offset : ℕ) (s : State) (t : Located) (u : State) → AreBrackets open_mark close → EndsWell s → terms_in pass close n s ≡ Ok (t, u) → Skips IsTerm (record { word = Punctuation open_mark; at = offset }) s t u
   brackets_found n open_mark offset s t u pair well e = record {
     begun = refl;
@@ -473,7 +473,7 @@ unfolding term_at
 term_found zero b s t u well e = absurd cc
 term_found (suc n) b s t u well e = term_by_found (term_at n) (term_found n) b.word b.at n s t u well e
 
--- a term was passed over, and the brace behind it
+-- a term was skipped, and the brace after it
 pub record PassesTerm (s : State) (u : State) : Type 0 where
   pub ws : List Word
   pub term : IsTerm ws

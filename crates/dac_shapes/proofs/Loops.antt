@@ -1,4 +1,5 @@
--- What loops read: faults that are passed on, elements parted by commas, terms that are passed over, names by their bytes.
+-- Loops of the parser: faults that are passed on, elements separated by commas, terms that are skipped, names by their
+-- bytes.
 use Rattle.std.proofs.Common.{◌≡◌, ℕ, Result, Ok, Err, sym, ap, ◌∙◌, zero, suc, ◌<◌, ◌≤◌, Bool, true, false, cond, List, [], ◌∷◌, ◌++◌, length, refl, arith, ◌||◌, map, bytes_eq, IsErrAnd, IfErr}
 use Rattle.std.specs.List.{list_any}
 use Rattle.std.proofs.lemmas.List.{length-map}
@@ -24,24 +25,24 @@ or_memory : (k : FaultKind) (at : ℕ) (P Q : Type 0) → (P → Q) → OrMemory
 or_memory NoMemory at P Q f h = h
 or_memory _ at P Q f h = f h
 
--- where one reading fails, another does, if its fault is the other's
+-- if one reading fails, another fails with the same fault
 pub fails_too : {A B : Type 0} (e : ConfigFault) (r : Result A ConfigFault) (q : Result B ConfigFault) → (r ≡ Err e → q ≡ Err e) → Fails e r → Fails e q
 fails_too e r q f h = or_memory e.kind e.at _ _ f h
 
--- where the first of two steps fails, both do
+-- if the first of two steps fails, both fail
 pub fails_then : {A B : Type 0} (e : ConfigFault) (r : Result A ConfigFault) (f : A → Result B ConfigFault) (total : Result B ConfigFault) → (r >>= f) ≡ total → Fails e r → Fails e total
 fails_then e r f total whole h = fails_too e r total (λ q. sym whole ∙ ap (λ x. x >>= f) q) h
 
--- where it gives something, the second step is left
+-- if the first step succeeds, the second remains
 pub then_is : {A B : Type 0} (r : Result A ConfigFault) (f : A → Result B ConfigFault) (x : A) (total : Result B ConfigFault) → (r >>= f) ≡ total → r ≡ Ok x → f x ≡ total
 then_is r f x total whole is = sym (ap (λ q. q >>= f) is) ∙ whole
 
--- `NoMemory` stands at 0
+-- `NoMemory` has offset 0
 pub at_start : (k : FaultKind) (at : ℕ) (P : Type 0) → k ≡ NoMemory → OrMemory k at P → at ≡ 0
 at_start NoMemory at P e h = h
 at_start _ at P e h = absurd cc
 
--- the exit of a `?` answers this fault
+-- a failing `?` returns this fault
 pub failed : {X : Type 0} (e : ConfigFault) (r : Result X ConfigFault) → IsErrAnd r (λ y. y ≡ e) → r ≡ Err e
 failed e (Ok x) is = absurd is
 failed e (Err y) is = ap (λ (z : ConfigFault). Err z) is
@@ -52,13 +53,13 @@ of_token BadToken at P is h = h
 of_token Unsupported at P is h = h
 of_token _ at P is h = absurd is
 
--- the next token, as the reader of tokens gives it
+-- the next token, as the stream of tokens returns it
 pub token_gives : {X : Type 0} (view : X → Located) (r : Result X ConfigFault) (s : State) (left : Stream) → Reads (λ x. (view x, left)) r (taken s.left) → IfErr r (λ e. IsTokenFault e.kind) → Gives (λ x. (view x, record s { left = left })) r (token s)
 token_gives view (Ok x) s left h fault = ap (λ r. r >>= λ t. Ok (t.0, record s { left = t.1 })) h
 token_gives view (Err e) s left h fault = of_token e.kind e.at _ fault (ap (λ r. r >>= λ t. Ok (t.0, record s { left = t.1 })) h)
 
 module _ {A : Type 0} (read : Reading A) (close : Symbol) where
-  -- what is read on from a token, from a comma or the closing symbol, and from behind an element
+  -- the rest of a list from a token, from a comma or the closing symbol, and from the end of an element
   abbrev pub rest_from_token : ℕ → List A → Located × State → Result (List A × State) ConfigFault
   rest_from_token n done next = comma_list read close n done next.0 next.1
 
@@ -68,13 +69,13 @@ module _ {A : Type 0} (read : Reading A) (close : Symbol) where
   abbrev pub rest_from_element : ℕ → List A → A × State → Result (List A × State) ConfigFault
   rest_from_element n done one = more_at close one.1 >>= rest_from_mark n (done ++ one.0 ∷ [])
 
-  -- what is read on from here is what is read in all
+  -- the result of reading the rest of the list is the whole result
   pub record Goes (total : Result (List A × State) ConfigFault) (done : List A) (t : Located) (s : State) : Type 0 where
     pub n : ℕ
     pub enough : length s.left.tokens < n
     pub same : comma_list read close n done t s ≡ total
 
-  -- the next element, with the room that is left after it
+  -- the next element, with the bound for the elements after it
   element_step : (total : Result (List A × State) ConfigFault) (n : ℕ) (done : List A) (t : Located) (s : State) → length s.left.tokens < n → comma_list read close n done t s ≡ total → (m : ℕ) × (length s.left.tokens ≤ m) × ((read done t s >>= rest_from_element m done) ≡ total)
   unfolding comma_list
   element_step total zero done t s lt same = absurd (omega arith)
@@ -94,7 +95,7 @@ module _ {A : Type 0} (read : Reading A) (close : Symbol) where
       pub fails_after : (e : ConfigFault) → Fails e (more_at close one.1) → Fails e total
       fails_after e h = fails_then e (more_at close one.1) (rest_from_mark element.0 (done ++ one.0 ∷ [])) total mark h
 
-      -- behind the comma or the closing symbol
+      -- after the comma or the closing symbol
       behind_mark : (more : Bool) (u : State) → more_at close one.1 ≡ Ok (more, u) → rest_from_mark element.0 (done ++ one.0 ∷ []) (more, u) ≡ total
       behind_mark more u at = then_is (more_at close one.1) (rest_from_mark element.0 (done ++ one.0 ∷ [])) (more, u) total mark at
 
@@ -109,7 +110,7 @@ module _ {A : Type 0} (read : Reading A) (close : Symbol) where
           let room = element.1 in
           record { n = element.0; enough = omega (arith, room, less); same = then_is (token u) (rest_from_token element.0 (done ++ one.0 ∷ [])) next total (behind_mark true u at) k }
 
--- what a choice is, where its test is known
+-- the value of a condition whose test is known
 when_true : {A : Type 0} (b : Bool) (x y z : A) → cond b x y ≡ z → b ≡ true → x ≡ z
 when_true true x y z e is = e
 when_true false x y z e is = absurd cc
@@ -120,11 +121,11 @@ when_false false x y z e is = e
 
 -- ---- strings in a row
 
--- what is passed over from a token on
+-- the strings skipped from a token
 abbrev texts_from : ℕ → Located × State → Result (Located × State) ConfigFault
 texts_from n t = cond (is_text t.0.word) (texts_at n t.1) (Ok t)
 
--- what is passed over on from here is what is passed over in all
+-- the result of skipping the remaining strings is the whole result
 pub record GoesTexts (total : Result (Located × State) ConfigFault) (s : State) : Type 0 where
   pub n : ℕ
   pub enough : length s.left.tokens < n
@@ -134,7 +135,7 @@ pub text_no_end : (w : Word) → is_text w ≡ true → is_end w ≡ false
 text_no_end End e = absurd cc
 text_no_end _ e = refl
 
--- one step, with the room that is left after it
+-- one step, with the bound for those after it
 text_step : (total : Result (Located × State) ConfigFault) (n : ℕ) (s : State) → length s.left.tokens < n → texts_at n s ≡ total → (m : ℕ) × (length s.left.tokens ≤ m) × ((token s >>= texts_from m) ≡ total)
 unfolding texts_at
 text_step total zero s lt same = absurd (omega arith)
@@ -151,7 +152,7 @@ module _ {total : Result (Located × State) ConfigFault} {s : State} (g : GoesTe
     begun : texts_from text.0 (t, u) ≡ total
     begun = then_is (token s) (texts_from text.0) (t, u) total text.2 e
 
-    -- another token than a string is what stands behind the strings
+    -- a token other than a string follows the strings
     pub texts_end : is_text t.word ≡ false → total ≡ Ok (t, u)
     texts_end is = sym (when_false _ _ _ _ begun is)
 
@@ -167,13 +168,13 @@ comma_no_end End e = absurd cc
 comma_no_end _ e = refl
 
 module _ (pass : Located → State → Result (Located × State) ConfigFault) (close : Symbol) where
-  -- what is passed over on from here is what is passed over in all
+  -- the result of skipping the remaining terms is the whole result
   pub record GoesTerms (total : Result (Located × State) ConfigFault) (t : Located) (s : State) : Type 0 where
     pub n : ℕ
     pub enough : length s.left.tokens < n
     pub same : terms_at pass close n t s ≡ total
 
-  -- what is passed over from a term's first token on, from behind a term, and from behind the opening symbol
+  -- the terms skipped from a term's first token, from the end of a term, and from the opening symbol
   abbrev from_token : ℕ → Located × State → Result (Located × State) ConfigFault
   from_token n t = terms_at pass close n t.0 t.1
 
@@ -198,7 +199,7 @@ module _ (pass : Located → State → Result (Located × State) ConfigFault) (c
     pub in_begin : is_symbol close t.word ≡ false → length u.left.tokens < n → GoesTerms (terms_in pass close n s) t u
     in_begin is lt = record { n = n; enough = lt; same = when_false _ _ _ _ first_is is }
 
-  -- the first step, with the room that is left after it
+  -- the first step, with the bound for those after it
   first_step : (total : Result (Located × State) ConfigFault) (n : ℕ) (t : Located) (s : State) → length s.left.tokens < n → terms_at pass close n t s ≡ total → (m : ℕ) × (length s.left.tokens ≤ m) × ((pass t s >>= from_behind m) ≡ total)
   unfolding terms_at
   first_step total zero t s lt same = absurd (omega arith)
@@ -242,13 +243,12 @@ module _ (pass : Located → State → Result (Located × State) ConfigFault) (c
 pub is_enough : {t : Located} {s : State} (left n : ℕ) → left < n → length s.left.tokens ≤ left → (is_end t.word ≡ false → length s.left.tokens < left) → IsEnough t s n
 is_enough left n lt le fewer = record { end = omega arith; token = λ no_end. (let less = fewer no_end in omega arith) }
 
--- a term is opened by one step
 pub opens : (n : ℕ) (t : Located) (s : State) → IsEnough t s n → (m : ℕ) × (is_end t.word ≡ false → length s.left.tokens < m) × (term_at n t s ≡ term_by (term_at m) m t s)
 unfolding term_at
 opens zero t s enough = absurd (let lt = enough.end in omega arith)
 opens (suc m) t s enough = (m, λ no_end. (let lt = enough.token no_end in omega arith), refl)
 
--- ---- what is among others, wherever it lies
+-- ---- membership, wherever names are in memory
 
 pub any_map : {A B : Type 0} (p : B → Bool) (f : A → B) (xs : List A) → list_any p (map f xs) ≡ list_any (λ x. p (f x)) xs
 any_map p f [] = refl

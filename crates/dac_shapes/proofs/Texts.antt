@@ -1,4 +1,4 @@
--- A whole text is read exactly where its tokens are a file whose names may stand where they stand.
+-- Whole texts: a text is read exactly if its tokens form a file whose names are allowed in order.
 use Rattle.std.proofs.Common.{◌≡◌, ℕ, ◌<◌, ◌≤◌, Bool, true, false, not, ◌&&◌, ◌≢◌, cond, eqb, ltb, leb, List, [], ◌∷◌, ◌++◌, length, map, Option, Some, None, Result, Ok, refl, sym, ap, subst, ◌∙◌, arith, inl, inr, codes, zero, suc, Err, bytes_eq, ltb-true, ltb-false, leb-false, eqb-true, ne_eqb, IfOk, IfErr, MatchResult, ◌↔◌}
 use Rattle.std.proofs.lemmas.Bool.{eqb-false}
 use Rattle.std.specs.List.{AllByRecursion}
@@ -45,7 +45,7 @@ short_name_is t name e =
     let q = ok_is b.0 name p.1 in
     (atom_is t.word t.at b.0 b.1 ∙ ap Name q, omega (arith, ltb-false 255 (length b.0) p.0, ap length q))
 
--- what a test with two parts says where it failed
+-- a failed conjunction fails in its second part if the first holds
 unless_first : (a b : Bool) → (not a && b) ≡ false → a ≡ false → b ≡ false
 unless_first true b e f = absurd cc
 unless_first false b e f = e
@@ -72,7 +72,7 @@ node_found repeats before t s name u well e =
 
 -- ---- node lists
 
--- a bracket, and what is read from the token after it on
+-- a bracket, and the item read from the token after it
 opened_by : (x : Located) (w : Word) (s : State) (t1 : Located) (s1 u : State) (ws : List Word) → EndsWell s → x.word ≡ w → token s ≡ Ok (t1, s1) → is_end t1.word ≡ false → Moves (back t1 s1) ws u → Moves (back x s) (w ∷ ws) u
 opened_by x w s t1 s1 u ws well is k begun m =
     let n = token_then s t1 s1 ws u well k begun m in
@@ -104,7 +104,7 @@ item_found before t s group u well e =
           subst (λ (p : List (List ℕ) × State). Reads IsItem with_nodes (MayNodes false) t s p.0 p.1) (ok_is (k.0.0 ∷ [], k.0.1) (group, u) k.2) (record { ws = r.ws; is = inl (k.0.0, r.is, refl); moves = r.moves; begun = r.begun; may = (r.may, tt); seen = r.seen })
     ]
 
--- the names of a node list begin anew
+-- a node list begins with no names listed
 abbrev pub with_list : Seen → List (List (List ℕ)) → Seen
 with_list seen groups = with_groups (listing seen) groups
 
@@ -144,7 +144,7 @@ ms_is at negative digits n e =
     zero_is true false v neg f z = absurd cc
     zero_is false c v neg f z = absurd cc
 
--- after the timeout, if any, the token t1 was read
+-- after the timeout, if written, the token t1 was read
 record Timed (t : Located) (s : State) (n : ℕ) (t1 : Located) (u : State) : Type 0 where
   pub well : EndsWell u
   pub seen : u.seen ≡ s.seen
@@ -250,7 +250,7 @@ permission_found before = pair_found IsPermission short_name_of (λ k name. (k �
 
 -- ---- parameters and sections
 
--- what a parameter's name says of it: it is one that is read and new, or another
+-- the two cases of a parameter's name: one that is read and new, or another
 data FineParam (before : List Param) (name : List ℕ) : Option ParamName → Type 0 where
   Known : (p : ParamName) → name ≡ spelled p → has_param p before ≡ false → FineParam before name (Some p)
   Unknown : param_named name ≡ None → FineParam before name None
@@ -282,7 +282,7 @@ wait_is _ at wait e = absurd cc
 abbrev GetsParam : List Param → ParamName → State → Param → State → Type 0
 GetsParam before name s p u = Gets (λ ws x. IsParam (pair_words (spelled name) ws) x) with_param (MayParam before) s p u
 
--- the parameter of this name stands once
+-- the parameter of this name occurs once
 once_as : (before : List Param) (name : ParamName) → has_param name before ≡ false → (other : ParamName) → ◌≡◌ {A = Option ParamName} (Some name) (Some other) → has_param other before ≡ false
 once_as before name once other e = let same : name ≡ other = cc in subst (λ (n : ParamName). has_param n before ≡ false) same once
 
@@ -322,7 +322,7 @@ param_valued before named.Timeout s p u well once e =
       seen = m.seen;
     })
 
--- another name than those of the parameters that are read
+-- a name other than those of the parameters that are read
 unknown_is : (name : List ℕ) → param_named name ≡ None → (known : ParamName) → name ≢ spelled known
 unknown_is name e known same = absurd (no_name known (sym (ap param_named same) ∙ e))
   where
@@ -352,7 +352,7 @@ param_rested before None name s p u well (Unknown other) e =
 pub param_found : (before : List Param) (t : Located) (s : State) (p : Param) (u : State) → EndsWell s → param_at before t s ≡ Ok (p, u) → Reads IsParam with_param (MayParam before) t s p u
 param_found before = pair_found IsParam (param_name_of before) (λ k name. FineParam before name k) param_rest_at with_param (MayParam before) (params_named before) (param_rested before)
 
--- what a section's name says of it: it is `kernel`, which stands once, or another
+-- the two cases of a section's name: the first `kernel`, or another
 data FineSection (before : List Section) (name : List ℕ) : Bool → Type 0 where
   IsKernel : name ≡ codes "kernel" → has_kernel before ≡ false → FineSection before name true
   IsOther : bytes_eq name (codes "kernel") ≡ false → FineSection before name false
@@ -423,7 +423,7 @@ no_end_behind : (ws rest : List Word) → NoEnd (ws ++ rest) → NoEnd rest
 no_end_behind [] rest h = h
 no_end_behind (w ∷ ws) rest h = no_end_behind ws rest h.1
 
--- where the end was taken, nothing was left before it
+-- if the end was taken, no token was left before it
 at_last : (tokens : List Located) (last : Result Located ConfigFault) (t : Located) (r : Stream) → NoEnd (map (λ x. x.word) tokens) → taken_of tokens last ≡ Ok (t, r) → is_end t.word ≡ true → (tokens ≡ []) × (last ≡ Ok t)
 at_last [] (Err e) t r no_end h is = absurd cc
 at_last [] (Ok u) t r no_end h is = (refl, ap (λ (p : Located × Stream). Ok p.0) (ok_is (u, record { tokens = []; last = Ok u }) (t, r) h))
@@ -431,9 +431,9 @@ at_last (x ∷ xs) last t r no_end h is =
     let e = ap (λ (p : Located × Stream). is_end p.0.word) (ok_is (x, record { tokens = xs; last = last }) (t, r) h) in
     absurd cc
 
--- ---- what is read is in the grammar
+-- ---- soundness
 
--- the full stop, and nothing behind it
+-- the full stop, and nothing after it
 record Ends (s : State) (v : State) : Type 0 where
   pub words : words_in s ≡ Punctuation FullStop ∷ []
   pub seen : v.seen ≡ s.seen
@@ -456,7 +456,7 @@ end_found s offset v well no_end e =
       last = sym m.moves.last ∙ none.1;
     }
 
--- ---- what is in the grammar is read
+-- ---- completeness
 
 end_again : (stop end : Located) (seen : Seen) → stop.word ≡ Punctuation FullStop → is_end end.word ≡ true → end_at (at (Ok end) (stop ∷ []) seen) ≡ Ok (end.at, at (Ok end) [] seen)
 unfolding end_at
@@ -481,7 +481,7 @@ file_again end ts sections is file within some =
 
 -- ---- whole texts
 
--- what is known of the tokens of a text
+-- the facts about the tokens of a text
 pub record Tokenizes (text : List ℕ) (s : Stream) : Type 0 where
   pub read : s ≡ tokens_of (length text) 0 text
   pub end : IfOk s.last (λ t. t ≡ end_of (length text))

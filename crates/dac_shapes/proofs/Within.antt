@@ -1,4 +1,4 @@
--- Names may come one after another exactly where they keep the limits in plain words; what is written then keeps them.
+-- Names are allowed in order exactly if they keep the limits of `Within`; the draft then keeps them too.
 use Rattle.std.proofs.Common.{◌≡◌, ℕ, ◌<◌, ◌≤◌, Bool, true, false, cond, List, [], ◌∷◌, ◌++◌, length, map, fold, refl, sym, ap, subst, ◌∙◌, append_assoc, append-nil, length-append, arith, ◌+◌, ◌||◌, eqb, Option, None, Some, inl, inr, eq-eqb, count_by, All, bytes_eq}
 use Rattle.std.specs.List.{AllByRecursion as Each, IsDistinct, list_any}
 use Rattle.std.proofs.lemmas.Bool.{cond_both, or_parts, or_from, or_left, or_right, or_cases}
@@ -38,7 +38,7 @@ IsShort name = length name ≤ 255
 abbrev pub IsFew : List (List ℕ) → Type 0
 IsFew names = length names ≤ MAX_NODES
 
--- these names and the different ones of those
+-- these names and the distinct ones of those
 abbrev pub with_all : List (List ℕ) → List (List ℕ) → List (List ℕ)
 with_all met names = fold with_name met names
 
@@ -48,7 +48,7 @@ longer met (name ∷ names) =
     let here = cond_both (is_among name met) met (met ++ name ∷ []) (λ l. length met ≤ length l) (λ _. omega arith) (λ _. omega (arith, length-append met (name ∷ []))) in
     omega (arith, here, longer (with_name met name) names)
 
--- names are short, and with those met before they are few different ones
+-- names are short, and with those met before there are few distinct ones
 abbrev pub Fit : List (List ℕ) → List (List ℕ) → Type 0
 Fit met names = Each IsShort names × IsFew (with_all met names)
 
@@ -61,7 +61,7 @@ fit_right met xs ys fit = (each_right IsShort xs ys fit.0, subst IsFew (fold-app
 pub fit_left : (met xs ys : List (List ℕ)) → Fit met (xs ++ ys) → Fit met xs
 fit_left met xs ys fit = (each_left IsShort xs ys fit.0, omega (arith, (fit_right met xs ys fit).1, longer (with_all met xs) ys))
 
--- ---- names of which none is among those before it
+-- ---- names that are new after those before them
 
 abbrev pub AllNew : List (List ℕ) → List (List ℕ) → Type 0
 AllNew before [] = Unit {0}
@@ -89,7 +89,7 @@ nodes_listed : (seen : Seen) (names : List (List ℕ)) → (with_nodes seen name
 nodes_listed seen [] = sym (append-nil seen.listed)
 nodes_listed seen (name ∷ names) = nodes_listed (with_node seen name) names ∙ append_assoc seen.listed (name ∷ []) names
 
--- what names that may come keep: each is new where none may repeat, and they fit
+-- names that are allowed: each is new unless repeats are allowed, and they fit
 pub nodes_to : (repeats : Bool) (before : List (List ℕ)) (seen : Seen) (names : List (List ℕ)) → IsFew seen.met → AllMay with_node (λ _. MayNode repeats) before seen names → (repeats ≡ false → AllNew seen.listed names) × Fit seen.met names
 nodes_to repeats before seen [] few may = (λ _. tt, (tt, few))
 nodes_to repeats before seen (name ∷ names) few may =
@@ -131,14 +131,14 @@ groups_from before seen (group ∷ groups) new fit =
       groups_from (before ++ group ∷ []) (with_nodes seen group) groups rest (subst (λ met. Fit met (joined groups)) (sym (nodes_met seen group)) (fit_right seen.met group (joined groups) fit)),
     )
 
--- ---- any things that hold names
+-- ---- any items that contain names
 
--- each thing keeps what can be said of it and those before it
+-- each item has the property of it and those before it
 abbrev pub AllKeep : {A : Type 0} → (List A → A → Type 0) → List A → List A → Type 0
 AllKeep Keeps before [] = Unit {0}
 AllKeep Keeps before (x ∷ xs) = Keeps before x × AllKeep Keeps (before ++ x ∷ []) xs
 
--- a thing may come exactly if it keeps what can be said of it and those before it, and its names fit
+-- an item is allowed exactly if it has the property of it and those before it, and its names fit
 pub record IsWalk {A : Type 0} (step : Seen → A → Seen) (May : List A → Seen → A → Type 0) (names : A → List (List ℕ)) (Keeps : List A → A → Type 0) : Type 0 where
   pub met : (seen : Seen) (x : A) → (step seen x).met ≡ with_all seen.met (names x)
   pub to : (before : List A) (seen : Seen) (x : A) → IsFew seen.met → May before seen x → Keeps before x × Fit seen.met (names x)
@@ -163,7 +163,7 @@ module _ {A : Type 0} {step : Seen → A → Seen} {May : List A → Seen → A 
     all_from (before ++ x ∷ []) (step seen x) xs keep.1 (subst (λ met. Fit met (joined (map names xs))) (sym (walk.met seen x)) (fit_right seen.met (names x) (joined (map names xs)) fit)),
   )
 
--- ---- between words
+-- ---- predicates on lists
 
 pub each_by : {A : Type 0} (P Q : A → Type 0) → ((x : A) → P x → Q x) → (xs : List A) → Each P xs → Each Q xs
 each_by P Q f [] h = tt
@@ -184,7 +184,7 @@ apart_push before x y e =
 push_apart : (before : List (List ℕ)) (x y : List ℕ) → IsApart before y → bytes_eq x y ≡ false → IsApart (before ++ x ∷ []) y
 push_apart before x y e f = list_any-append (λ other. bytes_eq other y) before (x ∷ []) ∙ or_from (is_among y before) (bytes_eq x y || false) e (or-false (bytes_eq x y) ∙ f)
 
--- names that are new one after another are distinct, and apart from those before
+-- names that are each new after those before are distinct, also from the earlier ones
 distinct_from : (before xs : List (List ℕ)) → AllNew before xs → IsDistinct bytes_eq xs × Each (IsApart before) xs
 unfolding IsDistinct
 distinct_from before [] new = (tt, tt)
@@ -214,7 +214,7 @@ distinct_new xs distinct = new_from [] xs distinct (each_apart xs)
 
 -- ---- applications
 
--- what an application keeps, wherever its nodes stand
+-- the limits of an application that don't depend on the nodes seen
 record KeepsApp (before : List App) (app : App) : Type 0 where
   pub short : length app.name ≤ 255
   pub once : is_among app.name (map (λ a. a.name) before) ≡ false
@@ -273,7 +273,7 @@ permissions_from : (before : List Permission) (seen : Seen) (permissions : List 
 permissions_from before seen [] short = tt
 permissions_from before seen (p ∷ ps) short = (short.0, permissions_from (before ++ p ∷ []) seen ps short.1)
 
--- what a parameter keeps, wherever its nodes stand
+-- the limits of a parameter that don't depend on the nodes seen
 record KeepsParam (before : List Param) (param : Param) : Type 0 where
   pub once : (name : ParamName) → name_of param ≡ Some name → has_param name before ≡ false
   pub value : IsValueWithin param
@@ -305,7 +305,7 @@ param_walk = record {
   from = λ before seen param keep fit. record { once = keep.once; value = value_from seen param keep.value fit };
 }
 
--- ---- what stands once
+-- ---- at most one occurrence
 
 abbrev one : Bool → ℕ
 one b = cond b 1 0
@@ -333,7 +333,7 @@ module _ {A : Type 0} (p : A → Bool) where
   none_any [] e = refl
   none_any (x ∷ xs) e = or_from (p x) (list_any p xs) (fails_one (p x) (omega (arith, e, count_cons x xs))) (none_any xs (omega (arith, e, count_cons x xs)))
 
-  -- at most one passes, those before counted, where none that passes stands behind another
+  -- if no item that passes follows another, at most one passes, counting those before
   once_to : (before xs : List A) → AllKeep (λ b x. p x ≡ true → list_any p b ≡ false) before xs → count_by p before ≤ 1 → count_by p before + count_by p xs ≤ 1
   once_to before [] keep few = omega (arith, few)
   once_to before (x ∷ xs) keep few =
@@ -435,7 +435,7 @@ no_kernels [] e = refl
 no_kernels (Kernel params ∷ sections) e = absurd (omega (arith, e, count_cons is_kernel (Kernel params) sections))
 no_kernels (Section.Other ∷ sections) e = no_kernels sections (omega (arith, e, count_cons is_kernel Section.Other sections))
 
--- a kernel is the only one, so its parameters are all that there are
+-- there is only one `kernel`, so its parameters are all that there are
 only_params : (params : List Param) (sections : List Section) → params_in sections ≡ [] → params ++ params_in sections ≡ params
 only_params params sections none = ap (λ (l : List Param). params ++ l) none ∙ append-nil params
 
@@ -484,11 +484,11 @@ may_from sections w =
     let keep = kernels_from [] sections (omega (arith, kernel)) (params_from [] (params_in sections) (λ name. (let all = w.params name in omega (arith, all))) values) in
     all_from section_walk [] nothing sections keep (subst (Fit []) (sym names) (all_each (λ name. length name ≤ 255) (names_in sections) w.short, w.few))
 
--- what was seen after the sections are the different names, where they first stand
+-- the names met in the sections are the distinct ones, in order of first occurrence
 pub seen_is : (sections : List Section) → (steps with_section nothing sections).met ≡ nodes_in sections
 seen_is sections = all_met section_walk nothing sections ∙ ap (λ (l : List (List ℕ)). with_all [] l) (section_names sections)
 
--- ---- each name where it first stands
+-- ---- first occurrences
 
 all_new : (met names : List (List ℕ)) → AllNew [] met → AllNew [] (with_all met names)
 all_new met [] new = new
@@ -515,7 +515,7 @@ all_among met (name ∷ names) =
     let here = cond_both (is_among name met) met (met ++ name ∷ []) (λ l. IsOf l name) (λ e. e) (λ _. list_any-append (λ n. bytes_eq n name) met (name ∷ []) ∙ or_right (is_among name met) (is_among name (name ∷ [])) last) in
     (all_kept (with_name met name) names name here, all_among (with_name met name) names)
 
--- ---- different names that are all among others are no more than those
+-- ---- distinct names that are all among others are no more than those
 
 member_is : (name : List ℕ) (names : List (List ℕ)) → is_member bytes_eq names name ≡ is_among name names
 member_is name [] = refl
@@ -585,9 +585,9 @@ fewer_groups : (groups : List (List (List ℕ))) → Each HasMember groups → l
 fewer_groups [] h = omega arith
 fewer_groups (group ∷ groups) h = omega (arith, h.0, fewer_groups groups h.1, length-append group (joined groups))
 
--- ---- what is written
+-- ---- drafts
 
--- what is written keeps, with these nodes
+-- the limits of a draft, with these nodes
 record Keeps (nodes : List (List ℕ)) (w : Written) : Type 0 where
   pub apps : AreAppsWithin w.apps
   pub some : Each HasMembers w.apps
@@ -610,7 +610,7 @@ put_all_keeps nodes w (param ∷ params) within some named k =
     put_all_keeps nodes (put w param) params within.1 some.1 (each_right (IsOf nodes) (names_of_param param) (joined (map names_of_param params)) named)
     (put_keeps nodes w param within.0 some.0 (each_left (IsOf nodes) (names_of_param param) (joined (map names_of_param params)) named) k)
 
--- sections say what their parameters say
+-- the draft of sections is the draft of their parameters
 said : (w : Written) (sections : List Section) → fold put_section w sections ≡ put_all w (params_in sections)
 said w [] = refl
 said w (Kernel params ∷ sections) = said (put_all w params) sections ∙ sym (fold-append put w params (params_in sections))

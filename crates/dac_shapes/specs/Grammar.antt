@@ -1,4 +1,4 @@
--- The shapes of a configuration, as a grammar on tokens, whatever a reader does.
+-- The grammar of configurations, on tokens. It refers to no reader.
 use Rattle.std.specs.Prelude.{◌≡◌, ◌≢◌, ◌⊎◌, ℕ, ◌<◌, ◌≤◌, Bool, true, false, List, [], ◌∷◌, ◌++◌, length, map, All, codes}
 use Rattle.dac_tokens.specs.declared.token.Symbol.{Symbol}
 use Rattle.dac_tokens.specs.declared.token.Symbol.TheVariants.{OpenList, CloseList, OpenTuple, CloseTuple, Comma, FullStop}
@@ -13,7 +13,7 @@ use Rattle.dac_shapes.specs.Written.{App, Permission, Param, Distributed, Permis
 use Rattle.dac_tokens.specs.Digits.{value_from}
 use Rattle.dac_shapes.specs.Within.{AreWithinLimits, nodes_in}
 
--- one or more things, each by `Is`, parted by commas
+-- one or more items, each by `Is`, separated by commas
 abbrev pub Parted : {A : Type 0} → (List Word → A → Type 0) → List Word → List A → Type 0
 Parted Is words [] = ⊥
 Parted Is words (x ∷ []) = Is words x
@@ -24,12 +24,12 @@ Parted Is words (x ∷ y ∷ ys) =
 abbrev pub between : Symbol → List Word → Symbol → List Word
 between left words right = Punctuation left ∷ words ++ Punctuation right ∷ []
 
--- nothing, or things parted by commas
+-- no items, or items separated by commas
 abbrev pub PartedOrNone : {A : Type 0} → (List Word → A → Type 0) → List Word → List A → Type 0
 PartedOrNone Is words [] = words ≡ []
 PartedOrNone Is words (x ∷ xs) = Parted Is words (x ∷ xs)
 
--- a list in brackets, which may be empty
+-- a list in brackets, which can be empty
 abbrev pub IsListOf : {A : Type 0} → (List Word → A → Type 0) → List Word → List A → Type 0
 IsListOf Is words xs = (inner : List Word) × (words ≡ between OpenList inner CloseList) × PartedOrNone Is inner xs
 
@@ -44,8 +44,8 @@ pub data AreBrackets : Symbol → Symbol → Type 0 where
   OfTuple : AreBrackets OpenTuple CloseTuple
 
 mutual
-  -- A term, whatever it says: an atom, a number, one or more strings, which are one, or nothing or terms between
-  -- brackets.
+  -- Any term: an atom, a number, one or more strings, which count as one, or brackets with any number of terms between
+  -- them.
   pub data IsTerm : List Word → Type 0 where
     Atom : (name : List ℕ) → IsTerm (Name name ∷ [])
     Integer : (negative : Bool) (digits : List ℕ) → IsTerm (Number negative digits ∷ [])
@@ -54,7 +54,7 @@ mutual
     Between : (left right : Symbol) (inner : List Word) → AreBrackets left right → AreTerms inner
         → IsTerm (between left inner right)
 
-  -- one or more terms, parted by commas
+  -- one or more terms, separated by commas
   pub data AreTerms : List Word → Type 0 where
     One : (words : List Word) → IsTerm words → AreTerms words
     More : (first rest : List Word) → IsTerm first → AreTerms rest → AreTerms (first ++ Punctuation Comma ∷ rest)
@@ -63,28 +63,28 @@ mutual
 abbrev pub IsNode : List Word → List ℕ → Type 0
 IsNode words name = words ≡ Name name ∷ []
 
--- a node by itself, or a tuple of nodes
+-- a single node, or a tuple of nodes
 abbrev pub IsItem : List Word → List (List ℕ) → Type 0
 IsItem words group =
     ((name : List ℕ) × (words ≡ Name name ∷ []) × (group ≡ name ∷ []))
     ⊎ ((inner : List Word) × (words ≡ between OpenTuple inner CloseTuple) × Parted IsNode inner group)
 
--- a node list, which is not empty
+-- a node list, which must not be empty
 abbrev pub IsNodeList : List Word → List (List (List ℕ)) → Type 0
 IsNodeList words groups = (inner : List Word) × (words ≡ between OpenList inner CloseList) × Parted IsItem inner groups
 
--- this token is a number of milliseconds below their bound, which is not negative
+-- this token is a number of milliseconds that is not negative and below the bound
 abbrev pub IsMs : Word → ℕ → Type 0
 IsMs word n = (negative : Bool) × (digits : List ℕ) × (word ≡ Number negative digits) × (n ≡ value_from 0 digits)
     × (n < ms_bound) × (negative ≡ true → n ≡ 0)
 
--- nothing, which is 0, or a number and a comma
+-- nothing, for 0, or a number and a comma
 abbrev pub IsTimeout : List Word → ℕ → Type 0
 IsTimeout words n =
     ((words ≡ []) × (n ≡ 0))
     ⊎ ((word : Word) × (words ≡ word ∷ Punctuation Comma ∷ []) × IsMs word n)
 
--- the value of an application: its timeout, if it is written, and its node list
+-- the value of an application: its timeout, if written, and its node list
 abbrev pub IsAppValue : List Word → App → Type 0
 IsAppValue words app =
     (timeout list : List Word) × (words ≡ timeout ++ list) × IsTimeout timeout app.timeout × IsNodeList list app.groups
@@ -108,7 +108,7 @@ IsWait words NoSync = ⊥
 IsWait words Forever = words ≡ Name (codes "infinity") ∷ []
 IsWait words (Ms n) = (word : Word) × (words ≡ word ∷ []) × IsMs word n
 
--- A parameter, bare or quoted. Another than those that are read is a pair of any other name and any term.
+-- A parameter, with a bare or quoted name. One that is ignored is a pair of any other name and any term.
 abbrev pub IsParam : List Word → Param → Type 0
 IsParam words (Distributed apps) = IsPair (spelled named.Distributed) (λ value. IsListOf IsApp value apps) words
 IsParam words (Permissions permissions) =
@@ -127,8 +127,8 @@ IsSection words Section.Other = (name : List ℕ) × (name ≢ codes "kernel") �
 abbrev pub IsFile : List Word → List Section → Type 0
 IsFile words sections = (list : List Word) × (words ≡ list ++ Punctuation FullStop ∷ []) × IsListOf IsSection list sections
 
--- A text of at most MAX_TEXT bytes says this. Its tokens are a file, which keeps the limits, and which lists one
--- application at least.
+-- A text of at most MAX_TEXT bytes spells this draft: its tokens form a file that keeps the limits and lists at least
+-- one application.
 pub record IsTextOf (text : List ℕ) (draft : Written) : Type 0 where
   pub short : length text ≤ MAX_TEXT
   pub tokens : List Located

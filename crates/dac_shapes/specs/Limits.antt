@@ -1,4 +1,4 @@
--- Which names may stand where: each thing may come after those before it.
+-- The limits in text order: whether each item is allowed after those before it.
 use Rattle.std.specs.Prelude.{◌≡◌, ℕ, ◌<◌, ◌≤◌, ◌==◌, Bool, true, false, List, [], ◌∷◌, ◌++◌, length, map, Option, None, Some, if◌then◌else◌, refl}
 use Rattle.std.specs.Str.{bytes_eq}
 use Rattle.std.specs.List.{list_any}
@@ -8,16 +8,16 @@ use Rattle.dac_shapes.specs.declared.param.ParamName.{ParamName}
 use Rattle.dac_shapes.specs.declared.param.ParamName.TheVariants as named
 use Rattle.dac_shapes.specs.Written.{App, Permission, Param, Distributed, Permissions, Mandatory, Optional, Timeout, Section, Kernel, name_of}
 
--- what the limits of this crate are, so that neither can change unseen
+-- fixes the limits of this crate, so that neither can change unnoticed
 pub the_limits : (MAX_NAME ≡ 255) × (MAX_TEXT ≡ 65536)
 the_limits = (refl, refl)
 
--- the different names of nodes met so far, and the names of the node list that is being read
+-- the distinct names of nodes met so far, and the names of the current node list
 pub record Seen : Type 0 where
   pub met : List (List ℕ)
   pub listed : List (List ℕ)
 
--- no name was seen yet
+-- no names, before a text is read
 abbrev pub nothing : Seen
 nothing = record { met = []; listed = [] }
 
@@ -25,7 +25,7 @@ nothing = record { met = []; listed = [] }
 abbrev pub is_among : List ℕ → List (List ℕ) → Bool
 is_among name names = list_any (λ other. bytes_eq other name) names
 
--- numbers that tell the parameters apart
+-- numbers that distinguish the parameters
 abbrev pub number_of : ParamName → ℕ
 number_of named.Distributed = 0
 number_of named.Mandatory = 1
@@ -33,7 +33,7 @@ number_of named.Optional = 2
 number_of named.Timeout = 3
 number_of named.Permissions = 4
 
--- whether a parameter that is read, if it is one, is this one
+-- whether a parameter, if it is one that is read, is this one
 abbrev pub is_named : ParamName → Option ParamName → Bool
 is_named name None = false
 is_named name (Some other) = number_of other == number_of name
@@ -52,68 +52,68 @@ abbrev pub has_kernel : List Section → Bool
 has_kernel sections = list_any is_kernel sections
 
 module _ {A : Type 0} (step : Seen → A → Seen) (May : List A → Seen → A → Type 0) where
-  -- each thing may come after those before it
+  -- each item is allowed after those before it
   abbrev pub AllMay : List A → Seen → List A → Type 0
   AllMay before seen [] = Unit {0}
   AllMay before seen (x ∷ xs) = May before seen x × AllMay (before ++ x ∷ []) (step seen x) xs
 
--- what was seen after these things
+-- the names seen after these items
 abbrev pub steps : {A : Type 0} → (Seen → A → Seen) → Seen → List A → Seen
 steps step seen [] = seen
 steps step seen (x ∷ xs) = steps step (step seen x) xs
 
 -- ---- nodes
 
--- these names, and this one behind them if it is new
+-- these names, followed by this one if it is new
 abbrev pub with_name : List (List ℕ) → List ℕ → List (List ℕ)
 with_name names name = if is_among name names then names else names ++ name ∷ []
 
--- what was seen after one more node
+-- the names seen after one more node
 abbrev pub with_node : Seen → List ℕ → Seen
 with_node seen name = record { met = with_name seen.met name; listed = seen.listed ++ name ∷ [] }
 
--- A node may come. Its name has at most MAX_NAME bytes. It stands in its list once unless repeats are taken there. It
--- is known or fewer than MAX_NODES are.
+-- A node is allowed: its name has at most MAX_NAME bytes, it is new in its list unless repeats are allowed there, and
+-- it was met before or fewer than MAX_NODES were.
 pub record MayNode (repeats : Bool) (seen : Seen) (name : List ℕ) : Type 0 where
   pub short : length name ≤ MAX_NAME
   pub once : repeats ≡ false → is_among name seen.listed ≡ false
   pub few : is_among name seen.met ≡ false → length seen.met < MAX_NODES
 
--- what was seen after these nodes
+-- the names seen after these nodes
 abbrev pub with_nodes : Seen → List (List ℕ) → Seen
 with_nodes seen names = steps with_node seen names
 
--- these nodes may come, one after another
+-- these nodes are allowed, one after another
 abbrev pub MayNodes : Bool → Seen → List (List ℕ) → Type 0
 MayNodes repeats seen names = AllMay with_node (λ _. MayNode repeats) [] seen names
 
--- what was seen after these groups
+-- the names seen after these groups
 abbrev pub with_groups : Seen → List (List (List ℕ)) → Seen
 with_groups seen groups = steps with_nodes seen groups
 
--- these groups may come, and no node stands twice in them
+-- these groups are allowed, in which no node occurs twice
 abbrev pub MayGroups : Seen → List (List (List ℕ)) → Type 0
 MayGroups seen groups = AllMay with_nodes (λ _. MayNodes false) [] seen groups
 
 -- ---- applications
 
--- a node list begins
+-- a node list begins, so that no names are listed
 abbrev pub listing : Seen → Seen
 listing seen = record seen { listed = [] }
 
--- what was seen after one more application
+-- the names seen after one more application
 abbrev pub with_app : Seen → App → Seen
 with_app seen app = with_groups (listing seen) app.groups
 
--- An application may come after these. Its name has at most MAX_NAME bytes and is new, fewer than MAX_APPS came, and
--- its nodes may come.
+-- An application is allowed after these: its name has at most MAX_NAME bytes and is new, fewer than MAX_APPS precede
+-- it, and its nodes are allowed.
 pub record MayApp (before : List App) (seen : Seen) (app : App) : Type 0 where
   pub short : length app.name ≤ MAX_NAME
   pub once : is_among app.name (map (λ a. a.name) before) ≡ false
   pub few : length before < MAX_APPS
   pub nodes : MayGroups (listing seen) app.groups
 
--- what was seen after these applications
+-- the names seen after these applications
 abbrev pub with_apps : Seen → List App → Seen
 with_apps seen apps = steps with_app seen apps
 
@@ -123,13 +123,13 @@ with_apps seen apps = steps with_app seen apps
 abbrev pub with_permission : Seen → Permission → Seen
 with_permission seen permission = seen
 
--- a permission may come: its name has at most MAX_NAME bytes, whether an application has it or not
+-- a permission is allowed: its name has at most MAX_NAME bytes, whether or not an application has it
 abbrev pub MayPermission : List Permission → Seen → Permission → Type 0
 MayPermission before seen permission = length permission.name ≤ MAX_NAME
 
 -- ---- parameters and sections
 
--- what was seen after one more parameter
+-- the names seen after one more parameter
 abbrev pub with_param : Seen → Param → Seen
 with_param seen (Distributed apps) = with_apps seen apps
 with_param seen (Permissions permissions) = seen
@@ -138,7 +138,7 @@ with_param seen (Optional names) = with_nodes seen names
 with_param seen (Timeout wait) = seen
 with_param seen Param.Other = seen
 
--- the value of a parameter may come
+-- the value of a parameter is allowed
 abbrev pub MayValue : Seen → Param → Type 0
 MayValue seen (Distributed apps) = AllMay with_app MayApp [] seen apps
 MayValue seen (Permissions permissions) = AllMay with_permission MayPermission [] seen permissions
@@ -147,26 +147,26 @@ MayValue seen (Optional names) = MayNodes true seen names
 MayValue seen (Timeout wait) = Unit {0}
 MayValue seen Param.Other = Unit {0}
 
--- a parameter may come after these: if it is read there is none of its name, and its value may come
+-- a parameter is allowed after these: if it is one that is read, none of these has its name; and its value is allowed
 pub record MayParam (before : List Param) (seen : Seen) (param : Param) : Type 0 where
   pub once : (name : ParamName) → name_of param ≡ Some name → has_param name before ≡ false
   pub value : MayValue seen param
 
--- what was seen after one more section
+-- the names seen after one more section
 abbrev pub with_section : Seen → Section → Seen
 with_section seen (Kernel params) = steps with_param seen params
 with_section seen Section.Other = seen
 
--- a section `kernel` may come after these: it is the first of them, and its parameters may come
+-- a section `kernel` is allowed after these: none of them is `kernel`, and its parameters are allowed
 pub record MayKernel (before : List Section) (seen : Seen) (kernel : List Param) : Type 0 where
   pub once : has_kernel before ≡ false
   pub params : AllMay with_param MayParam [] seen kernel
 
--- a section may come after these: one that is not `kernel` always may
+-- a section is allowed after these; any other than `kernel` always is
 abbrev pub MaySection : List Section → Seen → Section → Type 0
 MaySection before seen (Kernel params) = MayKernel before seen params
 MaySection before seen Section.Other = Unit {0}
 
--- all sections of a text may come, in order
+-- all sections of a text are allowed, in order
 abbrev pub MaySections : List Section → Type 0
 MaySections sections = AllMay with_section MaySection [] nothing sections

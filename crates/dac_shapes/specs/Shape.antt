@@ -1,4 +1,4 @@
--- The shapes of a configuration, read from left to right with the first fault that is met.
+-- The parser as a function: it reads a configuration from left to right, up to the first fault.
 use Rattle.std.specs.Prelude.{◌≡◌, ◌<◌, ℕ, zero, suc, ◌+◌, Bool, true, false, not, ◌&&◌, List, [], ◌∷◌, ◌++◌, length, map, Option, None, Some, Result, Ok, Err, nat_lt, nat_le, ◌==◌, if◌then◌else◌, codes}
 use Rattle.std.specs.Str.{bytes_eq}
 use Rattle.dac_base.specs.declared.limits.TheConstants.{MAX_APPS, MAX_NODES}
@@ -19,7 +19,7 @@ use Rattle.dac_shapes.specs.declared.param.ParamName.TheVariants as named
 use Rattle.dac_shapes.specs.Written.{App, Permission, Param, Distributed, Permissions, Mandatory, Optional, Timeout, Section, Kernel, Written, written, ms_bound}
 use Rattle.dac_shapes.specs.Limits.{Seen, nothing, is_among, has_param, has_kernel, with_node, listing}
 
--- what is left to read, and the names seen so far
+-- the rest to read, and the names seen so far
 pub record State : Type 0 where
   pub left : Stream
   pub seen : Seen
@@ -28,7 +28,7 @@ pub record State : Type 0 where
 abbrev pub fails : {A : Type 0} → FaultKind → ℕ → Result A ConfigFault
 fails kind at = Err (record { kind = kind; at = at })
 
--- the byte that a symbol is
+-- the byte of a symbol
 abbrev pub byte_of : Symbol → ℕ
 byte_of OpenList = 91
 byte_of CloseList = 93
@@ -55,23 +55,23 @@ is_text End = false
 
 -- ---- one token
 
--- the next token
+-- reads the next token
 abbrev pub token : State → Result (Located × State) ConfigFault
 token s = do
   t ← taken s.left
   Ok (t.0, record s { left = t.1 })
 
--- this symbol comes next
+-- reads the next token, which must be this symbol
 unfoldable pub symbol_at : Symbol → State → Result State ConfigFault
 symbol_at symbol s = do
   t ← token s
   if is_symbol symbol t.0.word then Ok t.1 else fails BadShape t.0.at
 
--- the token behind this symbol, which comes next
+-- reads two tokens, of which the first must be this symbol; returns the second
 abbrev pub after_at : Symbol → State → Result (Located × State) ConfigFault
 after_at symbol s = symbol_at symbol s >>= token
 
--- whether a comma comes next, or else this symbol
+-- reads the next token: true for a comma, false for the closing symbol, otherwise a fault
 unfoldable pub more_at : Symbol → State → Result (Bool × State) ConfigFault
 more_at close s = do
   t ← token s
@@ -79,7 +79,7 @@ more_at close s = do
       else (if is_symbol close t.0.word then Ok (false, t.1)
       else fails BadShape t.0.at)
 
--- the name that a token is
+-- the name in a token; any other token is a fault
 unfoldable pub atom_of : Located → Result (List ℕ) ConfigFault
 atom_of t = named t.word
   where
@@ -90,19 +90,19 @@ atom_of t = named t.word
     named Text = fails BadShape t.at
     named End = fails BadShape t.at
 
--- the name, of at most MAX_NAME bytes, that a token is
+-- the name in a token, of at most MAX_NAME bytes
 unfoldable pub short_name_of : Located → Result (List ℕ) ConfigFault
 short_name_of t = do
   name ← atom_of t
   if nat_lt MAX_NAME (length name) then fails NameTooLong t.at else Ok name
 
--- a timeout is not negative and below its bound
+-- a timeout: not negative, and below the bound
 abbrev pub milliseconds_of : ℕ → Bool → ℕ → Result ℕ ConfigFault
 milliseconds_of at negative n =
     if negative && not (n == 0) then fails BadShape at
     else (if nat_lt n ms_bound then Ok n else fails NumberTooLarge at)
 
--- how long to wait at the start: a number, or forever
+-- how long a start waits: a number, or forever
 unfoldable pub wait_of : Located → Result SyncWait ConfigFault
 wait_of t = waits t.word
   where
@@ -115,7 +115,7 @@ wait_of t = waits t.word
     waits Text = fails BadShape t.at
     waits End = fails BadShape t.at
 
--- `true` or `false`
+-- the flag in a token: `true` or `false`
 unfoldable pub flag_of : Located → Result Bool ConfigFault
 flag_of t = do
   name ← atom_of t
@@ -123,7 +123,7 @@ flag_of t = do
       else (if bytes_eq name (codes "false") then Ok false
       else fails BadShape t.at)
 
--- the parameter that is read and has this name
+-- the parameter with this name, if it is one that is read
 abbrev pub param_named : List ℕ → Option ParamName
 param_named name =
     if bytes_eq name (codes "distributed") then Some named.Distributed
@@ -133,25 +133,25 @@ param_named name =
     else (if bytes_eq name (codes "sync_nodes_timeout") then Some named.Timeout
     else None))))
 
--- a parameter that is read is not among those before it
+-- a parameter that is read must not be among those before it
 abbrev pub first_param : List Param → ℕ → Option ParamName → Result (Option ParamName) ConfigFault
 first_param before at None = Ok None
 first_param before at (Some name) = if has_param name before then fails BadShape at else Ok (Some name)
 
--- which parameter it is by its name, after these
+-- the parameter with the name in the token, after those before it
 unfoldable pub param_name_of : List Param → Located → Result (Option ParamName) ConfigFault
 param_name_of before t = do
   name ← atom_of t
   first_param before t.at (param_named name)
 
--- whether a section is `kernel` by its name, after these
+-- whether the name in the token is `kernel`, after the sections before it
 unfoldable pub names_kernel : List Section → Located → Result Bool ConfigFault
 names_kernel before t = do
   name ← atom_of t
   if bytes_eq name (codes "kernel") then (if has_kernel before then fails BadShape t.at else Ok true)
       else Ok false
 
--- the name of an application that is not among those before it
+-- the name of an application, which must not be among those before it
 unfoldable pub app_name_of : List App → Located → Result (List ℕ) ConfigFault
 app_name_of before t = do
   name ← short_name_of t
@@ -159,7 +159,7 @@ app_name_of before t = do
       else (if nat_le MAX_APPS (length before) then fails TooManyApps t.at
       else Ok name)
 
--- the node that a token is, in the list that is being read
+-- the node in a token, as the next of the current list
 unfoldable pub node_of : Bool → Located → State → Result (List ℕ × State) ConfigFault
 node_of repeats t s = do
   name ← short_name_of t
@@ -167,14 +167,14 @@ node_of repeats t s = do
       else (if not (is_among name s.seen.met) && nat_le MAX_NODES (length s.seen.met) then fails TooManyNodes t.at
       else Ok (name, record s { seen = with_node s.seen name }))
 
--- ---- lists and pairs of any things
+-- ---- lists and pairs of any items
 
--- as many steps as there are tokens left, and one
+-- the number of remaining tokens plus one, a bound for steps
 abbrev pub room : State → ℕ
 room s = suc (length s.left.tokens)
 
--- One or more things, parted by commas, up to the closing symbol. They are those of `before` and, from the token t
--- on, those that `read` gives. At most n of them.
+-- Items separated by commas, up to the closing symbol: those of `before`, and then, from the token t, those that `read`
+-- returns. There is at least one, and at most n.
 unfoldable pub comma_list : {A : Type 0} → (List A → Located → State → Result (A × State) ConfigFault) → Symbol → ℕ
     → List A → Located → State → Result (List A × State) ConfigFault
 comma_list read close zero before t s = fails BadShape t.at
@@ -187,7 +187,7 @@ comma_list read close (suc n) before t s = do
         comma_list read close n (before ++ one.0 ∷ []) next.0 next.1)
       else Ok (before ++ one.0 ∷ [], more.1)
 
--- a list in brackets, which may be empty
+-- a list in brackets, which can be empty
 unfoldable pub list_of : {A : Type 0} → (List A → Located → State → Result (A × State) ConfigFault) → State
     → Result (List A × State) ConfigFault
 list_of read s = do
@@ -196,7 +196,7 @@ list_of read s = do
   if is_symbol CloseList first.0.word then Ok ([], first.1)
       else comma_list read CloseList (room first.1) [] first.0 first.1
 
--- a pair of a name and what `rest` reads behind its comma, whose opening brace is the token t
+-- a pair whose opening brace is the token t: its name, and the result of `rest` after the comma
 unfoldable pub pair_at : {K A : Type 0} → (Located → Result K ConfigFault)
     → (K → State → Result (A × State) ConfigFault) → Located → State → Result (A × State) ConfigFault
 pair_at name_of rest t s =
@@ -208,17 +208,17 @@ pair_at name_of rest t s =
       rest name comma)
     else fails BadShape t.at
 
--- a value, and the brace that closes its pair
+-- a value, followed by the brace that closes its pair
 abbrev pub closed : {A : Type 0} → (State → Result (A × State) ConfigFault) → State → Result (A × State) ConfigFault
 closed value s = do
   one ← value s
   close ← symbol_at CloseTuple one.1
   Ok (one.0, close)
 
--- ---- terms, which are passed over
+-- ---- terms, which are ignored
 
--- Terms parted by commas, each passed over by `pass`, from the token t on up to the closing symbol: the token behind
--- it. At most n terms.
+-- Skips terms separated by commas, each by `pass`, from the token t up to the closing symbol. There are at most n.
+-- Returns the token after it.
 unfoldable pub terms_at : (Located → State → Result (Located × State) ConfigFault) → Symbol → ℕ → Located → State
     → Result (Located × State) ConfigFault
 terms_at pass close zero t s = fails BadShape t.at
@@ -231,21 +231,21 @@ terms_at pass close (suc n) t s = do
         terms_at pass close n next.0 next.1)
       else fails BadShape behind.0.at)
 
--- what stands between brackets behind the opening one: the token behind the closing one
+-- skips the terms between brackets, if any, and the closing one; returns the token after it
 unfoldable pub terms_in : (Located → State → Result (Located × State) ConfigFault) → Symbol → ℕ → State
     → Result (Located × State) ConfigFault
 terms_in pass close n s = do
   first ← token s
   if is_symbol close first.0.word then token first.1 else terms_at pass close n first.0 first.1
 
--- the token behind strings in a row, of which there are at most n
+-- skips at most n consecutive strings; returns the token after them
 unfoldable pub texts_at : ℕ → State → Result (Located × State) ConfigFault
 texts_at zero s = token s
 texts_at (suc n) s = do
   t ← token s
   if is_text t.0.word then texts_at n t.1 else Ok t
 
--- the symbol that closes what this one opens, if it opens a list or a tuple
+-- the closing counterpart of an opening bracket or brace
 abbrev pub closing_of : Symbol → Option Symbol
 closing_of OpenList = Some CloseList
 closing_of OpenTuple = Some CloseTuple
@@ -254,7 +254,7 @@ closing_of CloseTuple = None
 closing_of Comma = None
 closing_of FullStop = None
 
--- the token behind a term that begins with the token t and whose parts are passed over by `pass`
+-- skips the term that begins with the token t, its parts by `pass`; returns the token after it
 unfoldable pub term_by : (Located → State → Result (Located × State) ConfigFault) → ℕ → Located → State
     → Result (Located × State) ConfigFault
 term_by pass n t s = begun t.word
@@ -270,17 +270,17 @@ term_by pass n t s = begun t.word
     begun (Punctuation symbol) = closed_by (closing_of symbol)
     begun End = fails BadShape t.at
 
--- the token behind a term that begins with the token t, in at most n steps
+-- skips the term that begins with the token t in at most n steps; returns the token after it
 unfoldable pub term_at : ℕ → Located → State → Result (Located × State) ConfigFault
 term_at zero t s = fails BadShape t.at
 term_at (suc n) t s = term_by (term_at n) n t s
 
--- so many steps are enough for a term that begins with the token t
+-- n steps suffice for a term that begins with the token t
 pub record IsEnough (t : Located) (s : State) (n : ℕ) : Type 0 where
   pub end : length s.left.tokens < n
   pub token : is_end t.word ≡ false → length s.left.tokens + 1 < n
 
--- a term, which is passed over, and the brace that closes its pair
+-- skips a term and the brace that closes its pair
 unfoldable pub passed_at : State → Result State ConfigFault
 passed_at s = do
   first ← token s
@@ -289,17 +289,17 @@ passed_at s = do
 
 -- ---- node lists
 
--- nodes from the token t on
+-- nodes, from the token t
 abbrev pub names_at : Bool → Symbol → Located → State → Result (List (List ℕ) × State) ConfigFault
 names_at repeats close t s = comma_list (λ _. node_of repeats) close (room s) [] t s
 
--- the nodes of a tuple, whose opening brace stands at this offset
+-- the nodes of a tuple, whose opening brace is at this offset
 abbrev pub tuple_at : ℕ → State → Result (List (List ℕ) × State) ConfigFault
 tuple_at offset s = do
   first ← token s
   if is_symbol CloseTuple first.0.word then fails EmptyTuple offset else names_at false CloseTuple first.0 first.1
 
--- a node, or a tuple of nodes, from the token t on
+-- a single node or a tuple of nodes, from the token t
 unfoldable pub item_at : Located → State → Result (List (List ℕ) × State) ConfigFault
 item_at t s =
     if is_symbol OpenTuple t.word
@@ -310,7 +310,7 @@ item_at t s =
       name ← node_of false t s
       Ok (name.0 ∷ [], name.1))
 
--- the items of a node list, from the token t on
+-- the items of a node list, from the token t
 abbrev pub items_at : Located → State → Result (List (List (List ℕ)) × State) ConfigFault
 items_at t s = comma_list (λ _. item_at) CloseList (room s) [] t s
 
@@ -326,7 +326,7 @@ groups_at t s =
 
 -- ---- applications
 
--- the timeout, if the token t is a number, and the token after it and its comma
+-- the timeout, if the token t is a number, and the first token of the node list
 unfoldable pub timeout_at : Located → State → Result (ℕ × Located × State) ConfigFault
 timeout_at t s = timed t.word
   where
@@ -341,7 +341,7 @@ timeout_at t s = timed t.word
     timed Text = Ok (0, t, s)
     timed End = Ok (0, t, s)
 
--- the timeout, if any, and the node list of the application of this name
+-- the timeout, if written, and the node list of the application of this name
 unfoldable pub app_value_at : List ℕ → State → Result (App × State) ConfigFault
 app_value_at name s = do
   first ← token s
@@ -349,7 +349,7 @@ app_value_at name s = do
   groups ← groups_at timeout.1 timeout.2
   Ok (record { name = name; timeout = timeout.0; groups = groups.0 }, groups.1)
 
--- an application after these, whose opening brace is the token t
+-- an application after those before it, whose opening brace is the token t
 abbrev pub app_at : List App → Located → State → Result (App × State) ConfigFault
 app_at before t s = pair_at (app_name_of before) (λ name. closed (app_value_at name)) t s
 
@@ -387,14 +387,14 @@ param_value_at named.Timeout s = do
   wait ← wait_of t.0
   Ok (Timeout wait, t.1)
 
--- what stands behind the name of a parameter, and the brace that closes it
+-- the rest of a parameter after its name, with the brace that closes it
 unfoldable pub param_rest_at : Option ParamName → State → Result (Param × State) ConfigFault
 param_rest_at (Some name) s = closed (param_value_at name) s
 param_rest_at None s = do
   behind ← passed_at s
   Ok (Param.Other, behind)
 
--- a parameter after these, whose opening brace is the token t
+-- a parameter after those before it, whose opening brace is the token t
 abbrev pub param_at : List Param → Located → State → Result (Param × State) ConfigFault
 param_at before t s = pair_at (param_name_of before) param_rest_at t s
 
@@ -404,29 +404,29 @@ kernel_at s = do
   params ← list_of param_at s
   Ok (Kernel params.0, params.1)
 
--- what stands behind the name of a section, which is `kernel` or not, and the brace that closes it
+-- the rest of a section after its name, which is `kernel` or not, with the brace that closes it
 unfoldable pub section_rest_at : Bool → State → Result (Section × State) ConfigFault
 section_rest_at true s = closed kernel_at s
 section_rest_at false s = do
   behind ← passed_at s
   Ok (Section.Other, behind)
 
--- A section after these, whose opening brace is the token t. In offset of a section a string would be the name of a
--- file to include, which isn't taken.
+-- A section after those before it, whose opening brace is the token t. A string in its place would be the name of a
+-- file to include, which isn't supported.
 unfoldable pub section_at : List Section → Located → State → Result (Section × State) ConfigFault
 section_at before t s =
     if is_text t.word then fails Unsupported t.at else pair_at (names_kernel before) section_rest_at t s
 
 -- ---- the file
 
--- the full stop, and the offset of the end behind it
+-- the full stop and the end after it; returns the offset of the end
 unfoldable pub end_at : State → Result (ℕ × State) ConfigFault
 end_at s = do
   stop ← symbol_at FullStop s
   t ← token stop
   if is_end t.0.word then Ok (t.0.at, t.1) else fails BadShape t.0.at
 
--- a whole file, with one application at least
+-- a whole file, which must list at least one application
 unfoldable pub file_at : State → Result Written ConfigFault
 file_at s = do
   sections ← list_of section_at s

@@ -1,4 +1,4 @@
--- What contracts see of the values that are read.
+-- How contracts see the values that are read.
 use Rattle.std.specs.Prelude.{ℕ, List, map, length, Result}
 use Rattle.std.specs.Borrow.{Bor}
 use Rattle.std.specs.Global.{Vec}
@@ -15,7 +15,7 @@ use Rattle.dac_shapes.specs.declared.param.Section.TheVariants as section
 use Rattle.dac_shapes.specs.Written.{App, Permission, Param, Distributed, Permissions, Mandatory, Optional, Timeout, Section, Kernel, Written}
 use Rattle.dac_shapes.specs.Shape.{State}
 
--- ---- what is read, without where its names lie in memory
+-- ---- drafts, independent of where their names are in memory
 
 abbrev pub names_of : List (Bor (List ℕ)) → List (List ℕ)
 names_of names = map (λ name. name.now) names
@@ -63,25 +63,25 @@ draft_of d = record {
   nodes = names_of d.nodes.items;
 }
 
--- ---- how far a parser is
+-- ---- the state of a parser
 
--- what is left to read, and the names seen so far
+-- the rest to read, and the names seen so far
 abbrev pub parser_state : Parser → State
 parser_state p =
     record { left = p.tokens; seen = record { met = names_of p.met.items; listed = names_of p.listed.items } }
 
--- the token that was read last, and what is left behind it
+-- the current token, and the state after it
 abbrev pub here : Parser → Located × State
 here p = (located_of p.token, parser_state p)
 
--- what this gives from the token that was read last on
+-- the result of `read` from the current token
 abbrev pub from_here : {A : Type 0} → (Located → State → A) → Parser → A
 from_here read p = read (located_of p.token) (parser_state p)
 
--- how many tokens are left
+-- the number of remaining tokens, which decreases
 abbrev pub tokens_left : Parser → ℕ
 tokens_left p = length p.tokens.tokens
 
--- how an element of a list is read, after those before it, from its first token on
+-- reads an element of a list, after those before it, from its first token
 abbrev pub Reading : Type 0 → Type 0
 Reading A = List A → Located → State → Result (A × State) ConfigFault

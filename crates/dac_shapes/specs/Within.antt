@@ -1,4 +1,4 @@
--- The limits of a text in plain words: how many, how long, and what stands once.
+-- The limits of a text as counts, lengths and distinctness, without an order of reading.
 use Rattle.std.specs.Prelude.{◌≡◌, ℕ, ◌<◌, ◌≤◌, true, List, [], ◌∷◌, ◌++◌, length, map, fold, All, count_by}
 use Rattle.std.specs.List.{IsDistinct}
 use Rattle.std.specs.Str.{bytes_eq}
@@ -8,7 +8,7 @@ use Rattle.dac_shapes.specs.declared.param.ParamName.{ParamName}
 use Rattle.dac_shapes.specs.Written.{App, Permission, Param, Distributed, Permissions, Mandatory, Optional, Timeout, Section, Kernel, Written, name_of}
 use Rattle.dac_shapes.specs.Limits.{is_among, is_named, is_kernel, with_name}
 
--- lists one after another
+-- the concatenation of lists
 abbrev pub joined : {A : Type 0} → List (List A) → List A
 joined [] = []
 joined (xs ∷ lists) = xs ++ joined lists
@@ -36,22 +36,22 @@ names_of_param Param.Other = []
 abbrev pub names_in : List Section → List (List ℕ)
 names_in sections = joined (map names_of_param (params_in sections))
 
--- each name once, where it first stands
+-- each name once, in order of first occurrence
 abbrev pub firsts : List (List ℕ) → List (List ℕ)
 firsts names = fold with_name [] names
 
--- the different names of nodes in sections, in the order in which they first stand
+-- the distinct names of nodes in sections, in order of first occurrence
 abbrev pub nodes_in : List Section → List (List ℕ)
 nodes_in sections = firsts (names_in sections)
 
--- at most MAX_APPS applications with different names of at most MAX_NAME bytes, and in none's list a node twice
+-- at most MAX_APPS applications, with distinct names of at most MAX_NAME bytes, each without a repeated node
 pub record AreAppsWithin (apps : List App) : Type 0 where
   pub few : length apps ≤ MAX_APPS
   pub short : All (λ app. length app.name ≤ MAX_NAME) apps
   pub different : IsDistinct bytes_eq (map (λ app. app.name) apps)
   pub once : All (λ app. IsDistinct bytes_eq (names_of_app app)) apps
 
--- names of at most MAX_NAME bytes
+-- the names of permissions have at most MAX_NAME bytes
 abbrev pub ArePermissionsWithin : List Permission → Type 0
 ArePermissionsWithin permissions = All (λ permission. length permission.name ≤ MAX_NAME) permissions
 
@@ -64,8 +64,8 @@ IsValueWithin (Optional names) = Unit {0}
 IsValueWithin (Timeout wait) = Unit {0}
 IsValueWithin Param.Other = Unit {0}
 
--- Sections keep the limits. `kernel` stands once at most, and so does each parameter that is read. The applications
--- and permissions keep theirs. There are at most MAX_NODES different names of nodes, of at most MAX_NAME bytes each.
+-- Sections keep the limits: at most one is `kernel`, each parameter that is read occurs at most once, applications and
+-- permissions keep their limits, and there are at most MAX_NODES distinct nodes, with names of at most MAX_NAME bytes.
 pub record AreWithinLimits (sections : List Section) : Type 0 where
   pub kernel : count_by is_kernel sections ≤ 1
   pub params : (name : ParamName) → count_by (λ param. is_named name (name_of param)) (params_in sections) ≤ 1
@@ -73,9 +73,9 @@ pub record AreWithinLimits (sections : List Section) : Type 0 where
   pub short : All (λ name. length name ≤ MAX_NAME) (names_in sections)
   pub few : length (nodes_in sections) ≤ MAX_NODES
 
--- What is written keeps the limits: the applications and permissions theirs. The nodes are at most MAX_NODES
--- different names of at most MAX_NAME bytes, among which are all that are written. An application has at most
--- MAX_NODES groups, none of them empty.
+-- A draft keeps the limits: applications and permissions keep theirs. The nodes are at most MAX_NODES distinct names of
+-- at most MAX_NAME bytes, and include all names that the draft refers to. An application has at most MAX_NODES groups,
+-- none of them empty.
 pub record IsWithinLimits (w : Written) : Type 0 where
   pub apps : AreAppsWithin w.apps
   pub permissions : ArePermissionsWithin w.permissions

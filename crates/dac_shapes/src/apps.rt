@@ -17,8 +17,7 @@ use crate::parser::Parser;
 use dac_tokens::{ConfigFault, FaultKind, Symbol, Token};
 
 impl Parser<'_> {
-    /// The timeout of an application, if the token is a number, and 0 if not. Behind a timeout and its comma the next
-    /// token is read.
+    /// The timeout of an application, or 0 if the current token is no number. Skips the timeout and its comma.
     #[tactic(auto, unfolding(crate::specs::Shape::timeout_at))]
     fn timeout(&mut self) -> Result<u32, ConfigFault>
         ensures read { Gives (λ ms. (ms, located_of self.new.token, parser_state self.new)) result

@@ -1,4 +1,4 @@
-//! What a configuration text says, as it is written.
+//! The contents of a configuration text, as they are written.
 
 ghost use Rattle.std.specs.Prelude.{◌≡◌};
 ghost use Rattle.dac_shapes.specs.Written.{put, put_section, written};
@@ -7,14 +7,14 @@ ghost use Rattle.dac_shapes.specs.Views.{draft_of, names_of, param_of, section_o
 use crate::param::{Param, Section};
 use std::alloc::Global;
 
-/// How long a node waits for others at its start (OTP's kernel parameter `sync_nodes_timeout`).
+/// How long a starting node waits for the other nodes (OTP's kernel parameter `sync_nodes_timeout`).
 #[derive(Clone, Copy, Debug, PartialEq, Eq)]
 pub enum SyncWait {
     /// The parameter isn't defined: the node doesn't wait.
     NoSync,
-    /// Until all of them are there.
+    /// Until all of them are up.
     Forever,
-    /// At most so many milliseconds.
+    /// At most this many milliseconds.
     Ms(u32),
 }
 
@@ -23,35 +23,35 @@ pub enum SyncWait {
 pub struct DraftApp<'a> {
     /// The application's name, without quotes.
     pub name: &'a [u8],
-    /// How long a failover waits, in milliseconds; 0 if it isn't written.
+    /// How long a failover waits, in milliseconds; 0 if the text has no timeout.
     pub timeout: u32,
-    /// The nodes by priority: each item of the list is a group, a node by itself or a tuple.
+    /// The nodes by priority: each item of the list is a group, either a single node or a tuple.
     pub groups: Vec<Vec<&'a [u8]>>,
 }
 
-/// Whether an application may run at a start (OTP's kernel parameter `permissions`).
+/// Whether an application is permitted to run (OTP's kernel parameter `permissions`).
 #[derive(Clone, Copy)]
 pub struct Permission<'a> {
-    /// The application's name; it may be one that the text doesn't distribute.
+    /// The application's name; `distributed` doesn't necessarily list it.
     pub name: &'a [u8],
-    /// Whether it may run.
+    /// Whether it is permitted until a command changes this.
     pub value: bool,
 }
 
-/// What a text says, with the names that lie in the text.
+/// The contents of a text, with names borrowed from it.
 #[derive(Drop)]
 pub struct Draft<'a> {
     /// The applications in the order of the text.
     pub apps: Vec<DraftApp<'a>>,
-    /// The permissions in the order of the text, as written: one application may have several.
+    /// The permissions in the order of the text, as written: an application can have several.
     pub permissions: Vec<Permission<'a>>,
-    /// The nodes that have to be there at a start, as written.
+    /// The nodes that a start requires (`sync_nodes_mandatory`), as written.
     pub mandatory: Vec<&'a [u8]>,
-    /// The nodes that may be there at a start, as written.
+    /// The nodes that a start waits for but doesn't require (`sync_nodes_optional`), as written.
     pub optional: Vec<&'a [u8]>,
-    /// How long a node waits for them at its start.
+    /// How long a starting node waits for both.
     pub sync_wait: SyncWait,
-    /// The names of all nodes, each once, in the order in which they first stand.
+    /// The names of all nodes, each once, in order of first occurrence.
     pub nodes: Vec<&'a [u8]>,
 }
 
@@ -80,7 +80,7 @@ impl<'a> Draft<'a> {
         }
     }
 
-    /// What sections say of these nodes.
+    /// The draft of these sections, with these nodes.
     pub fn of_sections(alloc: Global, sections: Vec<Section<'a>>, nodes: Vec<&'a [u8]>) -> Self
         ensures { draft_of result
             ≡ written (sections_of sections.entry.items) (names_of nodes.entry.items) }

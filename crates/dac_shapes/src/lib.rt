@@ -1,12 +1,12 @@
-//! The shape of a configuration text: from tokens to the names and numbers that are written.
+//! The parser of configuration texts: from tokens to the names and numbers that are written.
 //!
-//! [`parse_draft`] is the parser. It answers what a text says as a [`Draft`], or its first fault in text order. The
-//! promise: a text is read exactly on four conditions. It has at most 65,536 bytes. Its tokens are a file by the grammar
-//! of OTP's `sys.config`. The file keeps the limits. It lists one application at least. Then what it says is given.
-//! Any other text has its first fault answered, at its offset.
+//! [`parse_draft`] returns the contents of a text as a [`Draft`], or the first fault in text order. It promises that,
+//! unless memory runs out, a text is read exactly if it has at most 65,536 bytes, its tokens form a file by the grammar
+//! of OTP's `sys.config`, the file keeps the limits, and it lists at least one application. The draft is then the one
+//! that the text spells. No other function here allocates.
 //!
-//! Which fault that is says the function `draft_at`, which reads as the parser does. A law that is said without a reader
-//! says it too: it stands in `dac_first_fault`, with the reader of drafts, which promises both.
+//! Which fault is returned is defined by the function `draft_at`, which mirrors the parser. `dac_first_fault` has a law
+//! that determines the same fault without mentioning a reader.
 //!
 //! Of the section `kernel` the parameters `distributed`, `permissions`, `sync_nodes_mandatory`, `sync_nodes_optional`
 //! and `sync_nodes_timeout` are read. Any other section or parameter is a pair of a name and a term, which is parsed

@@ -2,8 +2,8 @@
 
 pub use dac_base::{MAX_APPS, MAX_NODES};
 
-/// How many bytes the name of a node or an application has at most.
+/// The maximum length of a node's or application's name, in bytes.
 pub const MAX_NAME: usize = 255;
 
-/// How many bytes a configuration text has at most.
+/// The maximum length of a configuration text, in bytes.
 pub const MAX_TEXT: usize = 65536;

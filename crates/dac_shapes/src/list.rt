@@ -1,4 +1,4 @@
-//! Lists of any elements, parted by commas.
+//! Lists of elements separated by commas.
 
 ghost use Rattle.std.specs.Prelude.{◌≤◌, [], map};
 ghost use Rattle.dac_tokens.specs.Gives.{Gives};
@@ -8,20 +8,19 @@ ghost use Rattle.dac_shapes.specs.Views.{Reading, from_here, parser_state, token
 use crate::parser::Parser;
 use dac_tokens::{ConfigFault, Symbol};
 
-/// A kind of thing that may stand in a list: how one element is read, after those before it.
+/// A kind of list element, with the way to read one after those before it.
 pub trait Elements<'a> {
-    /// An element, with the names that lie in the text.
+    /// An element, with names borrowed from the text.
     type Element: Drop;
 
-    // what an element says, without where its names lie
+    // an element as a value, independent of where its names are in memory
     ghost Said: { Type 0 };
 
     ghost said: { Self.Element → Said };
 
-    // what the definition of the shapes reads
     ghost read_at: { Reading Said };
 
-    /// The element that begins with the parser's token.
+    /// Reads the element that begins with the current token.
     fn read(parser: &mut Parser<'a>, before: &[Self::Element]) -> Result<Self::Element, ConfigFault>
         ensures read { Gives (λ x. (said x, parser_state parser.new)) result
             (from_here (read_at (map said before.now)) parser.old) }
@@ -29,7 +28,7 @@ pub trait Elements<'a> {
 }
 
 impl<'a> Parser<'a> {
-    /// Elements parted by commas, of which the first begins with the token, up to the closing symbol.
+    /// Elements separated by commas, of which the first begins with the current token, up to the closing symbol.
     pub fn comma_list<E: Elements<'a>>(
         &mut self,
         close: Symbol,
@@ -49,7 +48,7 @@ impl<'a> Parser<'a> {
         }
     }
 
-    /// A list in brackets, which may be empty.
+    /// A list in brackets, which can be empty.
     #[tactic(auto, unfolding(crate::specs::Shape::list_of))]
     pub fn list<E: Elements<'a>>(&mut self) -> Result<Vec<E::Element>, ConfigFault>
         ensures read { Gives (λ all. (map E.said all.items, parser_state self.new)) result

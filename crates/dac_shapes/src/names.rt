@@ -1,4 +1,4 @@
-//! The names that tokens are.
+//! Names as tokens.
 
 ghost use Rattle.std.specs.Prelude.{◌≡◌};
 ghost use Rattle.std.specs.Str.{bytes_eq};
@@ -19,7 +19,7 @@ pub fn is_among(name: &[u8], names: &[&[u8]]) -> bool
     names.contains(&name)
 }
 
-/// Whether a name has these bytes.
+/// Whether a name consists of these bytes.
 pub fn spells(word: &[u8], name: &[u8]) -> bool
     ensures { result ≡ bytes_eq name.now word.now }
 {
@@ -27,7 +27,7 @@ pub fn spells(word: &[u8], name: &[u8]) -> bool
 }
 
 impl<'a> Parser<'a> {
-    /// The name that the token is.
+    /// The name in the current token.
     #[tactic(auto, unfolding(crate::specs::Shape::atom_of))]
     pub fn atom(&self) -> Result<&'a [u8], ConfigFault>
         ensures { Gives (λ x. x.now) result (atom_of (located_of self.now.token)) }
@@ -38,7 +38,7 @@ impl<'a> Parser<'a> {
         }
     }
 
-    /// The name, of at most 255 bytes, that the token is.
+    /// The name in the current token, of at most 255 bytes.
     #[tactic(auto, unfolding(crate::specs::Shape::short_name_of))]
     pub fn short_name(&self) -> Result<&'a [u8], ConfigFault>
         ensures { Gives (λ x. x.now) result (short_name_of (located_of self.now.token)) }

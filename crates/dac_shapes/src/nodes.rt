@@ -11,7 +11,7 @@ use crate::names::is_among;
 use crate::parser::{Parser, fault};
 use dac_tokens::{ConfigFault, FaultKind, Symbol};
 
-/// Nodes by their names, of which each stands once in its list.
+/// Nodes by name, distinct within their list.
 pub struct Nodes;
 
 impl<'a> Elements<'a> for Nodes {
@@ -28,7 +28,7 @@ impl<'a> Elements<'a> for Nodes {
     }
 }
 
-/// Nodes that a start waits for, of which each may stand several times.
+/// Nodes of the sync lists, which can contain a node several times.
 pub struct SyncNodes;
 
 impl<'a> Elements<'a> for SyncNodes {
@@ -45,7 +45,7 @@ impl<'a> Elements<'a> for SyncNodes {
     }
 }
 
-/// The groups of a node list: each is a node by itself, or a tuple of nodes.
+/// The groups of a node list: each is a single node or a tuple of nodes.
 pub struct Groups;
 
 impl<'a> Elements<'a> for Groups {
@@ -72,7 +72,7 @@ impl<'a> Elements<'a> for Groups {
 }
 
 impl<'a> Parser<'a> {
-    /// The node that the token is, in the list that is being read.
+    /// The node in the current token, as the next of the current list.
     #[tactic(auto, unfolding(crate::specs::Shape::node_of))]
     fn node(&mut self, repeats: bool) -> Result<&'a [u8], ConfigFault>
         ensures read { Gives (λ name. (name.now, parser_state self.new)) result
@@ -93,7 +93,7 @@ impl<'a> Parser<'a> {
         Ok(name)
     }
 
-    /// The nodes of a tuple, whose opening brace is the token.
+    /// The nodes of a tuple, whose opening brace is the current token.
     fn tuple(&mut self) -> Result<Vec<&'a [u8]>, ConfigFault>
         ensures read { Gives (λ group. (names_of group.items, parser_state self.new)) result
             (tuple_at self.old.token.at (parser_state self.old)) }
@@ -107,7 +107,7 @@ impl<'a> Parser<'a> {
         self.comma_list::<Nodes>(Symbol::CloseTuple)
     }
 
-    /// A node list, whose opening bracket is the token.
+    /// A node list, whose opening bracket is the current token.
     #[tactic(auto, unfolding(crate::specs::Shape::groups_at))]
     pub fn groups(&mut self) -> Result<Vec<Vec<&'a [u8]>>, ConfigFault>
         ensures read { Gives (λ groups. (groups_of groups.items, parser_state self.new)) result

@@ -1,4 +1,4 @@
-//! The numbers that tokens are.
+//! Numbers as tokens.
 
 ghost use Rattle.std.specs.Prelude.{◌≡◌, Some, None, if◌then◌else◌, nat_lt};
 ghost use Rattle.dac_tokens.specs.Gives.{Gives};
@@ -12,7 +12,7 @@ use crate::names::spells;
 use crate::parser::{Parser, fault};
 use dac_tokens::{ConfigFault, FaultKind, Token};
 
-/// The number that the digits are, if it fits.
+/// The value of the digits, if it fits.
 fn number_of(digits: &[u8]) -> Option<u32>
     ensures { result
         ≡ (if nat_lt (value_from 0 digits.now) ms_bound then Some (value_from 0 digits.now)
@@ -27,7 +27,7 @@ fn number_of(digits: &[u8]) -> Option<u32>
     Some(value)
 }
 
-/// A timeout is not negative and below 2 ^ 32.
+/// A timeout, in milliseconds: not negative and below 2 ^ 32.
 pub fn milliseconds_of(at: usize, negative: bool, digits: &[u8]) -> Result<u32, ConfigFault>
     ensures { Gives (λ n. n) result (milliseconds_of at negative (value_from 0 digits.now)) }
 {
@@ -50,7 +50,7 @@ pub fn milliseconds_of(at: usize, negative: bool, digits: &[u8]) -> Result<u32, 
 }
 
 impl Parser<'_> {
-    /// How long to wait at the start: the token is a number, or `infinity`.
+    /// How long a start waits: the current token is a number or `infinity`.
     #[tactic(auto, unfolding(crate::specs::Shape::wait_of))]
     pub fn wait(&self) -> Result<SyncWait, ConfigFault>
         ensures { Gives (λ wait. wait) result (wait_of (located_of self.now.token)) }

@@ -13,12 +13,12 @@ use crate::parser::Parser;
 use dac_tokens::{ConfigFault, FaultKind, Symbol};
 use std::marker::PhantomData;
 
-/// What is written as a pair: how its name is read, after the pairs before it, and what stands behind the name.
+/// A pair: how to read its name, after the pairs before it, and then the rest.
 pub trait NamedPair<'a>: Drop {
-    /// What the name says.
+    /// The name's meaning.
     type Name: Drop;
 
-    // what name and pair say, without where names lie
+    // name and pair as values, independent of where names are in memory
     ghost Named: { Type 0 };
 
     ghost named: { Self.Name → Named };
@@ -27,17 +27,17 @@ pub trait NamedPair<'a>: Drop {
 
     ghost said: { Self → Said };
 
-    // what the definition of the shapes reads
+    // the definitions that `name` and `rest` implement
     ghost name_at: { List Said → Token → Result Named Fault };
 
     ghost rest_at: { Named → State → Result (Said × State) Fault };
 
-    /// The name that the parser's token is.
+    /// Reads the name in the current token.
     fn name(parser: &Parser<'a>, before: &[Self]) -> Result<Self::Name, ConfigFault>
         ensures { Gives named result
             (name_at (map said before.now) (located_of parser.now.token)) };
 
-    /// What stands behind the comma, with the brace that closes the pair.
+    /// Reads the rest after the comma, up to and including the brace that closes the pair.
     fn rest(parser: &mut Parser<'a>, name: Self::Name) -> Result<Self, ConfigFault>
         ensures read { Gives (λ x. (said x, parser_state parser.new)) result
             (rest_at (named name) (parser_state parser.old)) }
@@ -58,7 +58,7 @@ impl<'a, P: NamedPair<'a>> Elements<'a> for NamedPairs<'a, P> {
 
     ghost read_at = { λ before. pair_at (P.name_at before) P.rest_at };
 
-    /// A pair, whose opening brace is the token.
+    /// Reads a pair, whose opening brace is the current token.
     #[tactic(auto, unfolding(crate::specs::Shape::pair_at))]
     fn read(parser: &mut Parser<'a>, before: &[P]) -> Result<P, ConfigFault> {
         if !parser.is(Symbol::OpenTuple) {
@@ -72,7 +72,7 @@ impl<'a, P: NamedPair<'a>> Elements<'a> for NamedPairs<'a, P> {
 }
 
 impl<'a> Parser<'a> {
-    /// This value, if the brace that closes its pair comes next.
+    /// Returns this value if the brace that closes its pair comes next.
     pub fn close_pair<T: Drop>(&mut self, value: T) -> Result<T, ConfigFault>
         ensures read { Gives (λ _. parser_state self.new) result
             (symbol_at CloseTuple (parser_state self.old)) }

@@ -20,7 +20,7 @@ pub enum ParamName {
     Timeout,
 }
 
-/// A parameter with its value, or one that isn't read.
+/// A parameter with its value, or one that is ignored.
 #[derive(Drop)]
 pub enum Param<'a> {
     Distributed(Vec<DraftApp<'a>>),
@@ -31,7 +31,7 @@ pub enum Param<'a> {
     Other,
 }
 
-/// The section `kernel` with its parameters, or one that isn't read.
+/// The section `kernel` with its parameters, or one that is ignored.
 #[derive(Drop)]
 pub enum Section<'a> {
     Kernel(Vec<Param<'a>>),
@@ -39,7 +39,7 @@ pub enum Section<'a> {
 }
 
 impl ParamName {
-    /// The parameter that has this name in the text, if it is read.
+    /// The parameter with this name in the text, if it is one that is read.
     pub fn of_name(name: &[u8]) -> Option<Self>
         ensures { result ≡ param_named name.now }
     {
@@ -63,7 +63,7 @@ impl ParamName {
 }
 
 impl Param<'_> {
-    /// Which of the parameters that are read it is.
+    /// The parameter's name, if it is one that is read.
     fn name(&self) -> Option<ParamName>
         ensures { result ≡ name_of (param_of self.now) }
     {

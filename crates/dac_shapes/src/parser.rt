@@ -1,4 +1,4 @@
-//! What is left of a text, and the token that was read last.
+//! The state of the parser: the rest of the text and the current token.
 
 ghost use Rattle.std.specs.Prelude.{◌≡◌, ◌<◌, ◌≤◌, IfOk, true, false};
 ghost use Rattle.dac_tokens.specs.Gives.{Gives};
@@ -9,8 +9,7 @@ ghost use Rattle.dac_shapes.specs.Views.{here, parser_state, tokens_left};
 use dac_tokens::{ConfigFault, FaultKind, Located, Symbol, Token, Tokens};
 use std::alloc::Global;
 
-/// What is left of the text behind the token that was read last, the different nodes met so far, and those of the list
-/// that is being read.
+/// The rest of the text after the current token, the distinct nodes met so far, and those of the current list.
 #[derive(Drop)]
 pub struct Parser<'a> {
     pub alloc: Global,
@@ -27,7 +26,7 @@ pub fn fault(kind: FaultKind, at: usize) -> ConfigFault
 }
 
 impl Parser<'_> {
-    /// Reads the next token; behind the end stands the end again.
+    /// Reads the next token; after the end of the text, the end again.
     pub fn advance(&mut self) -> Result<(), ConfigFault>
         ensures read { Gives (λ _. here self.new) result (token (parser_state self.old)) }
         ensures left { tokens_left self.new ≤ tokens_left self.old }
@@ -38,7 +37,7 @@ impl Parser<'_> {
         Ok(())
     }
 
-    /// Whether the token is this symbol.
+    /// Whether the current token is this symbol.
     pub fn is(&self, symbol: Symbol) -> bool
         ensures { result ≡ is_symbol symbol (word_of self.now.token.token) }
     {
@@ -48,7 +47,7 @@ impl Parser<'_> {
         }
     }
 
-    /// Whether the token is a string.
+    /// Whether the current token is a string.
     pub fn is_text(&self) -> bool
         ensures { result ≡ is_text (word_of self.now.token.token) }
     {
@@ -58,14 +57,14 @@ impl Parser<'_> {
         }
     }
 
-    /// A fault at the token.
+    /// A fault at the current token.
     pub fn fault(&self, kind: FaultKind) -> ConfigFault
         ensures { result ≡ record { kind = kind; at = self.now.token.at } }
     {
         fault(kind, self.token.at)
     }
 
-    /// Passes over this symbol, which comes next.
+    /// Reads the next token, which must be this symbol.
     #[tactic(auto, unfolding(crate::specs::Shape::symbol_at))]
     pub fn symbol(&mut self, symbol: Symbol) -> Result<(), ConfigFault>
         ensures read { Gives (λ _. parser_state self.new) result
@@ -79,7 +78,7 @@ impl Parser<'_> {
         Ok(())
     }
 
-    /// Reads the token behind this symbol, which comes next.
+    /// Reads two tokens, of which the first must be this symbol.
     #[tactic(auto)]
     pub fn after(&mut self, symbol: Symbol) -> Result<(), ConfigFault>
         ensures read { Gives (λ _. here self.new) result
@@ -90,7 +89,7 @@ impl Parser<'_> {
         self.advance()
     }
 
-    /// Whether a comma comes next, or else this symbol.
+    /// Reads the next token. Returns true for a comma and false for the closing symbol; any other token is a fault.
     #[tactic(auto, unfolding(crate::specs::Shape::more_at))]
     pub fn more(&mut self, close: Symbol) -> Result<bool, ConfigFault>
         ensures read { Gives (λ b. (b, parser_state self.new)) result

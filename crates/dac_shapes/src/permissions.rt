@@ -14,7 +14,7 @@ use crate::parser::Parser;
 use dac_tokens::{ConfigFault, FaultKind, Token};
 
 impl Parser<'_> {
-    /// The flag that the token is: `true` or `false`.
+    /// The flag in the current token: `true` or `false`.
     #[tactic(auto, unfolding(crate::specs::Shape::atom_of, crate::specs::Shape::flag_of))]
     fn flag(&self) -> Result<bool, ConfigFault>
         ensures { Gives (λ flag. flag) result (flag_of (located_of self.now.token)) }

@@ -17,7 +17,7 @@ use crate::parser::{Parser, fault};
 use dac_tokens::{ConfigFault, FaultKind, Symbol, Token};
 
 impl<'a> Parser<'a> {
-    /// The value of the parameter of this name.
+    /// Reads the value of the parameter of this name.
     #[tactic(auto, unfolding(crate::specs::Shape::param_value_at))]
     fn param_value(&mut self, name: ParamName) -> Result<Param<'a>, ConfigFault>
         ensures read { Gives (λ param. (param_of param, parser_state self.new)) result
@@ -41,7 +41,7 @@ impl<'a> Parser<'a> {
         }
     }
 
-    /// The full stop and the end behind it, and the offset of the end.
+    /// Reads the full stop and the end after it. Returns the offset of the end.
     #[tactic(auto, unfolding(crate::specs::Shape::end_at))]
     fn end(&mut self) -> Result<usize, ConfigFault>
         ensures { Gives (λ at. (at, parser_state self.new)) result
@@ -54,7 +54,7 @@ impl<'a> Parser<'a> {
         }
     }
 
-    /// A whole file.
+    /// Reads a whole file, up to the end of the text.
     #[tactic(auto, unfolding(crate::specs::Shape::file_at))]
     pub fn file(mut self) -> Result<Draft<'a>, ConfigFault>
         ensures { Gives draft_of result (file_at (parser_state self.entry)) }
@@ -107,7 +107,7 @@ impl<'a> NamedPair<'a> for Param<'a> {
     }
 }
 
-/// Sections, of which `kernel` stands once.
+/// Sections, of which at most one is `kernel`.
 pub struct Sections;
 
 impl<'a> Elements<'a> for Sections {

@@ -1,4 +1,4 @@
-//! Terms, which are parsed and ignored.
+//! Terms that are parsed and ignored.
 
 ghost use Rattle.std.specs.Prelude.{◌≡◌, ℕ, ◌<◌, ◌≤◌, IfOk, false};
 ghost use Rattle.dac_tokens.specs.Words.{located_of, word_of, is_end};
@@ -9,7 +9,7 @@ ghost use Rattle.dac_shapes.specs.Views.{here, from_here, parser_state, tokens_l
 use crate::parser::Parser;
 use dac_tokens::{ConfigFault, FaultKind, Symbol, Token};
 
-/// The symbol that closes what this one opens, if it opens a list or a tuple.
+/// The closing counterpart of an opening bracket or brace.
 fn closing_of(symbol: Symbol) -> Option<Symbol>
     ensures { result ≡ closing_of symbol }
 {
@@ -21,7 +21,7 @@ fn closing_of(symbol: Symbol) -> Option<Symbol>
 }
 
 impl Parser<'_> {
-    /// Reads the token behind strings in a row, of which the first is the token.
+    /// Skips consecutive strings, beginning with the current token, so that the token after them becomes current.
     fn after_texts(&mut self) -> Result<(), ConfigFault>
         ensures read { (n : ℕ) → tokens_left self.old < n
             → Gives (λ _. here self.new) result (texts_at n (parser_state self.old)) }
@@ -37,7 +37,7 @@ impl Parser<'_> {
         }
     }
 
-    /// Reads the token behind the closing symbol, up to which terms parted by commas, or nothing, stand.
+    /// Skips terms separated by commas, or none, with the closing symbol, so that the token after it becomes current.
     #[cycle(terms)]
     fn after_terms(&mut self, close: Symbol) -> Result<(), ConfigFault>
         ensures read { (n : ℕ) → tokens_left self.old < n
@@ -63,7 +63,7 @@ impl Parser<'_> {
         }
     }
 
-    /// Reads the token behind a term, which begins with the token.
+    /// Skips the term that begins with the current token, so that the token after it becomes current.
     #[cycle(terms)]
     fn after_term(&mut self) -> Result<(), ConfigFault>
         ensures read { (n : ℕ) → IsEnough (located_of self.old.token) (parser_state self.old) n
@@ -83,7 +83,7 @@ impl Parser<'_> {
         }
     }
 
-    /// Passes over a term and the brace that closes its pair.
+    /// Skips a term and the brace that closes its pair.
     #[tactic(auto, unfolding(crate::specs::Shape::passed_at))]
     pub fn pass(&mut self) -> Result<(), ConfigFault>
         ensures read { Gives (λ _. parser_state self.new) result

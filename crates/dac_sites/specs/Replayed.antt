@@ -1,4 +1,4 @@
--- A node that goes on as the model's.
+-- A node that handles an event as the model does.
 use Rattle.std.specs.Prelude.{◌≡◌}
 use Rattle.dac_base.specs.declared.NodeId.{NodeId}
 use Rattle.dac_config.specs.Table.{Table}
@@ -7,6 +7,6 @@ use Rattle.dac_journal.specs.NodeValue.{NodeValue}
 use Rattle.dac_journal.specs.ModelNode.{ModelNode, shown}
 use Rattle.dac_journal.specs.Step.{model_step}
 
--- each model node that shows as the old one shows as the new one after the event
+-- a model node that shows as the old node shows as the new one after the event
 abbrev pub GoesOn : Table → NodeId → NodeValue → Event → NodeValue → Type 0
 GoesOn t me old event new = (d : ModelNode) → shown t d ≡ old → shown t (model_step t me d event).node ≡ new

@@ -3,8 +3,8 @@ use Rattle.std.specs.Prelude.{◌≡◌, ℕ}
 use Rattle.dac_journal.specs.Journals.{Beginning}
 use Rattle.dac_sites.specs.declared.blank.SiteBlank.{SiteBlank}
 
--- The name stands for this blank. Its ledger is the blank's, with a part for each seat, and its journal begins where
--- the blank's does.
+-- The name belongs to this blank: it has the blank's ledger, with a part for each seat, and the beginning of the
+-- blank's journal.
 pub record IsBlankOf (b : SiteBlank) (name parts seats : ℕ) (beginning : Beginning) : Type 0 where
   pub named : b.blank.name ≡ name
   pub parted : b.blank.parts ≡ parts

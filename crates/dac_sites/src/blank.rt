@@ -1,4 +1,4 @@
-//! Names of sites, and sites that have none yet.
+//! Names of sites, and sites that aren't named yet.
 
 ghost use Rattle.std.specs.Prelude.{◌≡◌, ◌<◌, [], length, vec_len, IfOk};
 ghost use Rattle.dac_journal.specs.Journals.{beginning_of};
@@ -14,15 +14,15 @@ use std::marker::Brand;
 use std::sync::Wait;
 use std::sync::ledger::{Blank, Ledger};
 
-/// The name of a site. Seats and receipts carry it, so that those of another site are of another type.
+/// A type that names one site. Seats and receipts carry it as a parameter, so those of another site have another type.
 pub trait SiteName: Ledger {
     ghost use Rattle.std.specs.Prelude.{ℕ};
     ghost use Rattle.dac_journal.specs.Journals.{Beginning};
 
-    /// How many seats it has.
+    /// The number of the site's seats.
     ghost seats: { ℕ };
 
-    /// Where its journal begins.
+    /// The beginning of the site's journal.
     ghost beginning: { Beginning };
 }
 
@@ -34,14 +34,14 @@ impl SiteName for Brand {
     ghost beginning = { nowhere };
 }
 
-/// A site that has no name yet: its journal is empty. It isn't `Drop`: open it by [`open_site`](crate::open_site), or end
-/// it by [`SiteBlank::give_up`].
+/// A site that has no name yet, with an empty journal. It can't be dropped: open it with
+/// [`open_site`](crate::open_site), or end it with [`SiteBlank::give_up`].
 pub struct SiteBlank {
-    /// What the ledger of its name is opened from, with a part for each seat.
+    /// The blank of the ledger of the site's name, with a part for each seat.
     pub blank: Blank,
     /// The journal, with the node and its pages.
     pub paged: PagedJournal,
-    /// How many seats it is for.
+    /// The number of seats, at least 1.
     pub seats: u16,
     pub(crate) readers: Vec<RawReader>,
     pub(crate) alloc: Global,
@@ -51,7 +51,7 @@ pub struct SiteBlank {
 }
 
 impl SiteBlank {
-    /// The journal with its pages alone, where no site is to be opened.
+    /// Keeps only the journal with its pages, for a caller that opens no site.
     pub fn into_paged_journal(self) -> PagedJournal
         ensures { result ≡ self.paged }
     {
@@ -65,13 +65,12 @@ impl SiteBlank {
         paged
     }
 
-    /// Ends it, where no site is to be opened.
+    /// Ends a blank that isn't opened.
     pub fn give_up<R: Wait>(self, rt: &R) {
         self.into_paged_journal().end(rt);
     }
 }
 
-/// Readers of these pages, as many.
 fn readers_of(alloc: Global, paged: &PagedJournal, count: u16) -> Result<Vec<RawReader>, OpenFault>
     ensures { IfOk result (λ all. vec_len all ≡ count) }
 {
@@ -85,11 +84,11 @@ fn readers_of(alloc: Global, paged: &PagedJournal, count: u16) -> Result<Vec<Raw
     Ok(all)
 }
 
-/// A node that is off after so many incarnations, with an empty journal, for so many seats: one at least. So many readers
-/// have places in its pages.
+/// A blank site of node `me`, which is off and whose last incarnation was `last`, with an empty journal, `seats` seats
+/// and `readers` readers.
 ///
-/// `NoReader` comes where the page structure refuses a reader's place. Its contract doesn't say when it does, and so this one
-/// doesn't either. A test asks for many readers, and each has a place.
+/// Fails with `NoReader` if the page structure refuses a reader. The structure's contract doesn't say when it does, so
+/// neither can this one; in the tests it never did. Fails with `NoMemory` if an allocation does.
 pub fn blank_site<R: Wait>(
     rt: &R,
     alloc: Global,
@@ -105,7 +104,7 @@ pub fn blank_site<R: Wait>(
     ensures readers { IfOk result (λ b. vec_len b.readers ≡ readers) }
 {
     let config = config.copy()?;
-    // With no readers one place is made all the same.
+    // The page structure needs at least one place.
     let places = usize::from(readers.max(1));
     let paged = PagedJournal::open(alloc, Journal::new(alloc, config, me, last), places)?;
     match readers_of(alloc, &paged, readers) {

@@ -1,4 +1,4 @@
-//! What calls of a site refuse.
+//! Faults of sites and of their calls.
 
 ghost use Rattle.std.specs.Prelude.{◌≡◌};
 
@@ -7,13 +7,13 @@ use dac_events::Refusal;
 use std::alloc::AllocFailed;
 use thiserror::Error;
 
-/// Why a site is not opened.
+/// Why a site can't be opened.
 #[derive(Clone, Copy, Debug, PartialEq, Eq, Error)]
 pub enum OpenFault {
-    /// The page structure refused a reader's place.
+    /// The page structure refused a reader.
     #[error("no place for a reader")]
     NoReader,
-    /// Memory was refused.
+    /// An allocation failed.
     #[error("out of memory")]
     NoMemory,
 }
@@ -38,21 +38,21 @@ impl<T: Drop> From<AllocFailed<T>> for OpenFault {
     }
 }
 
-/// Why a call of a site has no reply.
+/// Why a call of a site returns no receipt.
 #[derive(Clone, Copy, Debug, PartialEq, Eq, Error)]
 pub enum LiveFault {
-    /// The journal has all the records that it may have. Nothing changes.
+    /// The journal has its maximum number of records. Nothing changes.
     #[error("the journal is full")]
     JournalFull,
-    /// The node refuses the event. That is a record too.
+    /// The node refuses the event. The journal records the refusal.
     #[error("the node refuses the event")]
     Refused {
-        /// The place of the record.
+        /// The place of the refusal's record in the journal, from 1.
         place: u64,
-        /// The cause.
+        /// The node's refusal.
         why: Refusal,
     },
-    /// Memory was refused. Nothing changes.
+    /// An allocation failed. Nothing changes.
     #[error("out of memory")]
     NoMemory,
 }
@@ -67,16 +67,16 @@ impl From<NoMemory> for LiveFault {
     }
 }
 
-/// Why a site is not closed well.
+/// Why closing a site returns no journal.
 #[derive(Clone, Copy, Debug, PartialEq, Eq, Error)]
 pub enum CloseFault {
-    /// Not all seats came back that the site was opened with.
+    /// The number of seats isn't the one that the site was opened with.
     #[error("a seat is missing")]
     SeatMissing,
-    /// A seat's calls and its records in the journal differ, or a record is of none of the seats.
+    /// A seat's calls differ from its records in the journal, or a record belongs to none of the seats.
     #[error("the calls of a seat differ from its records")]
     Mismatch {
-        /// The place at which they first differ, or that of the record.
+        /// The place of the first difference, or of that record, from 1.
         place: u64,
     },
 }

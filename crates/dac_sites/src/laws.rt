@@ -1,7 +1,7 @@
-//! What a call of a site and its end do to a journal, said without the lock.
+//! The effects of a site's calls and of its closing on a journal, stated without the lock.
 //!
-//! [`add_record`] is what a call of a site runs under its lock. [`same_calls`] is what [`Site::close`](crate::Site::close)
-//! compares each seat by.
+//! Under its lock a call of a site runs [`add_record`]. [`Site::close`](crate::Site::close) checks each seat with
+//! [`same_calls`].
 
 ghost use Rattle.std.specs.Prelude.{◌≡◌, ◌≢◌, ◌↔◌, ◌⊎◌, ◌+◌, ◌++◌, ◌∷◌, [], length, Ok, IfOk, IfErr, OnErr, Err, MatchOption};
 ghost use Rattle.dac_journal.specs.declared.limits.TheConstants.{MAX_RECORDS};
@@ -17,7 +17,7 @@ use dac_journal::{Answer, Call, Record};
 use dac_messages::{Event, Reply};
 use std::sync::Wait;
 
-/// The record of an event that the node of a lent journal accepted. It is a receipt without a site's name.
+/// The record of an event that the node of a borrowed journal accepted: a receipt without a site's name.
 #[derive(Drop)]
 pub struct Recorded {
     /// The place of the record, from 1.
@@ -26,12 +26,13 @@ pub struct Recorded {
     pub reply: Reply,
 }
 
-/// Asks the node of a lent journal for this seat, adds the record, and publishes the page after it.
+/// Handles the event at the node of a borrowed journal, for this seat. It appends the record, then publishes the next
+/// page: the number of records, the incarnation, and the summary of the state, which is the bottom state if the node is
+/// off.
 ///
-/// `JournalFull` comes exactly if the journal has [`MAX_RECORDS`](dac_journal::MAX_RECORDS) records. `Refused` is a refusal of the
-/// node, which is a record too. `NoMemory` comes after the one and before the other. At `JournalFull` and `NoMemory` nothing
-/// changes. Readers take the number of records, the incarnation, and the summary of the state that the record leaves, or of
-/// the least state if the node is off.
+/// Fails with `JournalFull` exactly if the journal has [`MAX_RECORDS`](dac_journal::MAX_RECORDS) records; otherwise
+/// with `NoMemory` if an allocation fails, because a refusal needs memory for its record too. Both change nothing.
+/// Fails with `Refused` if the node refuses the event, which is recorded.
 pub fn add_record<R: Wait>(
     rt: &R,
     paged: &mut PagedJournal,
@@ -60,7 +61,7 @@ pub fn add_record<R: Wait>(
     }
 }
 
-/// [`add_record`] for a site, whose seat keeps the call. A refusal of the node is no error here.
+/// [`add_record`] with the seat's copy of the call. A refusal of the node is no error here.
 pub(crate) fn record_call<R: Wait>(
     rt: &R,
     paged: &mut PagedJournal,
@@ -97,9 +98,9 @@ pub(crate) fn record_call<R: Wait>(
     Ok(said)
 }
 
-/// Whether the seat's records, with their places and in the journal's order, are the list of calls. `None` where they
-/// are. Else the place at which the two first differ. It is the lesser of the two places there, or the one place
-/// where the other list has ended. Places count from 1. It takes no memory.
+/// Compares the seat's records, with their places and in the journal's order, with a list of calls. Returns `None` if
+/// they are equal, and otherwise the place, from 1, at which they first differ: the lesser of the two places there, or
+/// the only one if a list has ended.
 pub fn same_calls(records: &[Record], seat: u16, calls: &[Call]) -> Option<u64>
     ensures { MatchOption result (calls_of seat records.now ≡ calls.now)
         (λ p. DifferAt p (calls_of seat records.now) calls.now) }

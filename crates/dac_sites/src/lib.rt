@@ -1,17 +1,21 @@
-//! Sites: one controller, which any thread that has a seat may call.
+//! Sites: a controller behind a mutex, which each thread with a seat can call.
 //!
-//! A [`Site`] is a node under a lock, with a journal of all that it answered. [`blank_site`] makes one without a name,
-//! and [`open_site`] opens it under its name, with a [`Seat`] for each caller. Each record is followed by a page, which a
-//! [`PageReader`] reads beside the lock. [`Site::call`] asks the node for a seat,
-//! which keeps the place, the event and the answer. [`Site::close`] takes all seats back and gives the journal.
+//! A [`Site`] is a node with its journal under a lock. [`blank_site`] makes one without a name. [`open_site`] opens it
+//! under its name, with a [`Seat`] for each caller. [`Site::call`] handles an event for a seat, which keeps the place,
+//! the event and the result of each of its calls. After each record a page is published, which a [`PageReader`] reads
+//! without the lock. [`Site::close`] takes all seats back and returns the journal.
 //!
-//! The lock hides the journal while the site is open. So a call promises its answer after some history of the node,
-//! whose next record is that of the call. Closing shows the journal itself. It is a history of the node in which each
-//! seat's calls stand once, at their places, and nothing else stands. Where the calls don't match it, a
-//! [`CloseFault`] is the answer. Nothing promises that a call gets the lock.
+//! The lock hides the journal while the site is open. Therefore a call's contract says only that its record follows
+//! some history of the node. Closing reveals the journal: a history of the node that contains the calls of all seats,
+//! each once at its place, and nothing else. If the calls don't match it, closing fails with a [`CloseFault`]. Liveness
+//! isn't proved: nothing guarantees that a call gets the lock.
 //!
-//! A caller, in a function over the name `L` of a site. It boots the node, and reads the page behind that. The module
-//! `callers` of `live_tests` runs it, under the name `Brand`, for a blank of `blank_site(rt, alloc, &config, node, 0, 1, 1)`.
+//! Functions whose result can't carry `NoMemory` allocate nothing. After a failed allocation everything that they
+//! borrow is unchanged as far as contracts see.
+//!
+//! A caller, in a function over the name `L` of a site, boots the node and reads the page after that. The module
+//! `callers` of `live_tests` runs it, under the name `Brand`, for a blank of `blank_site(rt, alloc, &config, node, 0,
+//! 1, 1)`.
 //!
 //! ```
 //! let (site, mut seats, mut readers) = open_site::<L, R>(rt, blank).ok()?;

@@ -1,4 +1,4 @@
-//! A journal with its pages.
+//! A journal with its published pages.
 
 ghost use Rattle.std.specs.Prelude.{◌≡◌, ◌^◌, ◌<◌, ◌++◌, ◌∷◌, [], IfOk};
 ghost use Rattle.std.specs.Option.{option_copied};
@@ -19,7 +19,7 @@ use std::alloc::Global;
 use std::marker::Model;
 use std::sync::Wait;
 
-/// The page of a node that has so many records. It takes no memory.
+/// The page of a node whose journal has this many records.
 pub fn page_of(alloc: Global, config: &Config, place: u64, node: &Node) -> Page
     ensures { result ≡ page_of config.now place node.now }
 {
@@ -30,8 +30,8 @@ pub fn page_of(alloc: Global, config: &Config, place: u64, node: &Node) -> Page
     }
 }
 
-/// The page once a journal goes on to what was prepared of it, where this is the page before. Its summary is made anew only if
-/// the state may be another one. It takes no memory.
+/// The page after a prepared record, computed from the page before it. The summary is computed again only if the state
+/// can have changed.
 pub(crate) fn next_page(alloc: Global, journal: &Journal, shown: &Page, next: &Next) -> Page
     requires goes { GoesOnBy journal.now.beginning journal.now.records next.now.entry
         next.now.change }
@@ -51,7 +51,7 @@ pub(crate) fn next_page(alloc: Global, journal: &Journal, shown: &Page, next: &N
     page_by(alloc, journal.config(), place, node, next.change())
 }
 
-/// Whether an answer says that the state and the incarnation stay.
+/// Returns whether a result implies that the state and the incarnation stay.
 fn leaves_state(answer: &Answer) -> bool
     ensures { result ≡ leaves_state answer.now }
 {
@@ -63,7 +63,7 @@ fn leaves_state(answer: &Answer) -> bool
     }
 }
 
-/// The page of a node once so much happens to it, with so many records.
+/// The page of a node after a change, with this many records.
 fn page_by(alloc: Global, config: &Config, place: u64, node: &Node, change: Option<&Change>) -> Page
     ensures { result ≡ page_of config.now place (node_by (option_copied change.entry) node.now) }
 {
@@ -77,7 +77,7 @@ fn page_by(alloc: Global, config: &Config, place: u64, node: &Node, change: Opti
     }
 }
 
-/// The summary of a state, or of the one that knows nothing where there is none.
+/// The summary of a state, or of the bottom state if there is none.
 fn summary_of(alloc: Global, config: &Config, state: Option<&State>) -> Summary
     ensures { result ≡ summary_of config.now (known_in (option_copied state.entry)) }
 {
@@ -87,8 +87,8 @@ fn summary_of(alloc: Global, config: &Config, state: Option<&State>) -> Summary
     }
 }
 
-/// A journal, and the pages that tell readers of it: they take the page after its last record. It is asked by
-/// [`add_record`](crate::laws::add_record). It isn't `Drop`: end it by [`PagedJournal::end`].
+/// A journal with its pages: readers get the page after its last record. [`add_record`](crate::laws::add_record)
+/// appends to it. It can't be dropped: end it with [`PagedJournal::end`].
 pub struct PagedJournal {
     pub(crate) alloc: Global,
     pub(crate) journal: Journal,
@@ -99,11 +99,11 @@ impl Model for PagedJournal {
     ghost use Rattle.std.specs.Prelude.{◌≡◌};
     ghost use Rattle.dac_journal.specs.contracts.journal.Journal as journal_row;
     ghost use Rattle.dac_pages.specs.contracts.page.Page as page_row;
-    ghost use Rattle.dac_sites.specs.Paged.{DeskValue, coded_desk, page_after};
+    ghost use Rattle.dac_sites.specs.Paged.{PagedJournalValue, coded_paged_journal, page_after};
 
-    ghost Value = { DeskValue };
+    ghost Value = { PagedJournalValue };
 
-    ghost coded = { coded_desk journal_row.the_row.coded page_row.the_row.coded };
+    ghost coded = { coded_paged_journal journal_row.the_row.coded page_row.the_row.coded };
 
     ghost view = { λ d. record { journal = d.journal; page = d.pages.shown } };
 
@@ -111,7 +111,7 @@ impl Model for PagedJournal {
 }
 
 impl PagedJournal {
-    /// A journal with pages for so many readers.
+    /// An empty journal with pages for up to `readers` readers. A failed allocation drops the journal.
     pub fn open(alloc: Global, journal: Journal, readers: usize) -> Result<Self, NoMemory>
         requires places { (0 < readers) × (readers < 2 ^ 32) }
         requires empty { journal.records ≡ [] }
@@ -126,8 +126,8 @@ impl PagedJournal {
         })
     }
 
-    /// The journal. Readers take the page after its last record: so many records, the incarnation, and the summary of the
-    /// state.
+    /// The journal. The published page is the one after its last record: the number of records, the incarnation, and
+    /// the summary of the state.
     pub fn journal(&self) -> &Journal
         ensures value { result.now ≡ self.now.journal }
         ensures page { self.now.page
@@ -136,12 +136,12 @@ impl PagedJournal {
         &self.journal
     }
 
-    /// A reader of the pages. `None` where each place for one is in use.
+    /// A reader of the pages, or `None` as for [`Pages::reader`].
     pub fn reader(&self) -> Option<RawReader> {
         self.pages.reader()
     }
 
-    /// Ends the pages, and gives the journal and the page that was published last.
+    /// Ends the pages, and returns the journal with the last page.
     pub fn end<R: Wait>(self, rt: &R) -> (Journal, Page)
         ensures journal { result.0 ≡ self.journal }
         ensures page { result.1 ≡ page_after self.journal.beginning self.journal.records }

@@ -8,7 +8,7 @@ use crate::receipt::Receipt;
 use dac_pages::{Follower, Page, RawReader};
 use std::marker::{Model, PhantomData};
 
-/// Reads the pages of a site, and waits for nobody. Contracts see the least place that its next page may have.
+/// Reads the pages of a site without waiting for its lock. Contracts see the least place that the next page can have.
 #[derive(Drop)]
 pub struct PageReader<L: SiteName> {
     follower: Follower,
@@ -24,7 +24,7 @@ impl<L: SiteName> Model for PageReader<L> {
 }
 
 impl<L: SiteName> PageReader<L> {
-    /// A reader that has learned nothing.
+    /// A reader that has learned no receipt.
     pub(crate) fn over(reader: RawReader) -> Self {
         PageReader {
             follower: Follower::over(reader),
@@ -32,9 +32,9 @@ impl<L: SiteName> PageReader<L> {
         }
     }
 
-    /// The page that was published last. Its place is at least that of each page that this reader read before, and of each
-    /// receipt that it was the first to learn. `None` where the page structure refuses the entry, as it may after the site
-    /// was closed; nothing changes then.
+    /// The newest published page. Its place is at least that of each page that this reader has read, and of each
+    /// receipt that it was the first to learn. `None` if the page structure refuses the read, as it can after the site
+    /// is closed; then nothing changes.
     pub fn read(&mut self) -> Option<Page>
         ensures some { IfSome result (λ page. (self.old ≤ page.place) × (self.new ≡ page.place)) }
         ensures none { IfNone result (self.new ≡ self.old) }
@@ -42,8 +42,9 @@ impl<L: SiteName> PageReader<L> {
         self.follower.read()
     }
 
-    /// The pages that it reads from now on are at least at the place of the receipt's record. The first to learn a receipt takes
-    /// its note; for a later one nothing changes. Whatever its owner has set as its place is not looked at.
+    /// Makes later reads at least as new as the receipt's record, so that a caller can read its own write. Only the
+    /// first reader to learn a receipt gets its place; later ones stay unchanged. A value that the owner has written to
+    /// [`Receipt::place`] is ignored.
     pub fn learn(&mut self, receipt: &mut Receipt<L>)
         ensures first { IfSome (note_of receipt.old) (λ place. self.new ≡ max self.old place) }
         ensures later { IfNone (note_of receipt.old) (self.new ≡ self.old) }

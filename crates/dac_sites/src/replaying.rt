@@ -1,4 +1,4 @@
-//! The page after some records, by replaying them.
+//! The page after some records, computed by replaying them.
 
 ghost use Rattle.std.specs.Prelude.{◌≡◌, IfOk, OnOk};
 ghost use Rattle.dac_journal.specs.Journals.{beginning_of};
@@ -13,7 +13,7 @@ use dac_messages::Event;
 use dac_pages::Page;
 use std::alloc::Global;
 
-/// The node goes on by the event, whatever it answers.
+/// Handles the event at the node. A refusal other than `NoMemory` is no error.
 fn go_on(config: &Config, me: NodeId, node: &mut Node, event: &Event) -> Result<(), NoMemory>
     ensures { OnOk result (GoesOn config.now me node.old event.now node.new) }
 {
@@ -24,7 +24,7 @@ fn go_on(config: &Config, me: NodeId, node: &mut Node, event: &Event) -> Result<
     Ok(())
 }
 
-/// The page after these records of a node that had so many incarnations before them.
+/// The page after these records, of a node whose last incarnation before them was `last`.
 pub fn replay(
     alloc: Global,
     config: &Config,

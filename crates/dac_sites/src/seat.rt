@@ -8,7 +8,7 @@ use std::alloc::Global;
 use std::marker::Model;
 use std::sync::ledger::Share;
 
-/// A caller's seat, with the calls that it made. Its share of the site's count of records is one for each call.
+/// A client handle of a site, with the calls made by it. Its share of the site's record count is its number of calls.
 #[derive(Drop)]
 pub struct Seat<L: SiteName> {
     pub(crate) number: u16,
@@ -30,7 +30,7 @@ impl<L: SiteName> Model for Seat<L> {
 }
 
 impl<L: SiteName> Seat<L> {
-    /// A seat that made no call, with a share of nothing.
+    /// A seat without calls, and with a share of zero.
     pub(crate) fn new(alloc: Global, number: u16, share: Share<L>) -> Self
         requires { (share.parts ≡ 1) × (share.amount ≡ 0) }
         ensures { result ≡ record { number = number; calls = [] } }
@@ -42,14 +42,14 @@ impl<L: SiteName> Seat<L> {
         }
     }
 
-    /// Its number among the site's seats, from 1.
+    /// The seat's number at its site, from 1.
     pub fn number(&self) -> u16
         ensures { result ≡ self.now.number }
     {
         self.number
     }
 
-    /// Its calls, the oldest first.
+    /// The calls made by this seat, oldest first.
     pub fn calls(&self) -> &[Call]
         ensures { result.now ≡ self.now.calls }
     {

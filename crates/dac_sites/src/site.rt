@@ -3,7 +3,7 @@
 ghost use Rattle.std.specs.Prelude.{◌≡◌, ◌≢◌, ◌↔◌, ◌+◌, ◌<◌, length, Some, Ok, Err, IfOk, IfErr, MatchOption, All, sum_by, vec_len};
 ghost use Rattle.dac_journal.specs.declared.limits.TheConstants.{MAX_RECORDS};
 ghost use Rattle.dac_journal.specs.Journals.{calls_of};
-ghost use Rattle.dac_sites.specs.Behind.{WentOn, NotTaken, SeatDiffers, StrangerFrom, NotClosed};
+ghost use Rattle.dac_sites.specs.Behind.{WentOn, NotTaken, SeatDiffers, FirstUnseated, NotClosed};
 ghost use Rattle.dac_sites.specs.Paged.{page_after};
 ghost use Rattle.dac_sites.specs.Receipts.{note_of};
 ghost use Rattle.dac_sites.specs.Added.{Added, AddedRefused, CallAdded, CallRefused};
@@ -26,19 +26,20 @@ use std::marker::PhantomData;
 use std::sync::ledger::{Blank, Book, Share};
 use std::sync::{Mutex, MutexGuard, Wait};
 
-/// What lies under the lock: the journal with its pages, and the sum of the seats' shares. It isn't `Drop`.
+/// The data under the lock: the journal with its pages, and the ledger that sums the seats' shares. It can't be
+/// dropped.
 pub struct Locked<L: SiteName> {
     paged: PagedJournal,
     book: Book<L>,
     /// The journal has as many records as the seats have calls.
     ghost counted: { length paged.journal.records ≡ book.total },
-    /// It begins where the site's name says.
+    /// The journal has the beginning that belongs to the site's name.
     ghost begins: { paged.journal.beginning ≡ L.beginning },
 }
 
 impl<L: SiteName> Locked<L> {
-    /// A call of this seat. All that takes memory is made before anything changes, and the page is published before it
-    /// answers.
+    /// Handles a call of this seat. All allocations precede any change, and the page is published before the call
+    /// returns.
     fn call<R: Wait>(
         &mut self,
         rt: &R,
@@ -49,7 +50,7 @@ impl<L: SiteName> Locked<L> {
         ensures ok { IfOk result (λ r. CallAdded seat.old.calls seat.new.calls r.place event
             (Ok r.reply) × (note_of r ≡ Some r.place)) }
         ensures err { IfErr result (λ e. CallRefused e seat.old.calls seat.new.calls event) }
-        // The journal gets the same: what the seat keeps of the call is the record.
+        // The journal's new record is the call that the seat keeps.
         ensures added { IfOk result (λ r. Added self.old.paged.journal.records
             self.new.paged.journal.records seat.old.number event r.place (Ok r.reply)) }
         ensures refused { IfErr result (λ e. AddedRefused e self.old.paged.journal.records
@@ -91,8 +92,8 @@ impl<L: SiteName> Locked<L> {
     }
 }
 
-/// A site: a node with its journal under one lock, and its pages beside it. Any thread that has a seat may call it. It isn't
-/// `Drop`: end it by [`Site::close`].
+/// A node with its journal under one lock, and with pages that are read without it. Each thread with a seat can call
+/// it. It can't be dropped: end it with [`Site::close`].
 pub struct Site<L: SiteName> {
     locked: Mutex<Locked<L>>,
     seats: usize,
@@ -100,7 +101,6 @@ pub struct Site<L: SiteName> {
     ghost some: { 0 < L.seats },
 }
 
-/// The book, and a seat for each part.
 fn deal<L: SiteName>(
     alloc: Global,
     blank: Blank,
@@ -118,7 +118,6 @@ fn deal<L: SiteName>(
     Ok((book, seats))
 }
 
-/// Readers under the site's name.
 fn name_readers<L: SiteName>(
     alloc: Global,
     mut readers: Vec<RawReader>,
@@ -132,9 +131,9 @@ fn name_readers<L: SiteName>(
     Ok(all)
 }
 
-/// The site under its name, with its seats: numbered from 1, without calls. Its readers have seen nothing. It is called in a
-/// function over the name, whose caller sees to it that the name stands for this blank. [`NoMemory`] is the only error; the
-/// blank is given up then.
+/// Opens a site under the name `L`. Returns its seats, numbered from 1 and without calls, and its readers, which have
+/// read nothing. Call it in a function generic over the name, so that the caller of that function binds the name to
+/// this blank. On [`NoMemory`] the blank is dropped.
 pub fn open_site<L: SiteName, R: Wait>(
     rt: &R,
     blank: SiteBlank,
@@ -164,7 +163,7 @@ pub fn open_site<L: SiteName, R: Wait>(
     Ok((site, all, readers))
 }
 
-/// The place at which the calls of the first seat that doesn't match its records differ from them.
+/// The place at which the calls of the first seat that doesn't match first differ from its records.
 fn mismatch<L: SiteName>(records: &[Record], seats: &[Seat<L>]) -> Option<u64>
     ensures { MatchOption result (All (λ s. calls_of s.number records.now ≡ s.calls) seats.now)
         (λ p. SeatDiffers p records.now seats.now) }
@@ -177,7 +176,7 @@ fn mismatch<L: SiteName>(records: &[Record], seats: &[Seat<L>]) -> Option<u64>
     None
 }
 
-/// Where among the seats the one of this number is.
+/// The position among the seats of the one with this number.
 fn seat_at<L: SiteName>(seats: &[Seat<L>], number: u16) -> Option<usize>
     ensures { MatchOption result (All (λ s. s.number ≢ number) seats.now)
         (λ _. IsOneOf number (λ s. s.number) seats.now) }
@@ -191,10 +190,10 @@ fn seat_at<L: SiteName>(seats: &[Seat<L>], number: u16) -> Option<usize>
     None
 }
 
-/// The place of the first record that is none of these seats'.
-fn stranger<L: SiteName>(records: &[Record], seats: &[Seat<L>]) -> Option<u64>
+/// The place of the first record that belongs to none of these seats.
+fn unseated_record<L: SiteName>(records: &[Record], seats: &[Seat<L>]) -> Option<u64>
     ensures { MatchOption result (All (λ r. IsOneOf r.seat (λ s. s.number) seats.now) records.now)
-        (λ p. StrangerFrom p 1 seats.now records.now) }
+        (λ p. FirstUnseated p 1 seats.now records.now) }
 {
     for i in 0..records.len() {
         let one = &records[i];
@@ -206,7 +205,6 @@ fn stranger<L: SiteName>(records: &[Record], seats: &[Seat<L>]) -> Option<u64>
     None
 }
 
-/// All shares in one.
 fn merge_shares<L: SiteName>(mut seats: Vec<Seat<L>>, mut all: Share<L>) -> Share<L>
     ensures { (result.parts ≡ all.parts + vec_len seats)
         × (result.amount ≡ all.amount + sum_by (λ s. length s.calls) seats.items) }
@@ -223,15 +221,16 @@ fn merge_shares<L: SiteName>(mut seats: Vec<Seat<L>>, mut all: Share<L>) -> Shar
 }
 
 impl<L: SiteName> Site<L> {
-    /// Asks the node. The seat then has one call more: the place of its record, the event and the answer. A refusal of
-    /// the node is a record too. The page after the record is published before the call answers.
+    /// Handles an event at the node, for this seat. A reply or a refusal is recorded in the journal and in the seat,
+    /// with its place. The page after the record is published before the call returns.
     ///
-    /// `JournalFull` is for a journal with [`MAX_RECORDS`](dac_journal::MAX_RECORDS) records. `NoMemory` comes after it, but before
-    /// a refusal of the node, since that needs room for its record. At both the seat stays as it was.
+    /// Fails with `JournalFull` if the journal has [`MAX_RECORDS`](dac_journal::MAX_RECORDS) records; otherwise with
+    /// `NoMemory` if an allocation fails, because a refusal needs memory for its record too. Both leave the seat
+    /// unchanged. Fails with `Refused` if the node refuses the event.
     ///
-    /// The lock hides the journal, so the clauses speak of some history of the node from where the site began. One of each
-    /// length exists, so they leave open when `JournalFull` comes. Under the lock the call does
-    /// [`add_record`](crate::laws::add_record), whose clause `full` says that it comes exactly of a full journal.
+    /// Because the lock hides the journal, the clauses speak of some history of the node since the site's beginning. A
+    /// history of each length exists, so they can't say when `JournalFull` comes. But under the lock the call runs
+    /// [`add_record`](crate::laws::add_record), whose clause `full` says that it comes exactly if the journal is full.
     pub fn call<R: Wait>(
         &self,
         rt: &R,
@@ -242,7 +241,8 @@ impl<L: SiteName> Site<L> {
         ensures ok { IfOk result (λ r. CallAdded seat.old.calls seat.new.calls r.place event
             (Ok r.reply) × (note_of r ≡ Some r.place)) }
         ensures err { IfErr result (λ e. CallRefused e seat.old.calls seat.new.calls event) }
-        // The answer is the model node's after some history of the site's node, and its record is the next one.
+        // The result is that of the model node after some history of the site's node, and the call's record is the next
+        // one.
         ensures taken { IfOk result
             (λ r. WentOn L.beginning seat.old.number event r.place (Ok r.reply)) }
         ensures not_taken { IfErr result (λ e. NotTaken e L.beginning seat.old.number event) }
@@ -253,15 +253,16 @@ impl<L: SiteName> Site<L> {
         answer
     }
 
-    /// Ends the site: its journal, in which each seat's calls stand once, and nothing else.
+    /// Closes the site and returns its journal, which contains each seat's calls once, and nothing else.
     ///
-    /// `SeatMissing` comes where not as many seats come back as the site was opened with. `Mismatch` comes where a seat's
-    /// calls aren't its records, or a record is of none of these seats. It names the place where the first such seat
-    /// differs, or, where no seat does, that of the first such record. At both the site and its seats are given up.
+    /// Fails with `SeatMissing` if the number of seats isn't the one that the site was opened with; otherwise with
+    /// `Mismatch` if a seat's calls aren't its records, or if a record belongs to none of these seats. The place is
+    /// that of the first difference of the first such seat, or, if all seats match, that of the first such record. Both
+    /// drop the site and its seats.
     pub fn close<R: Wait>(self, rt: &R, mut seats: Vec<Seat<L>>) -> Result<Closed, CloseFault>
         requires { L.seats ≡ L.parts }
         ensures beginning { IfOk result (λ c. c.beginning ≡ L.beginning) }
-        // Each seat's calls are the seat's records, with their places and in the journal's order.
+        // Each seat's calls are its records, with their places and in the journal's order.
         ensures calls { IfOk result
             (λ c. All (λ s. calls_of s.number c.records ≡ s.calls) seats.items) }
         // There are no other records.
@@ -284,7 +285,7 @@ impl<L: SiteName> Site<L> {
         if let Some(place) = mismatch(journal.records(), seats.as_slice()) {
             return Err(CloseFault::Mismatch { place });
         }
-        if let Some(place) = stranger(journal.records(), seats.as_slice()) {
+        if let Some(place) = unseated_record(journal.records(), seats.as_slice()) {
             return Err(CloseFault::Mismatch { place });
         }
         let none = seats[0].share.empty();

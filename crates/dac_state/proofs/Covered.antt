@@ -1,4 +1,4 @@
--- What one operation means is below a state exactly if each of its parts is.
+-- The delta of an operation is below a state exactly if each of its parts is.
 use Rattle.std.proofs.Common.{◌≡◌, true, false, cond, List, ◌↔◌, refl, sym, ap, ◌∙◌, inl, inr}
 use Rattle.std.specs.FinSet as set
 use Rattle.std.specs.Ordering.{eq_by_cmp, is_eq}
@@ -28,7 +28,7 @@ one_among d heard = (
   λ f. f d (set.contains-insert dots_total set.empty d d ∙ or_left _ _ (ap is_eq (tied_itself dots_total d))),
 )
 
--- ---- what each part sees, of an operation that doesn't replace its own dot
+-- ---- each part's view of an operation that doesn't replace its own dot
 
 sees_so : {A : Type 0} (nothing : List Dot → A) (sees : Act → A) (d : Dot) (a : Act) → replaces_itself d a ≡ false → seen_by nothing sees d a ≡ sees a
 sees_so nothing sees d a e = ap (λ b. cond b (nothing (without d (over_list a))) (sees a)) e

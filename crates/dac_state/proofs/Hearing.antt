@@ -1,4 +1,4 @@
--- What was heard is what is known, where no more is known.
+-- Conditions under which all known dots were heard.
 use Rattle.std.specs.Prelude.{◌≡◌, List, []}
 use Rattle.std.proofs.Common.{refl, ap}
 use Rattle.std.specs.FinSet as set
@@ -12,13 +12,13 @@ use Rattle.dac_operations.specs.Seen.{seen_wish}
 use Rattle.dac_operations.specs.declared.act.Act.{Act}
 use Rattle.dac_operations.specs.declared.act.Act.TheVariants.{Up, Down, Permit, Start, Stop, Drain, Claim}
 
--- where one side or the other heard each dot that either knows, what either heard is what either knows
+-- if all dots known on either side were heard on some side, the unions of the heard and of the known dots are equal
 pub all_heard : (h g k m : Dots) → IsSubset h k → IsSubset g m → IsSubset k (set.union h g) → IsSubset m (set.union h g) → set.union h g ≡ set.union k m
 all_heard h g k m p q a b = same_context (set.union h g) (set.union k m)
     (subset_union h g (set.union k m) (λ x e. subset_left k m x (p x e)) (λ x e. subset_right k m x (q x e)))
     (subset_union k m (set.union h g) a b)
 
--- an act that replaces nothing names the dot that it has alone
+-- an operation that replaces nothing knows only its own dot
 pub names_itself : (d : Dot) (a : Act) → over_list a ≡ [] → named_by over_of d (seen_wish d a) ≡ set.insert set.empty d
 names_itself d Up e = refl
 names_itself d (Down node inc) e = refl

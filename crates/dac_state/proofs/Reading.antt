@@ -1,4 +1,4 @@
--- Reading the dots heard and the dots known, and the whole bytes of a state.
+-- Reading the dots heard and known, and all bytes of a state.
 use Rattle.std.proofs.Common.{◌≡◌, ℕ, Bool, true, false, cond, List, [], ◌++◌, length, Result, Ok, Err, refl, sym, ap, subst, ◌∙◌}
 use Rattle.std.specs.Prelude.{◌==◌, IfOk}
 use Rattle.std.specs.FinSet as set
@@ -25,7 +25,7 @@ not_true false h = refl
 -- ---- the dots heard and the dots known
 
 module _ (version : Version) (nodes : ℕ) (r a b : Rest) (h k : Dots) (heard : context_at version nodes r ≡ Ok (h, a)) (known : context_at version nodes a ≡ Ok (k, b)) where
-  -- what both contexts give, by whether the one is within the other
+  -- the result of reading both contexts depends on whether the first is a subset of the second
   dots_read : dots_at version nodes r ≡ cond (set.is_subset h k) (Ok ((h, k), b)) (fault NotKnown b)
   unfolding dots_at
   dots_read =
@@ -60,11 +60,11 @@ module _ (version : Version) (t : Table) (codec : IsCodec (parts_at version t) (
       ap (λ (bytes : List ℕ). parts_at version t (whole bytes) >>= λ s. cond (length s.1.bytes == 0) (Ok s.0) (fault Trailing s.1)) (text ∙ sym (append-nil (state_bytes version s)))
       ∙ ap (λ f. f >>= λ s. cond (length s.1.bytes == 0) (Ok s.0) (fault Trailing s.1)) (codec.again s is 0 [])
 
-  -- what is given is spelled by the bytes, and in form
+  -- the returned state is well-formed, with these bytes as its spelling
   pub state_found : IsBytes bytes → (result : Result StateValue ReadFault) → Gives (λ (s : StateValue). s) result (state_at version t bytes) → IfOk result (λ s. IsInForm version t s × (bytes ≡ state_bytes version s))
   state_found fits (Ok s) gives = found s fits gives
   state_found fits (Err e) gives = tt
 
-  -- what is spelled so and in form is given
+  -- a well-formed state is returned for its spelling
   pub state_again : (result : Result StateValue ReadFault) → Gives (λ (s : StateValue). s) result (state_at version t bytes) → (s : StateValue) → IsInForm version t s → bytes ≡ state_bytes version s → Gives (λ (s : StateValue). s) result (Ok s)
   state_again result gives s is text = subst (Gives (λ (s : StateValue). s) result) (again s is text) gives

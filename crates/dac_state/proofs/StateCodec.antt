@@ -1,4 +1,4 @@
--- States in form and their spellings are one to one, where their parts are.
+-- States have a codec if their parts have one.
 use Rattle.std.specs.Prelude.{◌≡◌, ℕ, cond, List, ◌++◌, Ok, refl}
 use Rattle.std.specs.FinSet as set
 use Rattle.std.proofs.Common.{sym, ◌∙◌, append_assoc}
@@ -85,7 +85,8 @@ module _ (version : Version) (t : Table) (parts : PartCodecs version t) where
 
   -- ---- the state
 
-  -- What is read as a state is its one spelling and in form, and a state in form is read from its spelling.
+  -- A state that is read is well-formed, with these bytes as its spelling, and each well-formed one is read from its
+  -- spelling.
   pub state_codec : IsCodec (parts_at version t) (state_bytes version) (IsInForm version t)
   unfolding parts_at state_bytes
   state_codec =

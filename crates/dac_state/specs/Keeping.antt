@@ -1,4 +1,4 @@
--- What the parts of a state are, wherever it keeps them.
+-- The parts of a state, wherever they are located.
 use Rattle.std.specs.Arc.{arc_value}
 use Rattle.dac_meaning.specs.StateValue.{StateValue}
 use Rattle.dac_state.specs.declared.state.KeptParts.{KeptParts}

@@ -1,4 +1,4 @@
--- How a state is kept: permissions, wishes and drains each beside the dots that they know.
+-- The representation of a state: permissions, wishes and drains, each paired with the dots that they know.
 use Rattle.std.specs.Prelude.{◌≡◌}
 use Rattle.dac_origins.specs.Dots.{Dots}
 use Rattle.dac_chains.specs.Lives.{Lives}
@@ -8,7 +8,7 @@ use Rattle.dac_wishes.specs.PermissionsValue.{PermissionsValue}
 use Rattle.dac_wishes.specs.DrainsValue.{DrainsValue}
 use Rattle.dac_meaning.specs.StateValue.{StateValue, IsState}
 
--- the state of these parts
+-- the state with these parts
 abbrev pub state_of_parts : Dots → PermissionsValue → WishesValue → Lives → Claims → DrainsValue → StateValue
 state_of_parts heard permissions wishes lives claims drains = record {
   heard = heard;
@@ -20,7 +20,7 @@ state_of_parts heard permissions wishes lives claims drains = record {
   drains = drains.standing;
 }
 
--- the parts make a state
+-- these are the parts of a state
 pub record AreParts (heard : Dots) (permissions : PermissionsValue) (wishes : WishesValue) (lives : Lives)
     (claims : Claims) (drains : DrainsValue) : Type 0 where
   -- permissions, wishes and drains know the same dots

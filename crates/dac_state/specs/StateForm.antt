@@ -1,4 +1,4 @@
--- Which states have bytes of a version that are read under a configuration.
+-- Well-formed states: those that bytes of a version can spell under a configuration.
 use Rattle.dac_part_bytes.specs.Table.{Table, node_count}
 use Rattle.dac_origins.specs.Dots.{IsSubset}
 use Rattle.dac_bytes.specs.Ranges.{IsContext}
@@ -7,19 +7,19 @@ use Rattle.dac_part_bytes.specs.ChainForm.{AreLivesInForm, AreClaimsInForm}
 use Rattle.dac_meaning.specs.StateValue.{StateValue}
 use Rattle.dac_bytes.specs.declared.version.Version.{Version}
 
--- The names, list places, numbers and counts of the state are those that its bytes can say.
+-- The names, list places, numbers and counts of the state can be spelled.
 pub record IsInForm (version : Version) (t : Table) (s : StateValue) : Type 0 where
-  -- dots of the configuration's nodes
+  -- dots are of the configuration's nodes
   pub heard : IsContext version (node_count t) s.heard
   pub known : IsContext version (node_count t) s.known
-  -- what is heard is known
+  -- each heard dot is known
   pub within : IsSubset s.heard s.known
-  -- known dots of listed nodes
+  -- permits and start wishes have known dots and listed nodes
   pub permits : ArePermitsInForm version t s.known s.permits
   pub starts : AreStartsInForm version t s.known s.starts
-  -- lives of the configuration's nodes
+  -- lives are of the configuration's nodes
   pub lives : AreLivesInForm version (node_count t) s.lives
-  -- claims by listed nodes
+  -- claims are by listed nodes
   pub claims : AreClaimsInForm version t s.claims
-  -- drains of the configuration's nodes, by known dots; version one has none
+  -- drains have known dots and are of the configuration's nodes; version one has none
   pub drains : AreDrainsInForm version t s.known s.drains

@@ -1,4 +1,4 @@
--- Reading a state of a version from left to right, with the first fault that is met and its place.
+-- Reading a state of a version from left to right, up to the first fault.
 use Rattle.std.specs.Prelude.{ℕ, ◌==◌, List, length, Result, Ok, if◌then◌else◌}
 use Rattle.std.specs.FinSet as set
 use Rattle.dac_origins.specs.Dots.{Dots}
@@ -15,46 +15,46 @@ use Rattle.dac_part_bytes.specs.Reading.{all_permits_at, all_starts_at, all_live
 use Rattle.dac_meaning.specs.StateValue.{StateValue}
 use Rattle.dac_bytes.specs.declared.version.Version.{Version}
 
--- the dots heard and the dots known, among which these are
+-- the dots heard, and the dots known, which must include them
 unfoldable pub dots_at : Version → ℕ → Rest → Field (Dots × Dots)
 dots_at version nodes r = do
   heard ← context_at version nodes r
   known ← context_at version nodes heard.1
   if set.is_subset heard.0 known.0 then Ok ((heard.0, known.0), known.1) else fault NotKnown known.1
 
--- what stands among the dots known: permits, and start wishes
+-- the permits and start wishes, whose dots must be known
 unfoldable pub standing_at : Version → Table → Dots → Rest → Field (Permits × Writes)
 standing_at version t known r = do
   permits ← all_permits_at version t known r
   starts ← all_starts_at version t known permits.1
   Ok ((permits.0, starts.0), starts.1)
 
--- lives, and claims
+-- the lives, and the claims
 unfoldable pub chains_at : Version → Table → Rest → Field (Lives × Claims)
 chains_at version t r = do
   lives ← all_lives_at version (node_count t) r
   claims ← all_claims_at version t lives.1
   Ok ((lives.0, claims.0), claims.1)
 
--- the lives, the claims, and the drains that stand among the dots known
+-- the lives, the claims, and the drains, whose dots must be known
 unfoldable pub chains_and_drains_at : Version → Table → Dots → Rest → Field ((Lives × Claims) × Drains)
 chains_and_drains_at version t known r = do
   chains ← chains_at version t r
   drains ← all_drains_at version t known chains.1
   Ok ((chains.0, drains.0), drains.1)
 
--- permits and start wishes, then lives and claims, and then drains
+-- permits and start wishes, lives and claims, and drains, in the order of the bytes
 abbrev pub Pieces : Type 0
 Pieces = (Permits × Writes) × ((Lives × Claims) × Drains)
 
--- the pieces of a state that knows these dots
+-- the pieces of a state with these known dots
 unfoldable pub pieces_at : Version → Table → Dots → Rest → Field Pieces
 pieces_at version t known r = do
   standing ← standing_at version t known r
   others ← chains_and_drains_at version t known standing.1
   Ok ((standing.0, others.0), others.1)
 
--- the state of the dots heard, the dots known and its pieces
+-- the state with these dots heard, dots known and pieces
 abbrev pub state_from : Dots × Dots → Pieces → StateValue
 state_from dots p = record {
   heard = dots.0;
@@ -66,14 +66,14 @@ state_from dots p = record {
   drains = p.1.1;
 }
 
--- the parts of a state, one after the other
+-- the parts of a state, in sequence
 unfoldable pub parts_at : Version → Table → Rest → Field StateValue
 parts_at version t r = do
   dots ← dots_at version (node_count t) r
   pieces ← pieces_at version t dots.0.1 dots.1
   Ok (state_from dots.0 pieces.0, pieces.1)
 
--- a state, and no byte after it
+-- a state without further bytes
 unfoldable pub state_at : Version → Table → List ℕ → Result StateValue ReadFault
 state_at version t bytes = do
   s ← parts_at version t (whole bytes)

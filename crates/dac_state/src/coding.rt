@@ -8,9 +8,8 @@ use dac_bytes::{ByteWriter, Version};
 use dac_part_bytes::{write_claims, write_drains, write_lives, write_permissions, write_wishes};
 
 impl State {
-    /// The bytes of the state, version 2. They are the dots heard, the dots known, the permits and the start wishes
-    /// that stand, the lives, the claims, and the drains that stand. Equal states have equal bytes. [`NoMemory`] is the
-    /// only error.
+    /// The bytes of the state in version 2: the dots heard, the dots known, the standing permits and start wishes, the
+    /// lives, the claims, and the standing drains. Equal states have equal bytes.
     pub fn encode(&self) -> Result<Vec<u8>, NoMemory>
         ensures { IfOk result (λ bytes. bytes.items ≡ spelling_of self.now) }
     {
@@ -19,8 +18,8 @@ impl State {
         Ok(whole.into_bytes())
     }
 
-    /// The bytes of the state in a version, after what a writer has. Version 1 has no bytes for drains. [`NoMemory`] is
-    /// the only error; the writer is gone then.
+    /// Appends the bytes of the state in a version. Version 1 has no bytes for drains. A call that fails discards the
+    /// writer.
     #[tactic(auto, unfolding(crate::specs::StateSpelling::state_bytes))]
     pub fn write(&self, writer: ByteWriter, version: Version) -> Result<ByteWriter, NoMemory>
         ensures { IfOk result (λ written. written ≡ writer ++ state_bytes version self.now) }

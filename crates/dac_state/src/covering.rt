@@ -1,4 +1,4 @@
-//! Whether a state is above what one operation means. The test takes no memory.
+//! Whether a state is above the delta of one operation.
 ghost use Rattle.std.specs.Prelude.{◌≡◌, ◌↔◌, ◌∷◌, [], IsTrue};
 ghost use Rattle.dac_origins.specs.Dots.{IsSubset};
 ghost use Rattle.dac_chains.specs.Greatest.{AreNotAbove};
@@ -19,7 +19,7 @@ use dac_origins::Origin;
 use dac_wishes::{Drains, Key, Permissions, Wishes};
 
 impl State {
-    /// Whether what an operation means alone is below the state, so that to hear it would change nothing. It takes no memory.
+    /// Whether the delta of an operation is below the state, so that receiving it would change nothing.
     pub fn covers(&self, op: &Op) -> bool
         ensures { IsTrue result ↔ IsBelow (meaning_of (op.now ∷ [])) self.now }
     {
@@ -39,7 +39,7 @@ impl State {
     }
 }
 
-/// Whether the operation is among those heard.
+/// Whether the operation's dot is among those heard.
 fn holds_dot(heard: &Context, op: &Op) -> bool
     ensures { IsTrue result ↔ IsSubset (meaning_of (op.now ∷ [])).heard heard.now }
 {
@@ -47,7 +47,7 @@ fn holds_dot(heard: &Context, op: &Op) -> bool
     heard.contains(op.dot())
 }
 
-/// Whether what the operation permits and knows is below these permissions.
+/// Whether the operation's permit and known dots are below these permissions.
 fn holds_permit(permissions: &Permissions, op: &Op) -> bool
     ensures { IsTrue result
         ↔ IsPermissionsBelow (permissions_of (meaning_of (op.now ∷ []))) permissions.now }
@@ -57,7 +57,7 @@ fn holds_permit(permissions: &Permissions, op: &Op) -> bool
     permissions.covers(op.dot(), permit_in(op.act()), op.act().over())
 }
 
-/// Whether what the operation wishes and knows is below these wishes.
+/// Whether the operation's start wish and known dots are below these wishes.
 fn holds_start(wishes: &Wishes, op: &Op) -> bool
     ensures { IsTrue result ↔ AreWishesBelow (wishes_of (meaning_of (op.now ∷ []))) wishes.now }
 {
@@ -66,7 +66,7 @@ fn holds_start(wishes: &Wishes, op: &Op) -> bool
     wishes.covers(op.dot(), started_in(op.act()), op.act().over())
 }
 
-/// Whether what the operation drains and knows is below these drains.
+/// Whether the operation's drain and known dots are below these drains.
 fn holds_drain(drains: &Drains, op: &Op) -> bool
     ensures { IsTrue result ↔ AreDrainsBelow (drains_of (meaning_of (op.now ∷ []))) drains.now }
 {
@@ -75,7 +75,7 @@ fn holds_drain(drains: &Drains, op: &Op) -> bool
     drains.covers(op.dot(), drain_in(op.act()), op.act().over())
 }
 
-/// Whether what the operation says of a node's life is below these lives.
+/// Whether the life in the operation's delta is below these lives.
 fn holds_life(lives: &Lives, op: &Op) -> bool
     ensures { IsTrue result ↔ AreNotAbove life_cmp (meaning_of (op.now ∷ [])).lives lives.now }
 {
@@ -83,7 +83,7 @@ fn holds_life(lives: &Lives, op: &Op) -> bool
     lives.covers(op.dot(), op.life_act())
 }
 
-/// Whether what the operation claims is below these claims.
+/// Whether the operation's claim is below these claims.
 fn holds_claim(claims: &Claims, op: &Op) -> bool
     ensures { IsTrue result ↔ AreNotAbove claim_cmp (meaning_of (op.now ∷ [])).claims claims.now }
 {
@@ -91,7 +91,7 @@ fn holds_claim(claims: &Claims, op: &Op) -> bool
     claims.covers(op.dot(), op.claim_act())
 }
 
-/// What an act permits or forbids, if it does.
+/// The key and value of a permit; `None` for any other act.
 fn permit_in(act: &Act) -> Option<(Key, bool)>
     ensures { result ≡ permit_vote act.now }
 {
@@ -105,7 +105,7 @@ fn permit_in(act: &Act) -> Option<(Key, bool)>
     }
 }
 
-/// What an act wishes to start, if it does.
+/// The key of a start wish; `None` for any other act.
 fn started_in(act: &Act) -> Option<Key>
     ensures { result ≡ started_in act.now }
 {
@@ -115,7 +115,7 @@ fn started_in(act: &Act) -> Option<Key>
     }
 }
 
-/// What an act drains, or of what it ends that, if it does.
+/// The incarnation and value of a drain; `None` for any other act.
 fn drain_in(act: &Act) -> Option<(Origin, bool)>
     ensures { result ≡ drain_vote act.now }
 {

@@ -20,7 +20,7 @@ use dac_part_bytes::{Config, read_claims, read_drains, read_lives, read_permissi
 use dac_wishes::{Drains, Permissions, Wishes};
 use std::alloc::Global;
 
-/// The dots heard and the dots known.
+/// The dots heard and the dots known, which must include them.
 #[tactic(auto, unfolding(crate::specs::StateReading::dots_at))]
 fn read_dots<'a>(
     reader: ByteReader<'a>,
@@ -42,7 +42,7 @@ fn read_dots<'a>(
     })
 }
 
-/// What stands among the dots known.
+/// The permits and start wishes, whose dots must be known.
 #[tactic(auto, unfolding(crate::specs::StateReading::standing_at))]
 fn read_standing<'a>(
     reader: ByteReader<'a>,
@@ -61,7 +61,6 @@ fn read_standing<'a>(
     Ok(((permissions, wishes), rest))
 }
 
-/// The lives and the claims.
 #[tactic(auto, unfolding(crate::specs::StateReading::chains_at))]
 fn read_chains<'a>(
     reader: ByteReader<'a>,
@@ -76,7 +75,7 @@ fn read_chains<'a>(
     Ok(((lives, claims), rest))
 }
 
-/// The lives, the claims, and the drains that stand among the dots known.
+/// The lives, the claims, and the drains, whose dots must be known.
 #[tactic(auto, unfolding(crate::specs::StateReading::chains_and_drains_at))]
 fn read_chains_and_drains<'a>(
     reader: ByteReader<'a>,
@@ -94,10 +93,10 @@ fn read_chains_and_drains<'a>(
     Ok(((chains, drains), rest))
 }
 
-/// Permits and start wishes, then lives and claims, and then drains.
+/// Permits and start wishes, lives and claims, and drains, in the order of the bytes.
 type Pieces = ((Permissions, Wishes), ((Lives, Claims), Drains));
 
-/// The pieces of a state that knows these dots.
+/// The pieces of a state with these known dots.
 #[tactic(auto, unfolding(crate::specs::StateReading::pieces_at))]
 fn read_pieces<'a>(
     reader: ByteReader<'a>,
@@ -118,7 +117,6 @@ fn read_pieces<'a>(
     Ok(((standing, others), rest))
 }
 
-/// The parts of a state.
 #[tactic(auto, unfolding(crate::specs::StateReading::parts_at))]
 fn read_parts<'a>(
     reader: ByteReader<'a>,
@@ -138,7 +136,6 @@ fn read_parts<'a>(
     Ok((parts, rest))
 }
 
-/// A state.
 fn read_next<'a>(
     reader: ByteReader<'a>,
     alloc: Global,
@@ -152,7 +149,7 @@ fn read_next<'a>(
     Ok((state, rest))
 }
 
-/// A state, and no byte after it.
+/// A state, unless bytes follow it.
 #[tactic(auto, unfolding(crate::specs::StateReading::state_at))]
 fn read_state(
     alloc: Global,
@@ -191,9 +188,11 @@ fn decode_in(
 }
 
 impl State {
-    /// The state that the next bytes spell in a version, and what is after it.
+    /// The state that the next bytes spell in a version, and the reader after it.
     ///
-    /// The faults are those of [`State::decode`] but `Trailing`, each at its byte counted as the reader counts.
+    /// # Errors
+    ///
+    /// Those of [`State::decode`] except `Trailing`, at offsets that the reader counts.
     pub fn read<'a>(
         reader: ByteReader<'a>,
         alloc: Global,
@@ -201,10 +200,10 @@ impl State {
         config: &Config,
     ) -> Result<(Self, ByteReader<'a>), ReadFault>
         ensures exact { Gives (λ x. x) result (parts_at version config.now reader.entry) }
-        // What is read is spelled so, and in form.
+        // The returned state is well-formed, with these bytes as its spelling.
         ensures found { IsFoundAs (λ x. x) (state_bytes version) (IsInForm version config.now)
             reader.entry result }
-        // What is spelled so and in form is read, unless memory runs out.
+        // A well-formed state is read from its spelling, unless memory runs out.
         ensures again { IsReadAgain (λ x. x) (state_bytes version) (IsInForm version config.now)
             reader.entry result }
     {
@@ -212,36 +211,40 @@ impl State {
         read_next(reader, alloc, version, config)
     }
 
-    /// The state that the bytes spell, version 2, under a configuration.
+    /// The state that the bytes spell in version 2, under a configuration.
     ///
-    /// Each field is checked as it is read, so the fault is the first from left to right, with its byte counted from
-    /// 0. `Short` comes where a field isn't whole. `BadNumber`, `BadName`, `NotInList`, `BadOrder` and `NotKnown`
-    /// come as the parts say. `NotKnown` comes too after the dots known, where a heard one isn't among them.
-    /// `Trailing` comes at the first byte after the drains. `NoMemory` stands at 0, and says nothing of the bytes.
+    /// # Errors
+    ///
+    /// Fields are checked as they are read, so that the fault is the first from left to right; offsets count from 0.
+    /// `Short` is an incomplete field. The readers of the parts define `BadNumber`, `BadName`, `NotInList`, `BadOrder`
+    /// and `NotKnown`. `NotKnown` after the known dots means that a heard dot isn't among them. `Trailing` is at the
+    /// first byte after the drains. `NoMemory` has offset 0 and carries no information about the bytes.
     pub fn decode(alloc: Global, config: &Config, bytes: &[u8]) -> Result<Self, ReadFault>
-        // What is read is spelled so, and in form.
+        // The returned state is well-formed, with these bytes as its spelling.
         ensures found { IfOk result (λ s. IsInForm Two config.now s × (bytes.now ≡ spelling_of s)) }
-        // What is spelled so and in form is read, unless memory runs out.
+        // A well-formed state is read from its spelling, unless memory runs out.
         ensures only { (s : StateValue) → IsInForm Two config.now s → bytes.now ≡ spelling_of s
             → Gives (λ s. s) result (Ok s) }
-        // Which fault it is.
+        // The definition determines the fault, unless memory runs out.
         ensures exact { Gives (λ s. s) result (state_at Two config.now bytes.now) }
     {
         decode_in(alloc, Version::Two, config, bytes)
     }
 
-    /// The state that the bytes spell, version 1, under a configuration. Such a state has no drains, and no incarnation
-    /// above 4,294,967,295.
+    /// The state that the bytes spell in version 1, under a configuration. Such a state has no drains, and no
+    /// incarnation above 4,294,967,295.
     ///
-    /// The faults are those of [`State::decode`], with `Trailing` at the first byte after the claims.
+    /// # Errors
+    ///
+    /// Those of [`State::decode`], with `Trailing` at the first byte after the claims.
     pub fn decode_1(alloc: Global, config: &Config, bytes: &[u8]) -> Result<Self, ReadFault>
-        // What is read is spelled so, and in form.
+        // The returned state is well-formed, with these bytes as its spelling.
         ensures found { IfOk result
             (λ s. IsInForm One config.now s × (bytes.now ≡ state_bytes One s)) }
-        // What is spelled so and in form is read, unless memory runs out.
+        // A well-formed state is read from its spelling, unless memory runs out.
         ensures only { (s : StateValue) → IsInForm One config.now s → bytes.now ≡ state_bytes One s
             → Gives (λ s. s) result (Ok s) }
-        // Which fault it is.
+        // The definition determines the fault, unless memory runs out.
         ensures exact { Gives (λ s. s) result (state_at One config.now bytes.now) }
     {
         decode_in(alloc, Version::One, config, bytes)

@@ -1,5 +1,4 @@
-//! What each part of a state takes of one operation. The dots that it replaces are listed once, and the list is passed
-//! on from part to part.
+//! The parts of an operation's delta. The list of dots that it replaces is made once and passed from part to part.
 ghost use Rattle.std.specs.Prelude.{◌≡◌, ◌∷◌, [], IfOk};
 ghost use Rattle.dac_operations.specs.Operations.{over_list};
 ghost use Rattle.dac_operations.specs.Seen.{drain_in, permit_in, wish_in};
@@ -7,7 +6,7 @@ ghost use Rattle.dac_wishes.specs.PermitMeaning.{over_of as over_of_permit};
 ghost use Rattle.dac_wishes.specs.WishMeaning.{over_of as over_of_wish};
 ghost use Rattle.dac_meaning.specs.StateValue.{drains_of, permissions_of, wishes_of};
 ghost use Rattle.dac_meaning.specs.Meaning.{meaning_of};
-ghost use Rattle.dac_state.specs.Heard.{heard_beside};
+ghost use Rattle.dac_state.specs.Heard.{heard_given};
 
 use crate::heard::Heard;
 use dac_base::NoMemory;
@@ -27,11 +26,11 @@ pub(crate) fn replaced_by(alloc: Global, op: &Op) -> Result<DotList, NoMemory>
     Ok(DotList::new(dots))
 }
 
-/// The dot of an operation, beside the dots that it knows. It knows no other where it replaces none.
+/// The dot of an operation, paired with the dots that it knows: it knows no other if it replaces none.
 pub(crate) fn heard_by(alloc: Global, op: &Op, known: &Context) -> Result<Heard, NoMemory>
     requires { known.now ≡ (meaning_of (op.now ∷ [])).known }
     ensures { IfOk result
-        (λ heard. heard_beside heard known.now ≡ (meaning_of (op.now ∷ [])).heard) }
+        (λ heard. heard_given heard known.now ≡ (meaning_of (op.now ∷ [])).heard) }
 {
     laws::delta_is_meaning();
     if op.act().over().is_empty() {
@@ -42,7 +41,7 @@ pub(crate) fn heard_by(alloc: Global, op: &Op, known: &Context) -> Result<Heard,
     Ok(Heard::These(heard))
 }
 
-/// What start wishes see of an act that replaces these dots.
+/// The act as start wishes see it, with the dots that it replaces.
 fn wish_act(act: &Act, over: DotList) -> WishAct
     requires { over ≡ over_list act.now }
     ensures { result ≡ wish_in act.now }
@@ -53,7 +52,7 @@ fn wish_act(act: &Act, over: DotList) -> WishAct
     }
 }
 
-/// What an operation that replaces these dots wishes and knows, and these dots.
+/// The start wish and known dots of an operation that replaces these dots, and these dots.
 pub(crate) fn wishes_by(
     alloc: Global,
     op: &Op,
@@ -72,7 +71,7 @@ pub(crate) fn wishes_by(
     }
 }
 
-/// What permissions see of an act that replaces these dots.
+/// The act as permissions see it, with the dots that it replaces.
 fn permit_act(act: &Act, over: DotList) -> PermitAct
     requires { over ≡ over_list act.now }
     ensures { result ≡ permit_in act.now }
@@ -91,7 +90,7 @@ fn permit_act(act: &Act, over: DotList) -> PermitAct
     }
 }
 
-/// What an operation that replaces these dots permits, beside the dots that it knows, and these dots.
+/// The permit of an operation that replaces these dots, paired with its known dots, and these dots.
 pub(crate) fn permissions_by(
     alloc: Global,
     op: &Op,
@@ -107,7 +106,7 @@ pub(crate) fn permissions_by(
     laws::delta_is_meaning();
     op.tells_invariant();
     let act = permit_act(op.act(), over);
-    let permissions = Permissions::delta_beside(alloc, op.dot(), &act, known)?;
+    let permissions = Permissions::delta_with_context(alloc, op.dot(), &act, known)?;
     match act {
         PermitAct::Permit {
             key: _,
@@ -118,7 +117,7 @@ pub(crate) fn permissions_by(
     }
 }
 
-/// What an operation says of a node's life.
+/// The life in an operation's delta.
 pub(crate) fn lives_by(alloc: Global, op: &Op) -> Result<Lives, NoMemory>
     ensures { IfOk result (λ lives. lives ≡ (meaning_of (op.now ∷ [])).lives) }
 {
@@ -128,7 +127,7 @@ pub(crate) fn lives_by(alloc: Global, op: &Op) -> Result<Lives, NoMemory>
     Ok(lives)
 }
 
-/// What an operation claims.
+/// The claim in an operation's delta.
 pub(crate) fn claims_by(alloc: Global, op: &Op) -> Result<Claims, NoMemory>
     ensures { IfOk result (λ claims. claims ≡ (meaning_of (op.now ∷ [])).claims) }
 {
@@ -138,7 +137,7 @@ pub(crate) fn claims_by(alloc: Global, op: &Op) -> Result<Claims, NoMemory>
     Ok(claims)
 }
 
-/// What drains see of an act that replaces these dots.
+/// The act as drains see it, with the dots that it replaces.
 fn drain_act(act: &Act, over: DotList) -> DrainAct
     requires { over ≡ over_list act.now }
     ensures { result ≡ drain_in act.now }
@@ -161,7 +160,7 @@ fn drain_act(act: &Act, over: DotList) -> DrainAct
     }
 }
 
-/// What an operation that replaces these dots drains, beside the dots that it knows.
+/// The drain of an operation that replaces these dots, paired with its known dots.
 pub(crate) fn drains_by(
     alloc: Global,
     op: &Op,
@@ -175,6 +174,6 @@ pub(crate) fn drains_by(
     laws::delta_is_meaning();
     op.tells_invariant();
     let act = drain_act(op.act(), over);
-    let drains = Drains::delta_beside(alloc, op.dot(), &act, known)?;
+    let drains = Drains::delta_with_context(alloc, op.dot(), &act, known)?;
     Ok(drains)
 }

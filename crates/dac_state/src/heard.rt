@@ -1,26 +1,26 @@
-//! The dots heard, as they are kept beside the dots known.
+//! The dots heard, stored relative to the dots known.
 ghost use Rattle.std.specs.Prelude.{◌≡◌, ◌↔◌, IsTrue, IfOk};
 ghost use Rattle.std.specs.FinSet as set;
 ghost use Rattle.dac_origins.specs.Dots.{IsSubset};
-ghost use Rattle.dac_state.specs.Heard.{heard_beside};
+ghost use Rattle.dac_state.specs.Heard.{heard_given};
 
 use dac_base::NoMemory;
 use dac_dots::{Context, SharedContext};
 
-/// The dots heard, which are some of the dots known.
+/// The dots heard, a subset of the dots known.
 #[derive(Drop)]
 pub(crate) enum Heard {
-    /// All that are known.
+    /// All known dots were heard.
     All,
-    /// These.
+    /// Only these dots were heard.
     These(Context),
 }
 
 impl Heard {
-    /// These dots. It takes no memory.
+    /// Stores the dots heard, given the dots known.
     pub(crate) fn of(heard: Context, known: &Context) -> Self
         requires { IsSubset heard known.now }
-        ensures { heard_beside result known.now ≡ heard }
+        ensures { heard_given result known.now ≡ heard }
     {
         if known.is_subset(&heard) {
             Heard::All
@@ -29,9 +29,9 @@ impl Heard {
         }
     }
 
-    /// The dots heard.
+    /// The dots heard, given the dots known.
     pub(crate) fn beside<'a>(&'a self, known: &'a Context) -> &'a Context
-        ensures { result.now ≡ heard_beside self.now known.now }
+        ensures { result.now ≡ heard_given self.now known.now }
     {
         match self {
             Heard::All => known,
@@ -39,9 +39,9 @@ impl Heard {
         }
     }
 
-    /// Whether all dots known are among these, among which are the dots heard.
-    fn knows_no_more(&self, known: &Context, dots: &Context) -> bool
-        requires { IsSubset (heard_beside self.now known.now) dots.now }
+    /// Whether all known dots are among `dots`, which include the heard ones.
+    fn knows_only(&self, known: &Context, dots: &Context) -> bool
+        requires { IsSubset (heard_given self.now known.now) dots.now }
         ensures { IsTrue result → IsSubset known.now dots.now }
     {
         match self {
@@ -50,7 +50,7 @@ impl Heard {
         }
     }
 
-    /// Whether all dots that either side knows are among these, among which are those that either heard.
+    /// Whether all dots known on either side are among `dots`, which include those heard on either side.
     fn both_know_no_more(
         &self,
         known: &Context,
@@ -58,27 +58,27 @@ impl Heard {
         other_known: &Context,
         dots: &Context,
     ) -> bool
-        requires mine { IsSubset (heard_beside self.now known.now) dots.now }
-        requires theirs { IsSubset (heard_beside other.now other_known.now) dots.now }
+        requires mine { IsSubset (heard_given self.now known.now) dots.now }
+        requires theirs { IsSubset (heard_given other.now other_known.now) dots.now }
         ensures { IsTrue result → IsSubset known.now dots.now × IsSubset other_known.now dots.now }
     {
-        self.knows_no_more(known, dots) && other.knows_no_more(other_known, dots)
+        self.knows_only(known, dots) && other.knows_only(other_known, dots)
     }
 
-    /// The dots that either side knows, and those that either heard. Mostly they are the same, and no other union is
-    /// made. [`NoMemory`] is the only error.
+    /// The dots known on either side, and those heard on either side. Mostly both unions are equal, and then only one
+    /// is made.
     pub(crate) fn join(
         &self,
         known: &Context,
         other: &Self,
         other_known: &Context,
     ) -> Result<(SharedContext, Heard), NoMemory>
-        requires mine { IsSubset (heard_beside self.now known.now) known.now }
-        requires theirs { IsSubset (heard_beside other.now other_known.now) other_known.now }
+        requires mine { IsSubset (heard_given self.now known.now) known.now }
+        requires theirs { IsSubset (heard_given other.now other_known.now) other_known.now }
         ensures known { IfOk result (λ dots. dots.0 ≡ set.union known.now other_known.now) }
-        ensures heard { IfOk result (λ dots. heard_beside dots.1 dots.0
-            ≡ set.union (heard_beside self.now known.now)
-            (heard_beside other.now other_known.now)) }
+        ensures heard { IfOk result (λ dots. heard_given dots.1 dots.0
+            ≡ set.union (heard_given self.now known.now)
+            (heard_given other.now other_known.now)) }
     {
         let heard = self.beside(known).union(other.beside(other_known))?;
         if self.both_know_no_more(known, other, other_known, &heard) {
@@ -90,10 +90,10 @@ impl Heard {
         Ok((shared, Heard::These(heard)))
     }
 
-    /// Whether each of these dots was heard, all of which are known.
+    /// Whether all of `dots`, which are known, were heard.
     fn has(&self, known: &Context, dots: &Context) -> bool
         requires { IsSubset dots.now known.now }
-        ensures { IsTrue result ↔ IsSubset dots.now (heard_beside self.now known.now) }
+        ensures { IsTrue result ↔ IsSubset dots.now (heard_given self.now known.now) }
     {
         match self {
             Heard::All => true,
@@ -101,13 +101,13 @@ impl Heard {
         }
     }
 
-    /// Whether the other side knows all dots that this one knows, and heard all that this one heard.
+    /// Whether the other side knows all dots known here, and heard all dots heard here.
     pub(crate) fn leq(&self, known: &Context, other: &Self, other_known: &Context) -> bool
-        requires { IsSubset (heard_beside self.now known.now) known.now }
+        requires { IsSubset (heard_given self.now known.now) known.now }
         ensures { IsTrue result
             ↔ IsSubset known.now other_known.now
-            × IsSubset (heard_beside self.now known.now)
-            (heard_beside other.now other_known.now) }
+            × IsSubset (heard_given self.now known.now)
+            (heard_given other.now other_known.now) }
     {
         if !known.is_subset(other_known) {
             return false;
@@ -115,17 +115,17 @@ impl Heard {
         other.has(other_known, self.beside(known))
     }
 
-    /// Whether both sides heard the same dots, where both know these.
+    /// Whether both sides heard the same dots, given that both know the same.
     pub(crate) fn equal(&self, other: &Self, known: &Context) -> bool
-        requires mine { IsSubset (heard_beside self.now known.now) known.now }
-        requires theirs { IsSubset (heard_beside other.now known.now) known.now }
+        requires mine { IsSubset (heard_given self.now known.now) known.now }
+        requires theirs { IsSubset (heard_given other.now known.now) known.now }
         ensures { IsTrue result
-            ↔ (heard_beside self.now known.now ≡ heard_beside other.now known.now) }
+            ↔ (heard_given self.now known.now ≡ heard_given other.now known.now) }
     {
         self.has(known, other.beside(known)) && other.has(known, self.beside(known))
     }
 
-    /// Equal dots. They share memory that never changes.
+    /// A copy, which shares immutable memory.
     pub(crate) fn copy(&self) -> Result<Self, NoMemory>
         ensures { IfOk result (λ copied. copied ≡ self.now) }
     {

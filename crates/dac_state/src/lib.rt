@@ -1,12 +1,15 @@
-//! The state that controllers keep in place of the operations that they have heard.
+//! The state of a controller: a delta-state CRDT that replaces the operations received.
 //!
-//! A set of operations means a [`State`]: the dots heard, the dots known, and the permits and start wishes that
-//! stand. With them come the life of each node and the greatest claim of each application. Controllers keep states
-//! alone. The state of one operation is what it means alone ([`State::delta_of`]). The join of what two sets mean is
-//! what both mean together, so nothing is lost. States are a lattice, for every value of the type.
+//! The meaning of a set of operations is a [`State`]: the dots heard, the dots known, the standing permits, start
+//! wishes and drains, the life of each node, and the greatest claim of each application. Controllers store only states
+//! and none of the operations. The meaning of one operation is its delta ([`State::delta_of`]). The join of the
+//! meanings of two sets is the meaning of their union, so that nothing is lost. All values of the type form a lattice.
 //!
-//! A state has one spelling in bytes ([`State::encode`]), and is read from it ([`State::decode`]). A state without
-//! drains has an older one too, in version 1 of the bytes ([`State::decode_1`]). A state keeps none of the operations.
+//! A state has one spelling in bytes ([`State::encode`]), from which it is read ([`State::decode`]). A state without
+//! drains also has an older spelling, in version 1 ([`State::decode_1`]).
+//!
+//! Functions that don't return a `Result` allocate nothing. `NoMemory` is the only error of those that return
+//! `Result<_, NoMemory>`, and leaves borrowed arguments unchanged.
 #![tactic(auto)]
 
 pub mod laws;

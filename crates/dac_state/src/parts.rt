@@ -1,7 +1,7 @@
 //! The parts of a state.
 ghost use Rattle.std.specs.Prelude.{◌≡◌, ◌↔◌, IsTrue, IfOk};
 ghost use Rattle.dac_meaning.specs.StateValue.{IsState, IsBelow, drains_of, join, permissions_of, wishes_of};
-ghost use Rattle.dac_state.specs.Heard.{heard_beside};
+ghost use Rattle.dac_state.specs.Heard.{heard_given};
 ghost use Rattle.dac_state.specs.Parts.{AreParts, state_of_parts};
 
 use crate::heard::Heard;
@@ -13,7 +13,7 @@ use dac_wishes::{Drains, Permissions, Wishes};
 use std::alloc::Global;
 use std::marker::Model;
 
-/// The parts of a state. Permissions, wishes and drains know the same dots, and share them where they can.
+/// The parts of a state. Permissions, wishes and drains know the same dots, and share their memory if possible.
 #[derive(Drop)]
 pub(crate) struct Parts {
     alloc: Global,
@@ -27,22 +27,22 @@ pub(crate) struct Parts {
 
 impl Model for Parts {
     ghost use Rattle.dac_meaning.specs.StateValue.{StateValue, coded_state};
-    ghost use Rattle.dac_state.specs.Heard.{heard_beside};
+    ghost use Rattle.dac_state.specs.Heard.{heard_given};
     ghost use Rattle.dac_state.specs.Parts.{AreParts, state_of_parts};
 
     ghost Value = { StateValue };
 
     ghost coded = { coded_state };
 
-    ghost view = { λ a. state_of_parts (heard_beside a.heard a.wishes.known) a.permissions a.wishes
+    ghost view = { λ a. state_of_parts (heard_given a.heard a.wishes.known) a.permissions a.wishes
         a.lives a.claims a.drains };
 
-    ghost invariant = { λ a. AreParts (heard_beside a.heard a.wishes.known) a.permissions a.wishes
+    ghost invariant = { λ a. AreParts (heard_given a.heard a.wishes.known) a.permissions a.wishes
         a.lives a.claims a.drains };
 }
 
 impl Parts {
-    /// These parts. It takes no memory.
+    /// The parts of a state, with the dots heard as a context.
     pub(crate) fn new(
         alloc: Global,
         heard: Context,
@@ -59,7 +59,7 @@ impl Parts {
         Parts::beside(alloc, heard, permissions, wishes, lives, claims, drains)
     }
 
-    /// These parts, where the dots heard are kept beside those that the wishes know. It takes no memory.
+    /// The parts of a state, with the dots heard relative to the wishes' known dots.
     pub(crate) fn beside(
         alloc: Global,
         heard: Heard,
@@ -69,10 +69,10 @@ impl Parts {
         claims: Claims,
         drains: Drains,
     ) -> Self
-        requires { AreParts (heard_beside heard wishes.known) permissions wishes lives claims
+        requires { AreParts (heard_given heard wishes.known) permissions wishes lives claims
             drains }
         ensures { result
-            ≡ state_of_parts (heard_beside heard wishes.known) permissions wishes lives claims
+            ≡ state_of_parts (heard_given heard wishes.known) permissions wishes lives claims
             drains }
     {
         Parts {
@@ -86,7 +86,7 @@ impl Parts {
         }
     }
 
-    /// Where their memory comes from.
+    /// The allocator of the parts, for joins and copies.
     pub(crate) fn allocator(&self) -> Global {
         self.alloc
     }
@@ -98,21 +98,21 @@ impl Parts {
         self.heard.beside(self.wishes.context())
     }
 
-    /// The dots of the operations heard, and those that one of them replaces.
+    /// The dots of the operations heard, and those that they replaced.
     pub(crate) fn known(&self) -> &Context
         ensures { result.now ≡ self.now.known }
     {
         self.wishes.context()
     }
 
-    /// The permits that stand.
+    /// The standing permits.
     pub(crate) fn permissions(&self) -> &Permissions
         ensures { result.now ≡ permissions_of self.now }
     {
         &self.permissions
     }
 
-    /// The start wishes that stand.
+    /// The standing start wishes, whose context is the known dots.
     pub(crate) fn wishes(&self) -> &Wishes
         ensures { result.now ≡ wishes_of self.now }
     {
@@ -133,32 +133,34 @@ impl Parts {
         &self.claims
     }
 
-    /// The drains that stand.
+    /// The standing drains.
     pub(crate) fn drains(&self) -> &Drains
         ensures { result.now ≡ drains_of self.now }
     {
         &self.drains
     }
 
-    /// They are those of a state. This only tells proofs so, and does nothing when it runs.
+    /// Provides the invariant to proofs. It does nothing at run time.
     pub(crate) fn tells_invariant(&self)
         ensures { IsState self.now }
     {
         let _heard = &self.heard;
     }
 
-    /// The parts joined with others.
+    /// The join of all parts.
     pub(crate) fn join(&self, other: &Self) -> Result<Self, NoMemory>
         ensures { IfOk result (λ joined. joined ≡ join self.now other.now) }
     {
         let mine = self.wishes.context();
         let theirs = other.wishes.context();
         let (known, heard) = self.heard.join(mine, &other.heard, theirs)?;
-        let permissions = self.permissions.join_beside(&other.permissions, &known)?;
-        let wishes = self.wishes.join_beside(&other.wishes, &known)?;
+        let permissions = self
+            .permissions
+            .join_with_context(&other.permissions, &known)?;
+        let wishes = self.wishes.join_with_context(&other.wishes, &known)?;
         let lives = self.lives.join(&other.lives)?;
         let claims = self.claims.join(&other.claims)?;
-        let drains = self.drains.join_beside(&other.drains, &known)?;
+        let drains = self.drains.join_with_context(&other.drains, &known)?;
         Ok(Parts {
             alloc: self.alloc,
             heard,
@@ -170,7 +172,7 @@ impl Parts {
         })
     }
 
-    /// Whether each is below the other's.
+    /// Whether each part is below the other's.
     pub(crate) fn leq(&self, other: &Self) -> bool
         ensures { IsTrue result ↔ IsBelow self.now other.now }
     {
@@ -178,19 +180,20 @@ impl Parts {
         if !self.heard.leq(known, &other.heard, other.wishes.context()) {
             return false;
         }
-        if !self.permissions.leq_beside(&other.permissions) {
+        if !self.permissions.leq_with_contexts(&other.permissions) {
             return false;
         }
-        if !self.wishes.leq_beside(&other.wishes) {
+        if !self.wishes.leq_with_contexts(&other.wishes) {
             return false;
         }
         if !self.lives.leq(&other.lives) {
             return false;
         }
-        self.claims.leq(&other.claims) && self.drains.leq_beside(&other.drains)
+        self.claims.leq(&other.claims) && self.drains.leq_with_contexts(&other.drains)
     }
 
-    /// Whether each is equal to the other's. The dots known differ most often, and the wishes stand beside them.
+    /// Whether the parts are equal. The wishes come first, because the known dots are paired with them and differ most
+    /// often.
     pub(crate) fn equal(&self, other: &Self) -> bool
         ensures { IsTrue result ↔ (self.now ≡ other.now) }
     {
@@ -209,10 +212,10 @@ impl Parts {
         if !self.permissions.equal(&other.permissions) {
             return false;
         }
-        self.drains.leq_beside(&other.drains) && other.drains.leq_beside(&self.drains)
+        self.drains.leq_with_contexts(&other.drains) && other.drains.leq_with_contexts(&self.drains)
     }
 
-    /// Equal parts. They may share memory that never changes.
+    /// A copy, which can share immutable memory.
     pub(crate) fn copy(&self) -> Result<Self, NoMemory>
         ensures { IfOk result (λ copied. copied ≡ self.now) }
     {

@@ -1,4 +1,4 @@
-//! What a set of operations adds up to.
+//! The meaning of a set of operations.
 ghost use Rattle.std.specs.Prelude.{◌≡◌, ◌∷◌, [], IfOk};
 ghost use Rattle.dac_meaning.specs.StateValue.{drains_of, permissions_of, wishes_of};
 ghost use Rattle.dac_meaning.specs.Meaning.{meaning_of};
@@ -17,33 +17,33 @@ use std::alloc::Global;
 use std::marker::Model;
 use std::sync::Arc;
 
-/// What a controller keeps of the operations that it has heard. It has their dots, and the permits, the start
-/// wishes and the drains that none of them replaces. These stand beside the dots that they name. It keeps the life of each node and
-/// the greatest claim of each application too.
+/// The state of a controller, which replaces the operations that it has heard. It contains their dots, and the permits,
+/// start wishes and drains that none of them replaced, paired with the known dots. It also contains the life of each
+/// node and the greatest claim of each application.
 ///
-/// States are a lattice. A join knows what either side knows. A permit or wish that one side has stands in it unless
-/// the other side knows its dot and has it no more. Contracts see a state as a record of finite sets and maps, so
-/// states with equal parts are equal.
+/// States form a lattice. A join knows the dots known on either side. A permit, wish or drain of one side stands in it
+/// unless the other side knows its dot and no longer contains it. Contracts see a state as a record of finite sets and
+/// maps, so that states with equal parts are equal.
 ///
-/// Copies of a state share its parts, since no part ever changes: a copy costs as much as a pointer. A copy of the
-/// least state has parts of its own.
+/// Parts are immutable and shared by copies, so that a copy costs as much as a pointer. A copy of the least state has
+/// its own parts.
 pub struct State {
     kept: KeptParts,
 }
 
-/// Written out, so that dropping a state is one call for a proof, wherever that is, and not the drop of each part.
+/// Written by hand, so that dropping a state is a single call in proofs, rather than the drop of each part.
 impl Drop for State {
     fn drop(self) {
         let State { kept: _kept } = self;
     }
 }
 
-/// Where the parts of a state are kept.
+/// The location of a state's parts.
 #[derive(Drop)]
 pub(crate) enum KeptParts {
-    /// In the state itself, as those of the least one, which takes no memory.
+    /// In the state itself, as for the least state, which allocates nothing.
     Here(Parts),
-    /// Together with its copies.
+    /// Shared with its copies.
     Shared(Arc<Parts, Global>),
 }
 
@@ -59,7 +59,7 @@ impl Model for State {
 }
 
 impl State {
-    /// What one operation means alone. [`NoMemory`] is the only error.
+    /// The delta of an operation: the meaning of the set of this operation only.
     pub fn delta_of(alloc: Global, op: &Op) -> Result<Self, NoMemory>
         ensures { IfOk result (λ state. state ≡ meaning_of (op.now ∷ [])) }
     {
@@ -86,7 +86,6 @@ impl State {
         })
     }
 
-    /// Its parts.
     fn parts(&self) -> &Parts
         ensures { result.now ≡ self.now }
     {
@@ -96,7 +95,7 @@ impl State {
         }
     }
 
-    /// Where its memory comes from.
+    /// The allocator of the parts.
     pub(crate) fn allocator(&self) -> Global {
         self.parts().allocator()
     }
@@ -108,28 +107,28 @@ impl State {
         self.parts().heard()
     }
 
-    /// The dots of the operations heard, and those that one of them replaces.
+    /// The dots of the operations heard, and those that they replaced.
     pub fn known(&self) -> &Context
         ensures { result.now ≡ self.now.known }
     {
         self.parts().known()
     }
 
-    /// The permits that stand.
+    /// The standing permits, which no heard operation replaced, paired with the known dots.
     pub fn permissions(&self) -> &Permissions
         ensures { result.now ≡ permissions_of self.now }
     {
         self.parts().permissions()
     }
 
-    /// The start wishes that stand.
+    /// The standing start wishes, which no heard operation replaced, paired with the known dots.
     pub fn wishes(&self) -> &Wishes
         ensures { result.now ≡ wishes_of self.now }
     {
         self.parts().wishes()
     }
 
-    /// The life of each node.
+    /// The life of each node: its latest reported incarnation, and whether it is up.
     pub fn lives(&self) -> &Lives
         ensures { result.now ≡ self.now.lives }
     {
@@ -143,7 +142,7 @@ impl State {
         self.parts().claims()
     }
 
-    /// The drains that stand.
+    /// The standing drains, which no heard operation replaced, paired with the known dots.
     pub fn drains(&self) -> &Drains
         ensures { result.now ≡ drains_of self.now }
     {

@@ -33,7 +33,7 @@ group_is t app marks group =
     (listed_at [] node_numbered (label_text t) (node_count t) n lt)
     (placed_at MAX_NODES None node_numbered (group_of t app) (node_count t) n lt))
 
--- the groups up to the last one that has a node are all that have a text
+-- groups after the last one that has a node have no text
 pub list_is : (t : Table) (app : AppId) (marks : List Mark) (groups : List (Option ℕ)) (count : ℕ) → groups ≡ groups_of t app → count ≤ MAX_NODES
     → ((node group : ℕ) → node < node_count t → group < MAX_NODES → get_or groups node None ≡ Some group → group < count)
     → texts (λ n. n) (group_in t (labels_of t) groups marks) count ≡ texts (λ n. n) (group_text t app marks) MAX_NODES

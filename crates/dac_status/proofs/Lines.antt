@@ -1,11 +1,11 @@
--- Texts that are put one behind another.
+-- Concatenated texts.
 use Rattle.std.proofs.Common.{◌≡◌, ℕ, ◌+◌, ◌<◌, ◌≤◌, zero, suc, List, [], ◌∷◌, ◌++◌, map, refl, sym, ap, ap₂, ◌∙◌, arith, append_assoc, append-nil}
 use Rattle.std.specs.List.{flat_map, range_with_len}
 use Rattle.std.proofs.lemmas.Grind.{flat_map-append}
 use Rattle.std.proofs.lemmas.List.FromFn.{map-range_with_len_more}
 
 module _ {X : Type 0} (make : ℕ → X) (f : X → List ℕ) where
-  -- the texts of the first n of them
+  -- the texts of the first n
   abbrev pub texts : ℕ → List ℕ
   texts n = flat_map f (map make (range_with_len 0 n))
 
@@ -18,7 +18,7 @@ module _ {X : Type 0} (make : ℕ → X) (f : X → List ℕ) where
   pub put_more : (n : ℕ) (start text : List ℕ) → text ≡ start ++ texts n → text ++ f (make n) ≡ start ++ texts (n + 1)
   put_more n start text is = ap (λ t. t ++ f (make n)) is ∙ append_assoc start (texts n) (f (make n)) ∙ ap (λ t. start ++ t) (sym (texts-more n))
 
-  -- from some place on, none of them has a text
+  -- texts from some place on are empty
   pub texts_end : (count n : ℕ) → ((m : ℕ) → count ≤ m → m < count + n → f (make m) ≡ []) → texts (count + n) ≡ texts count
   texts_end count zero none = ap texts (omega arith)
   texts_end count (suc n) none =

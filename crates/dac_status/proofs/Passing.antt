@@ -1,4 +1,4 @@
--- A walk through entries in the order of their keys: what is found after some were passed.
+-- A walk through entries in the order of their keys: lookups after some entries were passed.
 use Rattle.std.proofs.Common.{◌≡◌, ◌∙◌, ℕ, ◌+◌, ◌<◌, ◌≤◌, ◌==◌, Bool, true, false, cond, T, ◌&&◌, List, [], ◌∷◌, nat_eq, Option, None, Some, Bor, is_some, length, drop, refl, sym, ap, subst, arith, add-one, true≢false}
 use Rattle.std.specs.Prelude.{nat_lt}
 use Rattle.std.specs.List.{list_all, list_any}
@@ -31,7 +31,7 @@ use Rattle.dac_wishes.specs.Keys.{key_cmp, same_key}
 use Rattle.dac_wishes.specs.laws.Keys.{exact_keys, keys_total, same_key_is}
 use Rattle.dac_wishes.specs.Writes.{Writes, same_dot, write}
 use Rattle.dac_wishes.specs.laws.KeyedWrites.{same_dot_itself}
-use Rattle.dac_wishes.specs.PermissionsValue.{is_permitted_by, permits_at, says_true}
+use Rattle.dac_wishes.specs.PermissionsValue.{is_permitted_by, permits_at, is_permitting}
 use Rattle.dac_wishes.specs.PermitsByKey.{permits_by_key}
 use Rattle.dac_wishes.specs.laws.PermitsByKey.{are_permits, by_key_again, permits_stored}
 use Rattle.dac_wishes.specs.StoredPermits.{DotFlags}
@@ -54,11 +54,11 @@ lower_from Greater e = cc
 own : (key : Key) → is_lt (key_cmp key key) ≡ false
 own key = ap is_lt (tied_itself keys_total key)
 
--- an entry below a key is at none of the keys that aren't
+-- an entry below a key is at no key that isn't below it
 apart : (x key k : Key) → key_cmp x key ≡ Less → is_lt (key_cmp k key) ≡ false → same_key k x ≡ false
 apart x key k below not = false_from_ne_true (same_key k x) (λ t. true≢false (sym (ap is_lt (ap (λ y. key_cmp y key) (same_key_is k x t) ∙ below)) ∙ not))
 
--- what isn't below the later key isn't below the earlier one
+-- a key that isn't below the later key isn't below the earlier one
 not_below : (a b k : Key) → is_lt (key_cmp b a) ≡ false → is_lt (key_cmp k b) ≡ false → is_lt (key_cmp k a) ≡ false
 not_below a b k later past = false_from_ne_true (is_lt (key_cmp k a)) (λ t.
     let lower = lower_from (key_cmp k a) t in
@@ -84,13 +84,13 @@ from_first app node inc =
     ∙ ap (λ b. is_lt (cond b Less (cond (inc == 0) Equal Greater))) (not_less inc 0 (omega arith))
     ∙ elim (inc == 0) as (λ b. is_lt (cond b Equal Greater) ≡ false) [ true ↦ refl | false ↦ refl ]
 
--- the first key of the next node isn't below any of the node
+-- the first key of the next node isn't below any key of the node
 next_node : (app : AppId) (node : NodeId) (inc : ℕ) → is_lt (key_cmp (first_key app.0 (node.0 + 1)) (record { app = app; node = node; inc = inc })) ≡ false
 next_node app node inc =
     ap (λ r. is_lt (ordering_then r (ordering_then (nat_cmp (node.0 + 1) node.0) (nat_cmp 0 inc)))) (tied_itself apps_total app)
     ∙ ap (λ r. is_lt (ordering_then r (nat_cmp 0 inc))) (greater (node.0 + 1) node.0 (omega arith))
 
--- nor that of the next application
+-- the first key of the next application isn't below the first key of any node of this one
 next_app : (app node : ℕ) → is_lt (key_cmp (first_key (app + 1) 0) (first_key app node)) ≡ false
 next_app app node = ap (λ r. is_lt (ordering_then r (ordering_then (nat_cmp 0 node) (nat_cmp 0 0)))) (greater (app + 1) app (omega arith))
 
@@ -113,7 +113,7 @@ module _ {X : Type 0} where
       let same : length next ≡ length (drop 1 now) = ap length passed in
       omega (arith, long, same)
 
-  -- the entry at the key
+  -- the entry at the key is found
   pub found_at : (key : Key) (old now : List (Key × X)) (e : Key × X) → now ≡ e ∷ drop 1 now → key_cmp e.0 key ≡ Equal → HasSameFrom key_cmp key old now → Some e.1 ≡ find key_cmp key old
   found_at key old now e is at same =
       sym (ap (λ r. cond (is_eq r) (Some e.1) (find key_cmp key (drop 1 now))) (keys_total.antisymm key e.0 ∙ ap ordering_reverse at))
@@ -133,7 +133,7 @@ module _ {X : Type 0} where
       less Equal p = absurd p
       less Greater p = absurd p
 
-  -- all entries that are left are past the key
+  -- nothing is found if the next entry is past the key
   pub found_none : (key : Key) (old now : List (Key × X)) (e : Key × X) → now ≡ e ∷ drop 1 now → key_cmp e.0 key ≡ Greater → IsInOrder key_cmp now → HasSameFrom key_cmp key old now → None ≡ find key_cmp key old
   found_none key old now e is past s same =
       let lower : key_cmp key e.0 ≡ Less = keys_total.antisymm key e.0 ∙ ap ordering_reverse past in
@@ -147,7 +147,7 @@ module _ {X : Type 0} where
   pub found_end : (key : Key) (old now : List (Key × X)) → now ≡ [] → HasSameFrom key_cmp key old now → None ≡ find key_cmp key old
   found_end key old now none same = sym (ap (find key_cmp key) none) ∙ same key (own key)
 
-  -- two walks one after the other
+  -- two walks in sequence are one
   pub same_after : (key : Key) (all old new : List (Key × X)) → HasSameFrom key_cmp key all old → HasSameFrom key_cmp key old new → HasSameFrom key_cmp key all new
   same_after key all old new one other k past = other k past ∙ one k past
 
@@ -171,7 +171,7 @@ before_next_node app node inc walk before = before_later (record { app = app; no
 pub before_next_app : (app node : ℕ) (walk : WalkValue) → IsBefore (first_key app node) walk → IsBefore (first_key (app + 1) 0) walk
 before_next_app app node walk before = before_later (first_key app node) (first_key (app + 1) 0) walk (next_app app node) before
 
--- the permits that are left at a key are those that stand there
+-- the permits found at a key in the rest are those that stand there
 pub permits_left : (key : Key) (s : StateValue) (left : List (Key × DotFlags)) → HasSameFrom key_cmp key (permits_by_key s.permits) left → store_at [] (find key_cmp key left) ≡ permits_at key s.permits
 permits_left key s left same =
     ap (λ found. store_at [] found) (same key (own key))
@@ -186,7 +186,7 @@ some_dot s e = elim (set.items s) as (λ ks. ((q : Dot) → set.contains s q ≡
 ] (set.contains-items s)
 
 module _ (key : Key) (writes : Writes) where
-  -- a start stands exactly if its dot is kept at its key
+  -- a start stands exactly when its dot is kept at its key
   stands : (d : Dot) → set.contains writes (write key d) ≡ set.contains (store_at set.empty (find key_cmp key (starts_by_key writes))) d
   stands d = ap (λ ws. set.contains ws (write key d)) (sym (writes_again writes)) ∙ contains-writes_of (starts_by_key writes) (are_starts writes).in_order (write key d)
 
@@ -204,7 +204,7 @@ module _ (key : Key) (writes : Writes) where
     | Some s ↦ λ h. refl
   ] (sym (stands d) ∙ h)
 
--- a start that is left at a key stands there
+-- a start found at a key in the rest stands there
 pub started_left : (key : Key) (s : StateValue) (left : List (Key × Dots)) → HasSameFrom key_cmp key (starts_by_key s.starts) left → is_some (find key_cmp key left) ≡ is_wished key (wishes_of s)
 started_left key s left same =
     let words = is_wished-some key (wishes_of s) in
@@ -213,23 +213,23 @@ started_left key s left same =
     (λ h. words.1 (some_if_kept key s.starts h))
     (λ h. let d = words.0 h in kept_if_some key s.starts d.0 d.1)
 
--- where there are permits, all have to say true
-pub by_permits : (default : Bool) (ps : DotFlags) → nat_eq (length ps) 0 ≡ false → is_permitted_by default ps ≡ list_all (λ (p : Dot × Flag). says_true p.1) ps
+-- if there are permits, all must say true
+pub by_permits : (default : Bool) (ps : DotFlags) → nat_eq (length ps) 0 ≡ false → is_permitted_by default ps ≡ list_all (λ (p : Dot × Flag). is_permitting p.1) ps
 by_permits default [] e = absurd (true≢false e)
 by_permits default (p ∷ ps) e = refl
 
--- what the permits say that are left at a key
+-- the permits found in the rest decide as those of the state
 pub permitted_left : (table : Table) (key : Key) (s : StateValue) (left : List (Key × DotFlags)) (found : Option DotFlags) → found ≡ find key_cmp key left → HasSameFrom key_cmp key (permits_by_key s.permits) left
     → is_permitted_by (default_permission table key.app) (store_at [] found) ≡ is_permitted_at table s key
 permitted_left table key s left found is same = ap (λ ps. is_permitted_by (default_permission table key.app) ps) (ap (λ f. store_at [] f) is ∙ permits_left key s left same)
 
--- ---- a walk by its parts
+-- ---- a walk by its fields
 
 module _ (key : Key) (s : StateValue) (permits : List (Key × DotFlags)) (starts : List (Key × Dots)) (walk : WalkValue) (is : record { state = s; permits = permits; starts = starts } ≡ walk) where
   pub before_inside : IsBefore key walk → IsBefore key (record { state = s; permits = permits; starts = starts })
   before_inside before = subst (IsBefore key) (sym is) before
 
-  -- some permits below the key are passed
+  -- passing some permits below the key
   pub before_passed : (left : List (Key × DotFlags)) → HasSameFrom key_cmp key permits left → IsBefore key walk → IsBefore key (record { state = s; permits = left; starts = starts })
   before_passed left same before =
       let was = before_inside before in

@@ -1,4 +1,4 @@
--- Places that are filled one after another.
+-- Lists filled place by place.
 use Rattle.std.proofs.Common.{◌≡◌, ℕ, ◌+◌, ◌-◌, ◌<◌, List, [], ◌∷◌, ◌++◌, length, map, set, replicate, suc, get_or, sym, subst, ap, ap₂, ◌∙◌, arith, append_assoc}
 use Rattle.std.specs.List.{range_with_len}
 use Rattle.std.proofs.Math.Seq.{get_or-append_seam, set-append_seam}
@@ -15,22 +15,22 @@ node_numbered n = record { 0 = n }
 abbrev pub app_numbered : ℕ → AppId
 app_numbered n = record { 0 = n }
 
--- what stands at a place of a list of them
+-- the item at a place
 pub listed_at : {X T : Type 0} (blank : T) (make : ℕ → X) (f : X → T) (count n : ℕ) → n < count → get_or (map f (map make (range_with_len 0 count))) n blank ≡ f (make n)
 listed_at blank make f count n lt =
     get_or-map f (map make (range_with_len 0 count)) n (make n) blank (subst (λ m. n < m) (sym (length-map-range_with_len make 0 count)) lt)
     ∙ ap f (get_or-map-range_with_len make 0 count n n (make n) lt (omega arith))
 
--- how many they are
+-- the number of items
 pub length_listed : {X T : Type 0} (make : ℕ → X) (f : X → T) (count : ℕ) → length (map f (map make (range_with_len 0 count))) ≡ count
 length_listed make f count = length-map (map make (range_with_len 0 count)) f ∙ length-map-range_with_len make 0 count
 
--- one more of them
+-- one more item
 pub listed_more : {X T : Type 0} (make : ℕ → X) (f : X → T) (n : ℕ) → map f (map make (range_with_len 0 (n + 1))) ≡ map f (map make (range_with_len 0 n)) ++ f (make n) ∷ []
 listed_more make f n = ap (map f) (map-range_with_len_more make 0 n n (omega arith)) ∙ map-append f (map make (range_with_len 0 n)) (make n ∷ [])
 
 module _ {X T : Type 0} (places : ℕ) (blank : T) (make : ℕ → X) (f : X → T) where
-  -- what the first n of them give
+  -- the items of the first n
   abbrev first : ℕ → List T
   first n = map f (map make (range_with_len 0 n))
 
@@ -58,21 +58,21 @@ module _ {X T : Type 0} (places : ℕ) (blank : T) (make : ℕ → X) (f : X →
       ∙ sym (append_assoc (first n) (v ∷ []) (replicate left blank))
       ∙ ap₂ (λ l c. l ++ replicate c blank) (sym (first-more n)) (ap (λ c. places - c) (sym (length-first (n + 1))))
 
-  -- what stands at the place of one of them
+  -- the item at a place, with blanks after the items
   pub placed_at : (count n : ℕ) → n < count → get_or (placed places blank (first count)) n blank ≡ f (make n)
   unfolding placed
   placed_at count n lt =
       get_or-append (first count) (replicate (places - length (first count)) blank) blank n (subst (λ m. n < m) (sym (length-first count)) lt)
       ∙ listed_at blank make f count n lt
 
-  -- the same, whatever is read past the places
+  -- the item at a place, whatever the default
   pub placed_any : (d : T) (count n : ℕ) → n < count → get_or (placed places blank (first count)) n d ≡ f (make n)
   unfolding placed
   placed_any d count n lt =
       get_or-append (first count) (replicate (places - length (first count)) blank) d n (subst (λ m. n < m) (sym (length-first count)) lt)
       ∙ listed_at d make f count n lt
 
--- Places that hold f of all below n, and g of those from there on, up to n + k.
+-- Places that hold f of all numbers below n, and g of the next k.
 module _ {X T : Type 0} (places : ℕ) (blank : T) (make : ℕ → X) (f g : X → T) where
   abbrev front : ℕ → List T
   front n = map f (map make (range_with_len 0 n))
@@ -91,13 +91,13 @@ module _ {X T : Type 0} (places : ℕ) (blank : T) (make : ℕ → X) (f g : X �
   unfolding placed
   staged_all count = ap (λ c. front count ++ replicate (places - c) blank) (omega arith ∙ sym (length_listed make f count))
 
-  -- the next one still is one of g
+  -- the next place still holds g
   pub staged_at : (n k : ℕ) (d : T) → get_or (staged n (suc k)) n d ≡ g (make n)
   staged_at n k d =
       ap (λ i. get_or (staged n (suc k)) i d) (sym (length_listed make f n))
       ∙ get_or-append_seam (front n) (g (make n)) (map g (map make (range_with_len (n + 1) k)) ++ replicate (places - (n + suc k)) blank) d
 
-  -- it becomes one of f
+  -- the next place is changed to f
   pub staged_more : (n k : ℕ) (xs : List T) → xs ≡ staged n (suc k) → set xs n (f (make n)) ≡ staged (n + 1) k
   staged_more n k xs is =
       let rest = map g (map make (range_with_len (n + 1) k)) in

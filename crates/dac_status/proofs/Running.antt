@@ -1,4 +1,4 @@
--- Where applications run and who is their first choice: what the marks of the nodes say of it.
+-- Where applications run and their first choices, computed from the marks of nodes.
 use Rattle.std.proofs.Common.{◌≡◌, ◌∙◌, ℕ, ◌<◌, ◌==◌, Bool, true, false, cond, not, ◌&&◌, List, Option, None, Some, option_map, get_or, refl, sym, ap}
 use Rattle.std.specs.Option.{is_some, option_and_then, option_map_or}
 use Rattle.std.specs.FinMap as map
@@ -30,14 +30,14 @@ same_test true b f g = sym (f refl)
 same_test false true f g = g refl
 same_test false false f g = refl
 
--- nothing keeps an application from a node exactly if all three tests say so
+-- the mark is `Ok` exactly when all three tests pass
 by_tests : (permitted drained started : Bool) → ((permitted && not drained) && started) ≡ is_ok (marked permitted drained started)
 by_tests true true started = refl
 by_tests true false true = refl
 by_tests true false false = refl
 by_tests false drained started = refl
 
--- ---- where an application runs
+-- ---- running at a node
 
 abbrev is_there : Option NodeId → NodeId → Bool
 is_there runner node = option_map_or (λ (at : NodeId). at.0 == node.0) runner false
@@ -51,7 +51,7 @@ module _ (table : Table) (s : StateValue) (app : AppId) where
   by_life node None = refl
   by_life node (Some inc) = by_tests _ _ _
 
-  -- a node may run the application if it is in the list and its mark says so
+  -- a node is eligible if it is in the list and its mark is `Ok`
   may_by_mark : (node : NodeId) → is_eligible table s app node ≡ (is_some (group_of table app node) && is_ok (mark_of table s app node))
   may_by_mark node = ap (λ b. is_some (group_of table app node) && b) (by_life node (live_at s.lives node))
 
@@ -89,7 +89,7 @@ module _ (table : Table) (s : StateValue) (app : AppId) where
       ∙ (λ i. cond (is_some (sym of_group i) && sym of_mark i) (made node (sym of_load i) (sym of_group i)) None)
       ∙ ap (λ b. cond b (made node (load_of table s app node) (group_of table app node)) None) (sym (may_by_mark node))
 
-  -- a node without a load, since it has no rank
+  -- an ineligible node has no rank, so that no load is computed
   pub no_rank : (node : NodeId) (ok : Bool) (group : Option ℕ) → is_ok (mark_of table s app node) ≡ ok → group_of table app node ≡ group → (is_some group && ok) ≡ false → None ≡ rank_of table s app node
   no_rank node ok group of_mark of_group fails =
       ap (λ b. cond b (made node (load_of table s app node) (group_of table app node)) None)
@@ -97,7 +97,7 @@ module _ (table : Table) (s : StateValue) (app : AppId) where
 
   -- ---- loads
 
-  -- what is known of an application at its place tells whether it counts
+  -- an application's runner determines whether it counts
   pub counts_by : (node : NodeId) (runners : List (Option NodeId)) (n : ℕ) → runners ≡ runners_of table s → n < app_count table
       → (not (n == app.0) && is_there (get_or runners n None) node) ≡ counts table s app node (numbered_app n)
   counts_by node runners n are lt =

@@ -1,4 +1,4 @@
--- Where an application stays: what the marks of the nodes say of its holder, and of who may run it.
+-- Whether an application stays, computed from the marks of its holder and of the other nodes.
 use Rattle.std.proofs.Common.{◌≡◌, ◌∙◌, ℕ, ◌<◌, ◌==◌, Bool, true, false, cond, not, ◌&&◌, List, Option, None, Some, option_map, get_or, refl, sym, ap}
 use Rattle.std.specs.Option.{option_map_or}
 use Rattle.std.specs.FinMap as map
@@ -26,11 +26,11 @@ use Rattle.dac_status.specs.Kept.{is_ok}
 use Rattle.dac_status.specs.Summaries.{lives_of, live_in, mark_at, mark_of, marks_of}
 use Rattle.dac_status.proofs.Places.{node_numbered, placed_at}
 
--- what a mark says by three tests: permitted, drained and started
+-- the mark by three tests: permitted, drained and started
 abbrev pub marked : Bool → Bool → Bool → Mark
 marked permitted drained started = cond (not permitted) mark.Barred (cond drained mark.Drained (cond (not started) mark.Idle mark.Ok))
 
--- what a standing at a live holder is by the same tests
+-- the standing at a live holder by the same tests
 abbrev standing : NodeId → Bool → Bool → Bool → Standing
 standing node permitted drained started = cond (not started) (Stopped node) (cond (not (permitted && not drained)) Barred (Upheld node))
 
@@ -58,7 +58,7 @@ module _ (table : Table) (s : StateValue) (app : AppId) where
   pub life_placed : (lives : List (Option Life)) (n : ℕ) → lives ≡ lives_of table s → n < node_count table → live_in (get_or lives n None) ≡ live_at s.lives (node_numbered n)
   life_placed lives n are lt = ap (λ ls. live_in (get_or ls n None)) are ∙ ap live_in (placed_at MAX_NODES None node_numbered (map.get s.lives) (node_count table) n lt)
 
-  -- the holder is live at the incarnation that claimed the application, and nothing keeps it from there
+  -- the holder is live at the claim's incarnation and its mark is `Ok`, so it is upheld
   pub upheld_is : (claim : Claim) (lives : List (Option Life)) (marks : List Mark) (inc : ℕ) → Some claim ≡ map.get s.claims app → lives ≡ lives_of table s → marks ≡ marks_of table s app
       → claim.origin.node.0 < node_count table → live_in (get_or lives claim.origin.node.0 None) ≡ Some inc → inc ≡ claim.origin.inc → is_ok (get_or marks claim.origin.node.0 mark.Down) ≡ true
       → standing_of table s app ≡ Upheld claim.origin.node
@@ -75,13 +75,13 @@ module _ (table : Table) (s : StateValue) (app : AppId) where
       ∙ ap (λ b. cond (not b) Lost (standing node permitted drained started)) up
       ∙ upheld_if_ok node permitted drained started fine
 
-  -- where an application stands so and nobody of an earlier group may run it, it stays
+  -- an upheld application stays if no eligible node is in an earlier group
   pub stays : (holder : NodeId) → standing_of table s app ≡ Upheld holder → EachEligible table s app (λ m. ¬ IsEarlier table app m holder) → Kept holder ≡ verdict_of table s app
   stays holder upheld none =
       let first = first_choice table s app in
       sym (ap (λ standing. verdict_by table app standing first) upheld ∙ kept_by table s app holder first (first_is table s app) none)
 
-  -- a node that isn't before some group, and is eligible, is of no earlier one
+  -- a node that isn't before some group, and is eligible, is in no earlier group
   pub none_before : (marks : List Mark) (late : ℕ) (n : ℕ) → marks ≡ marks_of table s app → n < node_count table → IsEligible table s app (node_numbered n)
       → (is_ok (get_or marks n mark.Down) && is_less (group_of table app (node_numbered n)) (Some late)) ≡ false → is_less (group_of table app (node_numbered n)) (Some late) ≡ false
   none_before marks late n are lt may not =

@@ -1,4 +1,4 @@
--- Which nodes may keep an application, by their marks, and where the applications run.
+-- Eligible nodes by their marks, and the node at which each application runs.
 use Rattle.std.specs.Prelude.{Bool, true, false, List, map as list_map, Option, None}
 use Rattle.std.specs.FinMap as map
 use Rattle.dac_base.specs.declared.limits.TheConstants.{MAX_APPS}
@@ -13,7 +13,7 @@ use Rattle.dac_status.specs.declared.marks.Mark.TheVariants.{Down, Barred, Drain
 use Rattle.dac_status.specs.declared.summary.AppSummary.{AppSummary}
 use Rattle.dac_status.specs.Summaries.{marks_of, no_app, placed}
 
--- nothing keeps the application from a node of this mark
+-- a node of this mark is eligible, if the application's list names it
 abbrev pub is_ok : Mark → Bool
 is_ok Down = false
 is_ok Barred = false
@@ -21,7 +21,7 @@ is_ok Drained = false
 is_ok Idle = false
 is_ok Ok = true
 
--- the node at which each application runs, if it runs at any, by the applications' numbers
+-- the node at which each application runs, if any, by the applications' numbers
 abbrev pub runners_of : Table → StateValue → List (Option NodeId)
 runners_of table s = placed MAX_APPS None (list_map (runner_of table s) (apps_of table))
 

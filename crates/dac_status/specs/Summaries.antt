@@ -1,5 +1,5 @@
--- What a controller knows, in short: how much it has heard, and the life of each node. Of each application: who holds
--- it, what is to become of it, and how each node stands for it. (This project's own.)
+-- The summary of a controller's state: how much it has heard and the life of each node; for each application its
+-- greatest claim, its verdict and the mark of each node. (This project's own.)
 use Rattle.std.specs.Prelude.{ℕ, ◌-◌, Bool, false, not, List, ◌++◌, length, map as list_map, replicate, Option, None, Some, if◌then◌else◌}
 use Rattle.std.specs.Option.{option_and_then, option_map_or}
 use Rattle.std.specs.FinSet as set
@@ -18,14 +18,14 @@ use Rattle.dac_status.specs.declared.marks.Mark.TheVariants.{Down, Barred, Drain
 use Rattle.dac_status.specs.declared.summary.AppSummary.{AppSummary}
 use Rattle.dac_status.specs.declared.summary.Summary.{Summary}
 
--- these, and behind them blanks up to so many places
+-- these items, followed by blanks so that there is one item for each place
 unfoldable pub placed : {T : Type 0} → ℕ → T → List T → List T
 placed places blank items = items ++ replicate (places - length items) blank
 
 -- ---- marks
 
--- What keeps an application from a node, by the first that does. The node isn't live, the application isn't permitted
--- there, the node is drained, or it wasn't started there. Where nothing does, all is well.
+-- The mark of a node for an application: the first obstacle to running it there. The node isn't live, the application
+-- isn't permitted there, the node is drained, or the application wasn't started there. `Ok` means no obstacle.
 abbrev pub IsMark : Table → StateValue → AppId → NodeId → Mark → Type 0
 IsMark table s app node Down = (inc : ℕ) → ¬ IsLive s.lives node inc
 IsMark table s app node Barred = (inc : ℕ) × IsLive s.lives node inc × ¬ IsPermittedAt table s (key_at app node inc)
@@ -70,16 +70,16 @@ drains s node live = option_map_or (is_drained_at s node) live false
 abbrev pub drains_live : StateValue → NodeId → Bool
 drains_live s node = drains s node (live_at s.lives node)
 
--- whether the nodes are, by their numbers
+-- whether each node is live and drained, by the nodes' numbers
 abbrev pub drained_of : Table → StateValue → List Bool
 drained_of table s = placed MAX_NODES false (list_map (drains_live s) (nodes_of table))
 
--- the greatest claim of an application, what is to become of it, and the mark of each node
+-- the greatest claim of an application, its verdict, and the mark of each node
 abbrev pub app_summary : Table → StateValue → AppId → AppSummary
 app_summary table s app =
     record { claim = map.get s.claims app; verdict = verdict_of table s app; marks = marks_of table s app }
 
--- in the place of an application that isn't there
+-- the value in the place of an application that the configuration lacks
 abbrev pub no_app : AppSummary
 no_app = record { claim = None; verdict = Nobody; marks = replicate MAX_NODES Down }
 
@@ -87,8 +87,8 @@ no_app = record { claim = None; verdict = Nobody; marks = replicate MAX_NODES Do
 abbrev pub app_summaries : Table → StateValue → List AppSummary
 app_summaries table s = placed MAX_APPS no_app (list_map (app_summary table s) (apps_of table))
 
--- What a state says, in short: how many dots it has heard and knows, and the life of each node of the configuration.
--- Then comes where each of its applications stands
+-- The summary of a state: how many dots it has heard and knows, the life of each node of the configuration, whether
+-- each is drained, and each of its applications
 abbrev pub summary_of : Table → StateValue → Summary
 summary_of table s = record {
   heard = set.len s.heard;

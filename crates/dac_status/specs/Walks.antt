@@ -12,7 +12,7 @@ use Rattle.dac_wishes.specs.StoredPermits.{DotFlags}
 use Rattle.dac_wishes.specs.PermitsByKey.{permits_by_key}
 use Rattle.dac_wishes.specs.StartsByKey.{starts_by_key}
 
--- a state, and what is left of its permits and start wishes
+-- a state, and the rest of its permits and start wishes
 pub record WalkValue : Type 0 where
   pub state : StateValue
   pub permits : List (Key × DotFlags)
@@ -26,11 +26,11 @@ coded_walk =
     (λ p. record { state = p.0; permits = p.1.0; starts = p.1.1 })
     (λ _. refl)
 
--- all is left that stands at this key or at a later one
+-- the rest contains all that stands at this key or a later one
 pub record IsBefore (key : Key) (walk : WalkValue) : Type 0 where
   pub permits : HasSameFrom key_cmp key (permits_by_key walk.state.permits) walk.permits
   pub starts : HasSameFrom key_cmp key (starts_by_key walk.state.starts) walk.starts
 
--- the first key of the node of this number, for the application of this number
+-- the first key of this application and this node, both by number
 abbrev pub first_key : ℕ → ℕ → Key
 first_key app node = record { app = record { 0 = app }; node = record { 0 = node }; inc = 0 }

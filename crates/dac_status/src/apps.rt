@@ -1,4 +1,4 @@
-//! Applications, as they are printed.
+//! The lines of applications.
 
 ghost use Rattle.std.specs.Prelude.{◌≡◌, ◌<◌, ◌≤◌, ◌++◌, ◌==◌, ℕ, false, [], Some, None, length, slice_index_or, OnOk};
 ghost use Rattle.std.specs.Option.{option_map_or};
@@ -16,10 +16,10 @@ use dac_config::{Config, put_printed_name};
 use dac_placement::Verdict;
 use std::alloc::Global;
 
-/// How many groups a list can have: each has a node of its own.
+/// The greatest number of groups in a list, because each group has a node of its own.
 const MAX_GROUPS: u16 = MAX_NODES as u16;
 
-/// How an application came to the node that claims it, behind a space.
+/// How an application came to the node that claims it, after a space.
 pub fn how_text(how: How) -> &'static str
     ensures { result.now ≡ how_text how }
 {
@@ -30,7 +30,7 @@ pub fn how_text(how: How) -> &'static str
     }
 }
 
-/// Puts behind a text the node that an application was taken from, if any.
+/// Appends the node from which an application was taken, if any.
 pub fn put_from(
     alloc: Global,
     text: &mut Vec<u8>,
@@ -46,7 +46,7 @@ pub fn put_from(
     put_node(alloc, text, config, node)
 }
 
-/// Puts behind a text who made a claim, its term, and how the application came there.
+/// Appends a claim: its node and incarnation, its term, and how the application came there.
 fn put_claim(
     alloc: Global,
     text: &mut Vec<u8>,
@@ -66,7 +66,7 @@ fn put_claim(
     put_from(alloc, text, config, claim.from)
 }
 
-/// Puts behind a text who holds an application, if anyone does.
+/// Appends the holder of an application, if any.
 fn put_holder(
     alloc: Global,
     text: &mut Vec<u8>,
@@ -84,7 +84,7 @@ fn put_holder(
     }
 }
 
-/// Puts behind a text a word and a node.
+/// Appends a word and a node.
 fn put_at_node(
     alloc: Global,
     text: &mut Vec<u8>,
@@ -99,7 +99,7 @@ fn put_at_node(
     put_node(alloc, text, config, node)
 }
 
-/// Puts behind a text a verdict, with the node that it speaks of.
+/// Appends a verdict, with the node that it names.
 fn put_verdict(
     alloc: Global,
     text: &mut Vec<u8>,
@@ -122,7 +122,7 @@ fn put_verdict(
     }
 }
 
-/// Puts behind a text the line of an application: who holds it, and the verdict.
+/// Appends the first line of an application: its holder and the verdict.
 fn put_standing(
     alloc: Global,
     text: &mut Vec<u8>,
@@ -145,7 +145,7 @@ fn put_standing(
     Ok(())
 }
 
-/// The word of a mark.
+/// The word for a mark.
 fn mark_text(mark: Mark) -> &'static str
     ensures { result.now ≡ mark_text mark }
 {
@@ -158,7 +158,7 @@ fn mark_text(mark: Mark) -> &'static str
     }
 }
 
-/// Puts behind a text a label and a mark.
+/// Appends a label and a mark.
 fn put_marked(text: &mut Vec<u8>, label: &[u8], mark: Mark) -> Result<(), NoMemory>
     ensures { OnOk result (text.new.items ≡ text.old.items ++ (label.now ++ mark_text mark)) }
 {
@@ -179,7 +179,7 @@ fn groups_of(config: &Config, app: AppId) -> [Option<u16>; MAX_NODES]
     groups
 }
 
-/// How many groups come up to this one, where so many were counted before.
+/// How many groups there are, given the count so far and the group of one more node.
 fn counted_group(count: u16, group: Option<u16>) -> u16
     requires { count ≤ MAX_NODES }
     ensures grows { count ≤ result }
@@ -196,7 +196,7 @@ fn counted_group(count: u16, group: Option<u16>) -> u16
     }
 }
 
-/// How many groups come up to the last one that has a node, where these are the groups of nodes by their numbers.
+/// How many groups there are up to the last one that has a node, given the group of each node.
 fn group_count(config: &Config, groups: &[Option<u16>; MAX_NODES]) -> u16
     ensures few { result ≤ MAX_NODES }
     ensures has { (node group : ℕ) → node < node_count config.now → group < MAX_NODES
@@ -209,7 +209,7 @@ fn group_count(config: &Config, groups: &[Option<u16>; MAX_NODES]) -> u16
     count
 }
 
-/// Whether a node is of this group, where these are the groups of nodes by their numbers.
+/// Whether a node is in this group, given the group of each node.
 fn is_member(groups: &[Option<u16>; MAX_NODES], group: u16, node: NodeId) -> bool
     requires { node.0 < MAX_NODES }
     ensures { result
@@ -221,8 +221,7 @@ fn is_member(groups: &[Option<u16>; MAX_NODES], group: u16, node: NodeId) -> boo
     }
 }
 
-/// Puts behind a text a node with its mark behind its label, where it is of this group, and these are the groups of
-/// nodes by their numbers.
+/// Appends a node's label and mark, if it is in this group, given the group of each node.
 fn put_member(
     text: &mut Vec<u8>,
     labels: &Labels,
@@ -245,8 +244,7 @@ fn put_member(
     put_marked(text, labels.at(node), mark)
 }
 
-/// Puts behind a text the nodes of a group with their marks, where these are the labels and the groups of nodes by
-/// their numbers.
+/// Appends the nodes of a group with their marks, given the group of each node.
 fn put_group(
     text: &mut Vec<u8>,
     config: &Config,
@@ -265,7 +263,7 @@ fn put_group(
     Ok(())
 }
 
-/// Puts behind a text the line of an application's list: the nodes group by group, each with its mark.
+/// Appends the line of an application's list: the nodes group by group, each with its mark.
 fn put_list(
     text: &mut Vec<u8>,
     config: &Config,
@@ -286,7 +284,7 @@ fn put_list(
     Ok(())
 }
 
-/// Puts behind a text the two lines of an application.
+/// Appends the two lines of an application.
 fn put_summary(
     alloc: Global,
     text: &mut Vec<u8>,
@@ -304,7 +302,7 @@ fn put_summary(
     put_list(text, config, labels, app, &summary.marks)
 }
 
-/// Puts behind a text the lines of an application, which stands as these say by their numbers.
+/// Appends the two lines of an application, from the summaries of all.
 #[tactic(auto, unfolding(crate::specs::Texts::app_lines))]
 pub(crate) fn put_app(
     alloc: Global,

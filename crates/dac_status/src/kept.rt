@@ -1,4 +1,5 @@
-//! Where an application runs, whether it stays there, and who is its first choice, by the marks of the nodes.
+//! Verdicts, runners and first choices computed from the marks of nodes, so that a summary searches the state only
+//! once.
 ghost use Rattle.std.specs.Prelude.{◌≡◌, ◌<◌, ◌==◌, ◌&&◌, false, not, Some, IfSome};
 ghost use Rattle.std.specs.Option.{is_some, option_map_or};
 ghost use Rattle.std.specs.FinMap as map;
@@ -20,8 +21,8 @@ use dac_origins::Origin;
 use dac_placement::{Rank, Verdict, lesser, runner, standing_of, verdict_by};
 use dac_state::State;
 
-/// What is to become of an application that has this greatest claim, where these are the lives of the nodes, their marks
-/// for it, and the nodes at which the applications run. That it stays at its holder is seen by lives and marks alone.
+/// The verdict of an application, from its greatest claim, the nodes' lives, their marks for it, and the runner of each
+/// application. That it stays at its holder follows from lives and marks alone.
 pub(crate) fn verdict_seen(
     config: &Config,
     state: &State,
@@ -48,8 +49,8 @@ pub(crate) fn verdict_seen(
     }
 }
 
-/// The node at which an application of this greatest claim runs, if it runs at any, where these are the lives of the
-/// nodes and their marks for it. Only a state that no operation made has a claim of a node that isn't there.
+/// The node at which an application runs, if any, from its greatest claim, the nodes' lives and their marks for it.
+/// Only a state that no operation produced has a claim of a node outside the configuration.
 pub(crate) fn runner_by(
     config: &Config,
     state: &State,
@@ -77,7 +78,7 @@ pub(crate) fn runner_by(
     }
 }
 
-/// Whether an application runs at its holder, where the holder's node has this life, mark and group.
+/// Whether an application runs at its holder, given the life, mark and group of the holder's node.
 fn runs_by(holder: Origin, life: Option<Life>, mark: Mark, group: Option<u16>) -> bool
     ensures { result
         ≡ (option_map_or (λ inc. inc == holder.inc) (live_in life) false
@@ -89,8 +90,7 @@ fn runs_by(holder: Origin, life: Option<Life>, mark: Mark, group: Option<u16>) -
     }
 }
 
-/// The first choice for an application, where these are the marks of the nodes for it, and the nodes at which the
-/// applications run.
+/// The first choice for an application, from the nodes' marks for it and the runner of each application.
 fn first_by(
     config: &Config,
     app: AppId,
@@ -110,8 +110,7 @@ fn first_by(
     Some(first.node)
 }
 
-/// The rank of a node of this mark, if it may run the application, where these are the nodes at which the applications
-/// run.
+/// The rank of a node of this mark, if it is eligible, given the runner of each application.
 fn rank_by(
     config: &Config,
     app: AppId,
@@ -131,7 +130,7 @@ fn rank_by(
     Some(Rank { group, load, node })
 }
 
-/// How many other applications run at a node, where these are the nodes at which the applications run.
+/// How many other applications run at a node, given the runner of each application.
 fn load_by(config: &Config, app: AppId, node: NodeId, runners: &[Option<NodeId>; MAX_APPS]) -> u32
     ensures { (s : StateValue) → runners.now ≡ runners_of config.now s
         → result ≡ load_of config.now s app node }
@@ -145,7 +144,7 @@ fn load_by(config: &Config, app: AppId, node: NodeId, runners: &[Option<NodeId>;
     load
 }
 
-/// Whether the other application isn't this one, and runs at the node, where it runs there if it runs at any.
+/// Whether `other` is another application than `app`, and its runner is the node.
 fn counts(app: AppId, node: NodeId, other: AppId, runner: Option<NodeId>) -> bool
     ensures { result
         ≡ (not (other.0 == app.0)
@@ -154,7 +153,7 @@ fn counts(app: AppId, node: NodeId, other: AppId, runner: Option<NodeId>) -> boo
     other.0 != app.0 && is_at(runner, node)
 }
 
-/// Whether an application that runs there, if it runs at any node, runs at this one.
+/// Whether an application's runner is this node.
 fn is_at(runner: Option<NodeId>, node: NodeId) -> bool
     ensures { result ≡ option_map_or (λ (at : Node). at.0 == node.0) runner false }
 {
@@ -164,7 +163,7 @@ fn is_at(runner: Option<NodeId>, node: NodeId) -> bool
     }
 }
 
-/// The node that made this claim, if it is live at the same incarnation and nothing keeps the application from there.
+/// The claimer, if it is live at the same incarnation and nothing keeps the application from it.
 fn upheld_at(
     config: &Config,
     claim: Option<Claim>,
@@ -188,7 +187,7 @@ fn upheld_at(
     }
 }
 
-/// Whether a node that may run the application is of an earlier group than the holder.
+/// Whether an eligible node is in an earlier group than the holder.
 fn has_earlier(config: &Config, app: AppId, holder: NodeId, marks: &[Mark; MAX_NODES]) -> bool
     requires { app.0 < app_count config.now }
     ensures { result ≡ false → (s : StateValue) → marks.now ≡ marks_of config.now s app
@@ -200,8 +199,7 @@ fn has_earlier(config: &Config, app: AppId, holder: NodeId, marks: &[Mark; MAX_N
     }
 }
 
-/// Whether a node that may run the application is of an earlier group than this one. No group is earlier than the first
-/// one.
+/// Whether an eligible node is in a group before `late`. No group is earlier than group 0.
 fn has_before(config: &Config, app: AppId, late: u16, marks: &[Mark; MAX_NODES]) -> bool
     requires { app.0 < app_count config.now }
     ensures { result ≡ false → (s : StateValue) → marks.now ≡ marks_of config.now s app
@@ -220,7 +218,7 @@ fn has_before(config: &Config, app: AppId, late: u16, marks: &[Mark; MAX_NODES])
     false
 }
 
-/// Whether a node of this mark may run the application and is of an earlier group than this one.
+/// Whether nothing keeps the application from a node of this mark, and the node is in a group before `late`.
 fn comes_before(config: &Config, app: AppId, node: NodeId, mark: Mark, late: u16) -> bool
     requires { app.0 < app_count config.now }
     ensures { result ≡ (is_ok mark && is_less (group_of config.now app node) (Some late)) }
@@ -228,7 +226,7 @@ fn comes_before(config: &Config, app: AppId, node: NodeId, mark: Mark, late: u16
     is_ok(mark) && is_before(config.group_of(app, node), late)
 }
 
-/// Whether a group that is there is earlier than this one.
+/// Whether there is a group, and it is before `late`.
 fn is_before(group: Option<u16>, late: u16) -> bool
     ensures { result ≡ is_less group (Some late) }
 {

@@ -1,4 +1,4 @@
-//! What the nodes of a configuration begin their marks with.
+//! The labels of nodes before their marks.
 
 ghost use Rattle.std.specs.Prelude.{◌≡◌, ◌<◌, ◌≤◌, [], IfOk, length, slice_index_or};
 ghost use Rattle.dac_config.specs.Table.{node_count};
@@ -9,8 +9,8 @@ use dac_config::{Config, put_printed_name};
 use std::alloc::Global;
 use std::marker::Model;
 
-/// What each node begins its mark with, by the nodes' numbers: its name between a space and `=`. A page has each node's
-/// many times, and makes it once. Contracts see the list.
+/// The label of each node before its mark, by the nodes' numbers: its name between a space and `=`. A page prints each
+/// label many times, so that it is worth making it once. Contracts see the list.
 #[derive(Drop)]
 pub(crate) struct Labels {
     labels: Vec<Vec<u8>>,
@@ -25,7 +25,7 @@ impl Model for Labels {
 }
 
 impl Labels {
-    /// Those of a configuration. [`NoMemory`] is the only error.
+    /// The labels of a configuration's nodes.
     pub(crate) fn of(alloc: Global, config: &Config) -> Result<Self, NoMemory>
         ensures { IfOk result (λ labels. labels ≡ labels_of config.now) }
     {
@@ -36,7 +36,7 @@ impl Labels {
         Ok(Labels { labels })
     }
 
-    /// That of a node.
+    /// The label of a node.
     pub(crate) fn at(&self, node: NodeId) -> &[u8]
         requires { node.0 < length self.now }
         ensures { result.now ≡ slice_index_or self.now node.0 [] }
@@ -45,7 +45,7 @@ impl Labels {
     }
 }
 
-/// What a node begins its mark with.
+/// The label of a node.
 fn label(alloc: Global, config: &Config, node: NodeId) -> Result<Vec<u8>, NoMemory>
     requires { node.0 < node_count config.now }
     ensures { IfOk result (λ label. label.items ≡ label_text config.now node) }

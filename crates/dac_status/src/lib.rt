@@ -1,8 +1,10 @@
-//! What operators are shown of a controller: a summary of its state, and the page that is printed of one.
+//! Status of a controller for operators: a summary of its state, and the printed page of a summary.
 //!
-//! A [`Summary`] is plain data of a fixed size, made and copied without memory. It says what the definitions of
-//! lives, claims, permissions, wishes and placement say of a state. [`page`] is its text, and [`header`] the line
-//! above it.
+//! A [`Summary`] is plain data of a fixed size. It agrees with the definitions of lives, claims, permissions, wishes
+//! and placement. [`page`] returns its text, and [`header`] the line above it.
+//!
+//! Functions that don't return `Result<_, NoMemory>` allocate nothing, and `NoMemory` is the only error. A failing
+//! `put_` function can leave a part of its output appended.
 #![tactic(auto)]
 
 mod apps;

@@ -1,4 +1,4 @@
-//! How a node stands for an application.
+//! Marks: obstacles to running an application at a node.
 
 ghost use Rattle.std.specs.Prelude.{◌≡◌, ◌<◌, ◌↔◌, IsTrue, Some};
 ghost use Rattle.dac_chains.specs.Lives.{IsLive};
@@ -11,7 +11,7 @@ use dac_config::Config;
 use dac_placement::{is_drained, is_permitted, is_started};
 use dac_state::{Key, State};
 
-/// How a node stands for an application: the first of these that holds.
+/// The mark of a node for an application: the first of these that holds.
 #[derive(Clone, Copy, Debug, PartialEq, Eq)]
 pub enum Mark {
     /// The node isn't live.
@@ -22,12 +22,11 @@ pub enum Mark {
     Drained,
     /// The application wasn't started there, or was stopped.
     Idle,
-    /// Nothing keeps the application from there.
+    /// Nothing keeps the application from the node.
     Ok,
 }
 
-/// How a node stands for an application, whether the application's list has the node or not. It takes no
-/// memory.
+/// The mark of a node for an application, even if the application's list lacks the node.
 pub fn mark_of(config: &Config, state: &State, app: AppId, node: NodeId) -> Mark
     requires { app.0 < app_count config.now }
     ensures value { result ≡ mark_of config.now state.now app node }
@@ -42,7 +41,7 @@ pub fn mark_of(config: &Config, state: &State, app: AppId, node: NodeId) -> Mark
     }
 }
 
-/// How a live node stands for an application, where it is drained or not.
+/// The mark of a live node for an application, given whether it is drained.
 fn mark_live(config: &Config, state: &State, key: Key, drained: bool) -> Mark
     requires app { key.app.0 < app_count config.now }
     requires drained { drained ≡ is_drained_at state.now key.node key.inc }

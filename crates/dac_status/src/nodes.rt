@@ -1,4 +1,4 @@
-//! Nodes, as they are printed.
+//! The lines of nodes.
 
 ghost use Rattle.std.specs.Prelude.{◌≡◌, ◌<◌, ◌++◌, OnOk};
 ghost use Rattle.dac_config.specs.Table.{node_count};
@@ -10,8 +10,7 @@ use dac_config::{Config, put_printed_name};
 use dac_lattice::Flag;
 use std::alloc::Global;
 
-/// Puts behind a text a node by its name, or by its number where the configuration hasn't it: forged states speak of
-/// such nodes.
+/// Appends a node by its name, or by its number if the configuration lacks it, which occurs only in forged states.
 pub fn put_node(
     alloc: Global,
     text: &mut Vec<u8>,
@@ -38,7 +37,7 @@ fn flag_text(flag: Flag) -> &'static str
     }
 }
 
-/// What stands behind the incarnation of a node that is up and drained.
+/// The words after the incarnation of a node that is up and drained.
 fn drained_text(flag: Flag, drained: bool) -> &'static str
     ensures { result.now ≡ drained_text flag drained }
 {
@@ -48,7 +47,7 @@ fn drained_text(flag: Flag, drained: bool) -> &'static str
     }
 }
 
-/// Puts behind a text the line of a node of this name and this life, drained or not.
+/// Appends the line of a node of this name and this life, drained or not.
 fn put_life(
     alloc: Global,
     text: &mut Vec<u8>,
@@ -74,8 +73,7 @@ fn put_life(
     Ok(())
 }
 
-/// Puts behind a text the line of a node, whose life is among these by their numbers, and whether it is drained among
-/// those.
+/// Appends the line of a node, from the lives of all nodes and whether each is drained.
 pub fn put_node_line(
     alloc: Global,
     text: &mut Vec<u8>,

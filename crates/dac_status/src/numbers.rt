@@ -1,11 +1,11 @@
-//! Numbers, as they are printed.
+//! Numbers in decimal.
 
 ghost use Rattle.std.specs.Prelude.{◌≡◌, ◌++◌, OnOk};
 ghost use Rattle.std.specs.Fmt.{decimal};
 
 use dac_base::NoMemory;
 
-/// Puts a number behind a text, in decimal digits. [`NoMemory`] is the only error.
+/// Appends a number in decimal digits.
 pub fn put_number(text: &mut Vec<u8>, number: u64) -> Result<(), NoMemory>
     ensures { OnOk result (text.new.items ≡ text.old.items ++ decimal number) }
 {

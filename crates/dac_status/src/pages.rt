@@ -15,11 +15,11 @@ use dac_config::{Config, put_printed_name};
 use dac_origins::Origin;
 use std::alloc::Global;
 
-/// How many bytes the lines of an application mostly have at most. A page that has more grows.
+/// How many bytes to reserve for the lines of one application. A page that needs more grows.
 const APP_ROOM: usize = 128;
 
-/// The line above a page: a node, and as which incarnation it runs, or that it is off. A node that is off has
-/// no page. [`NoMemory`] is the only error.
+/// The line above a page: a node and the incarnation as which it runs, or that it is off. A node that is off has no
+/// page.
 pub fn header(
     alloc: Global,
     config: &Config,
@@ -42,10 +42,9 @@ pub fn header(
     Ok(line)
 }
 
-/// The page of a node: what is printed of a summary of its state. It says how much was heard, and the life of each
-/// node in the order of the names. Then come two lines of each application, in the order of the configuration file.
-/// The one says who holds it with the verdict. The other says the mark of each node of its list, by group, then by
-/// name. [`NoMemory`] is the only error.
+/// The page of a node, printed from a summary of its state: how much was heard, and the life of each node in the order
+/// of names. Each application follows with two lines, in the order of the configuration file. The first line has its
+/// holder and its verdict, the second the mark of each node of its list, by group, then by name.
 pub fn page(alloc: Global, config: &Config, summary: &Summary) -> Result<Vec<u8>, NoMemory>
     ensures { IfOk result (λ text. text.items ≡ page_text config.now summary.now) }
 {
@@ -58,7 +57,7 @@ pub fn page(alloc: Global, config: &Config, summary: &Summary) -> Result<Vec<u8>
     Ok(text)
 }
 
-/// Puts behind a text the lines of the nodes.
+/// Appends the lines of the nodes.
 fn put_nodes(
     alloc: Global,
     text: &mut Vec<u8>,
@@ -77,7 +76,7 @@ fn put_nodes(
     Ok(())
 }
 
-/// Puts behind a text the lines of the applications.
+/// Appends the lines of the applications.
 fn put_apps(
     alloc: Global,
     text: &mut Vec<u8>,

@@ -1,4 +1,4 @@
-//! What a controller knows, in short.
+//! Summaries of states.
 
 ghost use Rattle.std.specs.Prelude.{◌≡◌, ◌+◌, ◌<◌};
 ghost use Rattle.dac_config.specs.Table.{app_count};
@@ -15,37 +15,36 @@ use dac_config::Config;
 use dac_placement::{Verdict, is_drained};
 use dac_state::{Key, State};
 
-/// Where an application stands.
+/// An application in a summary.
 #[derive(Clone, Copy, Debug, PartialEq, Eq)]
 pub struct AppSummary {
-    /// The greatest claim of it, if it was claimed.
+    /// The greatest claim, if there is one.
     pub claim: Option<Claim>,
-    /// What is to become of it.
+    /// The verdict.
     pub verdict: Verdict,
-    /// The mark of each node by its number, whether the application's list has the node or not. A place past
-    /// the configuration's nodes says `Down`.
+    /// The mark of each node by its number, even if the application's list lacks the node. A place past the
+    /// configuration's nodes is `Down`.
     pub marks: [Mark; MAX_NODES],
 }
 
-/// What a controller knows, in short: plain data of a fixed size.
+/// A summary of a controller's state: plain data of a fixed size.
 #[derive(Clone, Copy, Debug, PartialEq, Eq)]
 pub struct Summary {
-    /// How many operations were heard: the number of their dots.
+    /// The number of dots heard, which is that of the operations.
     pub heard: u128,
-    /// How many dots are known: of operations heard, and of those that one of them replaces.
+    /// The number of dots known: those of operations heard, and of the operations that these replace.
     pub known: u128,
-    /// The life of each node by its number, if anything was said of it. A place past the configuration's nodes
-    /// is empty.
+    /// The greatest life of each node by its number, if any. A place past the configuration's nodes is empty.
     pub lives: [Option<Life>; MAX_NODES],
-    /// Whether each node is live and drained, by its number. A place past the configuration's nodes says no.
+    /// Whether each node is live and drained, by its number. A place past the configuration's nodes is false.
     pub drained: [bool; MAX_NODES],
-    /// Each application by its number. A place past the configuration's applications says nothing: no claim,
-    /// nobody, all down.
+    /// Each application by its number. A place past the configuration's applications has no claim, the verdict
+    /// `Nobody`, and only marks `Down`.
     pub apps: [AppSummary; MAX_APPS],
 }
 
 impl Summary {
-    /// The summary of a state under the configuration. It takes no memory.
+    /// The summary of a state under the configuration.
     pub fn of(config: &Config, state: &State) -> Summary
         ensures { result ≡ summary_of config.now state.now }
     {
@@ -94,7 +93,7 @@ fn drained_of(config: &Config, state: &State) -> [bool; MAX_NODES]
     drained
 }
 
-/// The mark of a node of this life, which is drained or not. The walk goes on to the next node.
+/// The mark of a node of this life, drained or not. The walk advances to the next node.
 fn mark_by(
     config: &Config,
     walk: &mut Walk<'_>,
@@ -116,8 +115,8 @@ fn mark_by(
     }
 }
 
-/// The mark of each node of the configuration, by its number, where these are their lives, and whether they are drained.
-/// The walk goes on to the next application.
+/// The mark of each node of the configuration, by its number, given their lives and whether each is drained. The walk
+/// advances to the next application.
 fn marks_of(
     config: &Config,
     walk: &mut Walk<'_>,
@@ -142,8 +141,8 @@ fn marks_of(
     marks
 }
 
-/// The greatest claim of an application and the marks of the nodes, without its verdict, where these are the lives of the
-/// nodes, and whether they are drained. The walk goes on to the next application.
+/// The greatest claim of an application and the marks of the nodes, without its verdict, given the nodes' lives and
+/// whether each is drained. The walk advances to the next application.
 fn app_begun(
     config: &Config,
     walk: &mut Walk<'_>,
@@ -167,7 +166,7 @@ fn app_begun(
     }
 }
 
-/// What stands in the place of an application that isn't there.
+/// The value in the place of an application that the configuration lacks.
 fn no_app() -> AppSummary
     ensures { result ≡ no_app }
 {
@@ -178,8 +177,8 @@ fn no_app() -> AppSummary
     }
 }
 
-/// Each application of the configuration without its verdict, by its number, where these are the lives of the nodes, and
-/// whether they are drained.
+/// Each application of the configuration without its verdict, by its number, given the nodes' lives and whether each is
+/// drained.
 fn apps_begun(
     config: &Config,
     state: &State,
@@ -199,8 +198,8 @@ fn apps_begun(
     apps
 }
 
-/// The node at which each application runs, by the applications' numbers, where these are the lives of the nodes, and the
-/// applications without their verdicts.
+/// The node at which each application runs, by the applications' numbers, given the nodes' lives and the applications
+/// without their verdicts.
 fn runners_of(
     config: &Config,
     state: &State,
@@ -227,8 +226,8 @@ fn runners_of(
     runners
 }
 
-/// Where each application of the configuration stands, by its number, where these are the lives of the nodes, and
-/// whether they are drained. Where all run is seen first, and then what is to become of each.
+/// The summary of each application of the configuration, by its number, given the nodes' lives and whether each is
+/// drained. Runners are found before verdicts, because verdicts need loads.
 fn apps_of(
     config: &Config,
     state: &State,

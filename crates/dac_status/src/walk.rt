@@ -1,4 +1,4 @@
-//! Permits and start wishes of a state, asked for in the order of their keys.
+//! Permits and start wishes of a state, looked up in the order of their keys.
 ghost use Rattle.std.specs.Prelude.{◌≡◌, ◌<◌, Some};
 ghost use Rattle.std.specs.List.{list_all};
 ghost use Rattle.std.specs.Option.{option_copied};
@@ -8,7 +8,7 @@ ghost use Rattle.dac_lattice.specs.declared.flags.Flag.{Flag as FlagValue};
 ghost use Rattle.dac_lattice.specs.Search.{IsInOrder};
 ghost use Rattle.dac_store.specs.Parts.{HasSameFrom};
 ghost use Rattle.dac_wishes.specs.Keys.{key_cmp};
-ghost use Rattle.dac_wishes.specs.PermissionsValue.{says_true, is_permitted_by};
+ghost use Rattle.dac_wishes.specs.PermissionsValue.{is_permitting, is_permitted_by};
 ghost use Rattle.dac_config.specs.Table.{app_count};
 ghost use Rattle.dac_placement.specs.Placement.{is_drained_at, is_permitted_at, is_started_at};
 ghost use Rattle.dac_status.specs.Summaries.{mark_at};
@@ -23,8 +23,8 @@ use dac_store::{DotFun, DotSet, DotStore, Entries};
 use std::cmp::Ordering;
 use std::marker::Model;
 
-/// A state, and what is left of its permits and start wishes to one who asks for them in the order of their keys. All
-/// answers together pass each entry once, where a search would start anew at each key.
+/// A state, and the rest of its permits and start wishes. Lookups must come in the order of keys; together they pass
+/// each entry once, instead of a search at each key.
 #[derive(Drop)]
 pub(crate) struct Walk<'a> {
     state: &'a State,
@@ -47,7 +47,7 @@ impl<'a> Model for Walk<'a> {
 }
 
 impl<'a> Walk<'a> {
-    /// The walk that starts before all keys.
+    /// The walk before all keys.
     pub(crate) fn of(state: &'a State) -> Self
         ensures state { result.state ≡ state.now }
         ensures before { IsBefore (first_key 0 0) result }
@@ -59,14 +59,14 @@ impl<'a> Walk<'a> {
         }
     }
 
-    /// The state.
+    /// The state that is walked through.
     pub(crate) fn state(&self) -> &'a State
         ensures { result.now ≡ self.now.state }
     {
         self.state
     }
 
-    /// How a live node stands for an application, where it is drained or not. Entries below the key are passed.
+    /// The mark of a live node for an application, given whether it is drained. Entries below the key are passed.
     pub(crate) fn mark(&mut self, config: &Config, key: Key, drained: bool) -> Mark
         requires app { key.app.0 < app_count config.now }
         requires drained { drained ≡ is_drained_at self.old.state key.node key.inc }
@@ -131,8 +131,8 @@ fn store_from<'a, S: DotStore>(left: &mut Entries<'a, Key, S>, key: Key) -> Opti
 }
 
 /// Whether a permit says true.
-fn says_true(flag: Flag) -> bool
-    ensures { result ≡ says_true flag }
+fn is_permitting(flag: Flag) -> bool
+    ensures { result ≡ is_permitting flag }
 {
     match flag {
         Flag::Up => true,
@@ -140,7 +140,7 @@ fn says_true(flag: Flag) -> bool
     }
 }
 
-/// Whether each permit says true, or the default where there is none.
+/// Whether each permit says true, or the default if there is none.
 fn permitted_by(default: bool, permits: &[(Dot, Flag)]) -> bool
     ensures { result ≡ is_permitted_by default permits.now }
 {
@@ -153,7 +153,7 @@ fn permitted_by(default: bool, permits: &[(Dot, Flag)]) -> bool
 
 /// Whether each permit says true.
 fn all_say_true(permits: &[(Dot, Flag)]) -> bool
-    ensures { result ≡ list_all (λ (p : DotValue × FlagValue). says_true p.1) permits.now }
+    ensures { result ≡ list_all (λ (p : DotValue × FlagValue). is_permitting p.1) permits.now }
 {
-    permits.iter().all(|permit| says_true(permit.1))
+    permits.iter().all(|permit| is_permitting(permit.1))
 }

@@ -1,5 +1,4 @@
--- A walk through two maps at once: what is found in the one at the keys of the other, where entries below these keys are
--- passed.
+-- A walk through two maps at once: searches in one for the keys of the other, which skip entries below these keys.
 use Rattle.std.proofs.Common.{◌≡◌, ◌∙◌, ℕ, ◌+◌, ◌<◌, ◌≤◌, zero, suc, Bool, true, false, cond, ◌&&◌, T, List, [], ◌∷◌, ◌++◌, None, Some, length, get_or, take, drop, refl, sym, ap, subst, arith, true≢false}
 use Rattle.std.specs.declared.cmp.Ordering.{Ordering}
 use Rattle.std.specs.declared.cmp.Ordering.TheVariants.{Less, Equal, Greater}
@@ -32,7 +31,7 @@ tied_from Equal e = refl
 tied_from Greater e = cc
 
 module _ {K : Type 0} {R : K → K → Ordering} (o : IsTotalOrder R) (exact : CmpEqualImpliesEq R) where
-  -- an entry below a key is none of those that aren't
+  -- an entry below a key isn't at any key from that one on
   apart : (x key k : K) → R x key ≡ Less → is_lt (R k key) ≡ false → eq_by_cmp R k x ≡ false
   apart x key k below not = elim (eq_by_cmp R k x) as (λ t. eq_by_cmp R k x ≡ t → t ≡ false) [
     | true ↦ λ t. absurd (true≢false (sym (ap is_lt (ap (λ y. R y key) (exact k x (tied_from (R k x) t)) ∙ below)) ∙ not))
@@ -43,7 +42,7 @@ module _ {K : Type 0} {R : K → K → Ordering} (o : IsTotalOrder R) (exact : C
   own key = ap is_lt (tied_itself o key)
 
 module _ {K X : Type 0} {R : K → K → Ordering} (o : IsTotalOrder R) (exact : CmpEqualImpliesEq R) where
-  -- past an entry below the key
+  -- after skipping an entry below the key
   pub same_past : (key : K) (old now next : List (K × X)) (e : K × X) → now ≡ e ∷ drop 1 now → next ≡ drop 1 now → R e.0 key ≡ Less → HasSameFrom R key old now → HasSameFrom R key old next
   same_past key old now next e is passed below same k not =
       ap (find R k) passed
@@ -54,7 +53,7 @@ module _ {K X : Type 0} {R : K → K → Ordering} (o : IsTotalOrder R) (exact :
   pub sorted_past : (now next : List (K × X)) (e : K × X) → now ≡ e ∷ drop 1 now → next ≡ drop 1 now → IsInOrder R now → IsInOrder R next
   sorted_past now next e is passed s = subst (IsInOrder R) (sym passed) (second (below_all R e.0 (drop 1 now)) (is_sorted R (drop 1 now)) (subst (IsInOrder R) is s))
 
-  -- the entry at the key
+  -- the entry is at the key
   pub found_at : (key : K) (old now : List (K × X)) (e : K × X) → now ≡ e ∷ drop 1 now → R e.0 key ≡ Equal → HasSameFrom R key old now → Some e.1 ≡ find R key old
   found_at key old now e is at same =
       sym (ap (λ r. cond (is_eq r) (Some e.1) (find R key (drop 1 now))) (o.antisymm key e.0 ∙ ap ordering_reverse at))
@@ -74,7 +73,7 @@ module _ {K X : Type 0} {R : K → K → Ordering} (o : IsTotalOrder R) (exact :
       less Equal p = absurd p
       less Greater p = absurd p
 
-  -- all entries that are left are past the key
+  -- all remaining entries are above the key
   pub found_none : (key : K) (old now : List (K × X)) (e : K × X) → now ≡ e ∷ drop 1 now → R e.0 key ≡ Greater → IsInOrder R now → HasSameFrom R key old now → None ≡ find R key old
   found_none key old now e is past s same =
       let lower : R key e.0 ≡ Less = o.antisymm key e.0 ∙ ap ordering_reverse past in
@@ -88,25 +87,25 @@ module _ {K X : Type 0} {R : K → K → Ordering} (o : IsTotalOrder R) (exact :
   pub found_end : (key : K) (old now : List (K × X)) → now ≡ [] → HasSameFrom R key old now → None ≡ find R key old
   found_end key old now none same = sym (ap (find R key) none) ∙ same key (own o exact key)
 
-  -- each entry before a place is below the one at the place
+  -- each entry before an index is below the one there
   pub above_before : (es : List (K × X)) (i : ℕ) (d : K × X) → IsInOrder R es → i < length es → is_above_entries R (take i es) (get_or es i d).0 ≡ true
   above_before [] i d s p = absurd (omega arith)
   above_before (e ∷ es) zero d s p = refl
   above_before (e ∷ es) (suc i) d s p =
       and_from _ _ (ap is_lt (above_at o exact e.0 es i d (first _ _ s) (omega arith))) (above_before es i d (second _ _ s) (omega arith))
 
-  -- what is found at the entry at a place
+  -- the value at the key of the entry at an index
   pub found_before : (part old now : List (K × X)) (i : ℕ) (e : K × X) → i < length part → e ≡ get_or part i e → IsInOrder R part → HasLaterKeys R (take i part) old now → find R e.0 now ≡ find R e.0 old
   found_before part old now i e p is s later = later e.0 (subst (λ f. is_above_entries R (take i part) f.0 ≡ true) (sym is) (above_before part i e s p))
 
-  -- past one entry more
+  -- after one more entry
   pub later_more : (part old now next : List (K × X)) (i : ℕ) (e : K × X) → i < length part → e ≡ get_or part i e → HasLaterKeys R (take i part) old now → HasSameFrom R e.0 now next → HasLaterKeys R (take (i + 1) part) old next
   later_more part old now next i e p is later same k above =
       let tests = and_parts (is_above_entries R (take i part) k) (is_lt (R (get_or part i e).0 k)) (sym (list_all_more (λ (f : K × X). is_lt (R f.0 k)) part i e p) ∙ above) in
       let lower : is_lt (R e.0 k) ≡ true = subst (λ f. is_lt (R f.0 k) ≡ true) (sym is) tests.1 in
       same k (ap is_lt (o.antisymm k e.0 ∙ ap ordering_reverse (lower_from (R e.0 k) lower))) ∙ later k tests.0
 
-  -- the same, where none was passed
+  -- after one more entry, with none skipped
   pub later_same : (part old now : List (K × X)) (i : ℕ) (e : K × X) → i < length part → e ≡ get_or part i e → HasLaterKeys R (take i part) old now → HasLaterKeys R (take (i + 1) part) old now
   later_same part old now i e p is later = later_more part old now now i e p is later (λ k apart. refl)
 
@@ -126,14 +125,14 @@ module _ {K X : Type 0} {R : K → K → Ordering} (o : IsTotalOrder R) (exact :
 -- ---- the walk through the blocks of the other map
 
 module _ {K S : Type 0} (R : K → K → Ordering) (nothing : S) (below : S → Dots → S → Dots → Type 0) (c d : Dots) where
-  -- what is below is below where the same is found
+  -- stores are below those of another map if both maps have the same values at their keys
   each_found : (mine whole es : List (K × S)) → AtEachEntry (λ k _. find R k mine ≡ find R k whole) es → AtEachEntry (IsBelowAt R nothing below mine c d) es → AtEachEntry (IsBelowAt R nothing below whole c d) es
   each_found mine whole es same h i e p = subst (λ f. below (store_at nothing f) c (get_or es i e).1 d) (same i e p) (h i e p)
 
   each_turned : (mine whole es : List (K × S)) → AtEachEntry (λ k _. find R k mine ≡ find R k whole) es → AtEachEntry (IsBelowAt R nothing below whole c d) es → AtEachEntry (IsBelowAt R nothing below mine c d) es
   each_turned mine whole es same h i e p = subst (λ f. below (store_at nothing f) c (get_or es i e).1 d) (sym (same i e p)) (h i e p)
 
-  -- what is left of the own map finds the same at each key that is left of the other
+  -- the rest of one map has the same values at each remaining key of the other
   pub record IsWalking (whole other mine rest : List (K × S)) : Type 0 where
     pub walk : IsLeft (AtEachEntry (IsBelowAt R nothing below whole c d)) rest other
     pub mine_in_order : IsInOrder R mine

@@ -1,4 +1,4 @@
--- A reader of entries: those at hand, and the others.
+-- An iterator over entries: those of the current block, and the later ones.
 use Rattle.std.proofs.Common.{◌≡◌, ◌<◌, ◌≤◌, true, false, List, [], ◌∷◌, ◌++◌, Option, None, Some, MatchOption, length, drop, refl, sym, ap, ◌∙◌, arith, add-one, append_assoc, append-nil, nat_eq, true≢false, true}
 use Rattle.std.proofs.lemmas.Bool.{eqb-true}
 use Rattle.std.specs.Borrow.{Bor}
@@ -6,7 +6,7 @@ use Rattle.std.specs.Option.{option_copied}
 use Rattle.std.specs.List.{flat_map, slice_get}
 
 module _ {E : Type 0} where
-  -- the first of those at hand is the first of all
+  -- the first entry of the current block is the first of all
   pub first_of : (here rest whole : List E) → here ++ rest ≡ whole → (here ≡ [] → rest ≡ []) → (r : Option (Bor E)) → option_copied r ≡ slice_get here 0
       → MatchOption r (whole ≡ []) (λ e. whole ≡ e.now ∷ drop 1 whole)
   first_of [] rest whole is none None e = sym is ∙ none refl
@@ -29,7 +29,7 @@ module _ {E : Type 0} where
   filled : (x : E) (xs : List E) → x ∷ xs ≡ [] → ⊥
   filled x xs e = cc
 
-  -- some are left at hand
+  -- entries remain in the current block
   pub still_here : (here : List E) (P : Type 0) → 1 < length here → drop 1 here ≡ [] → P
   still_here [] P p e = absurd (omega arith)
   still_here (x ∷ []) P p e = absurd (omega arith)
@@ -44,22 +44,22 @@ module _ {E : Type 0} where
   some_here [] P p e = absurd (true≢false p)
   some_here (x ∷ here) P p e = absurd (filled x here e)
 
-  -- a list without elements
+  -- a list of length 0 is empty
   pub nil_of : (here there : List E) → there ≡ here → nat_eq (length here) 0 ≡ true → there ≡ []
   nil_of [] there e p = e
   nil_of (x ∷ here) there e p = let none = eqb-true (length (x ∷ here)) 0 p in absurd (omega (arith, none))
 
-  -- one fewer is left
+  -- one entry fewer remains
   pub shorter : (now next : List E) (e : E) → now ≡ e ∷ next → length next < length now
   shorter now next e is =
       let long = ap length is ∙ sym (add-one (length next)) in
       omega (arith, long)
 
-  -- two lists whose first elements are equal
+  -- lists are equal if their first elements and their tails are
   pub same_first : (old new next after : List E) (e f : E) → old ≡ e ∷ next → new ≡ f ∷ after → e ≡ f → next ≡ after → old ≡ new
   same_first old new next after e f is also same rest = is ∙ (λ i. same i ∷ rest i) ∙ sym also
 
-  -- as many are left on both sides
+  -- the tails of lists of equal length have equal length
   pub still_as_many : (old new next after : List E) (e f : E) → old ≡ e ∷ next → new ≡ f ∷ after → length old ≡ length new → length next ≡ length after
   still_as_many old new next after e f is also same =
       let long = ap length is in
@@ -71,7 +71,7 @@ module _ {E : Type 0} where
   same_end now (x ∷ other) none same = let more = sym same ∙ ap length none in absurd (omega (arith, more))
 
   module _ {B : Type 0} (value : B → List E) where
-    -- past a block without entries
+    -- after an empty block
     pub past_block : (blocks others : List B) (b : B) (last whole : List E) → blocks ≡ b ∷ others → value b ≡ [] → flat_map value blocks ++ last ≡ whole → flat_map value others ++ last ≡ whole
     past_block blocks others b last whole is none same =
         sym (ap (λ l. (l ++ flat_map value others) ++ last) none)
@@ -86,7 +86,7 @@ module _ {E : Type 0} where
         ∙ sym (ap (λ (l : List B). flat_map value l ++ last) is)
         ∙ same
 
-    -- past all blocks
+    -- after all blocks
     pub past_blocks : (blocks : List B) (last whole : List E) → length blocks ≡ 0 → flat_map value blocks ++ last ≡ whole → last ++ [] ≡ whole
     past_blocks [] last whole none same = append-nil last ∙ same
     past_blocks (b ∷ blocks) last whole none same = absurd (omega arith)

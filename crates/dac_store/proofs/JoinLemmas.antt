@@ -1,4 +1,4 @@
--- Steps of a merge of two maps, of which the first comes in parts.
+-- Steps of a merge of two maps, of which the first is given in parts.
 use Rattle.std.proofs.Common.{◌≡◌, ◌+◌, ◌<◌, Bool, true, false, not, cond, T, List, [], ◌∷◌, ◌++◌, Option, None, Some, ℕ, ◌≤◌, length, get_or, take, drop, refl, sym, ap, subst, ◌∙◌, arith, add-one, append_assoc, append-nil, true≢false}
 use Rattle.std.specs.declared.cmp.Ordering.{Ordering}
 use Rattle.std.specs.declared.cmp.Ordering.TheVariants.{Less, Equal, Greater}
@@ -16,25 +16,25 @@ use Rattle.dac_store.specs.Appending.{is_above_entries}
 use Rattle.dac_store.specs.Joining.{AreBefore, AreKept, ArePassed, IsMergedBelow, IsMergedPart, IsMergedWith, IsNotAt, IsNotBelow, IsTakenAt, joined_at}
 use Rattle.dac_store.specs.Stores.{IsDotStore, IsUnheard}
 
--- a key that is lower
+-- a key that is less
 pub lower_key : (r : Ordering) → is_lt r ≡ true → r ≡ Less
 lower_key Less e = refl
 lower_key Equal e = cc
 lower_key Greater e = cc
 
--- what is not so
+-- a negated test is false
 pub not_true : (b : Bool) → not b ≡ true → b ≡ false
 not_true true e = cc
 not_true false e = refl
 
 module _ {K X : Type 0} where
-  -- what is kept, before others
+  -- the merged entry, before others
   pub keep_more : (old : List (K × X)) (k : K) (v : Option X) (es : List (K × X)) → (old ++ keep k v []) ++ es ≡ old ++ keep k v es
   keep_more old k None es = ap (λ l. l ++ es) (append-nil old)
   keep_more old k (Some v) es = append_assoc old ((k, v) ∷ []) es
 
   module _ {R : K → K → Ordering} (o : IsTotalOrder R) (f : Combine K X) where
-    -- the second map's first entry, whose key is below that of the first map's
+    -- the first entry of the second map is below that of the first
     pub one_below : (old : List (K × X)) (y x : K × X) (rest : List (K × X) → List (K × X)) (ys : List (K × X)) → R y.0 x.0 ≡ Less
         → (old ++ keep y.0 (f y.0 None (Some y.1)) []) ++ merge_entry R f x rest ys ≡ old ++ merge_entry R f x rest (y ∷ ys)
     one_below old y x rest ys p =
@@ -44,7 +44,7 @@ module _ {K X : Type 0} where
         (keep x.0 (f x.0 (Some x.1) (Some y.1)) (rest ys))
         (keep y.0 (f y.0 None (Some y.1)) (merge_entry R f x rest ys))) (sym (greater o y.0 x.0 p))
 
-    -- both are at one key
+    -- both maps have an entry at the key
     pub one_both : (old : List (K × X)) (y x : K × X) (rest : List (K × X) → List (K × X)) (ys : List (K × X)) → R y.0 x.0 ≡ Equal
         → (old ++ keep x.0 (f x.0 (Some x.1) (Some y.1)) []) ++ rest ys ≡ old ++ merge_entry R f x rest (y ∷ ys)
     one_both old y x rest ys p =
@@ -54,7 +54,7 @@ module _ {K X : Type 0} where
         (keep x.0 (f x.0 (Some x.1) (Some y.1)) (rest ys))
         (keep y.0 (f y.0 None (Some y.1)) (merge_entry R f x rest ys))) (sym (o.antisymm x.0 y.0 ∙ ap ordering_reverse p))
 
-    -- the first map's entry alone
+    -- the second map has no entries left
     pub one_alone : (old : List (K × X)) (x : K × X) (rest : List (K × X) → List (K × X)) → (old ++ keep x.0 (f x.0 (Some x.1) None) []) ++ rest [] ≡ old ++ merge_entry R f x rest []
     one_alone old x rest = keep_more old x.0 (f x.0 (Some x.1) None) (rest [])
 
@@ -80,7 +80,7 @@ module _ {K X : Type 0} where
         ∙ ap (λ l. now ++ merge_entry R f x rest l) (sym is)
         ∙ so_far x rest same
 
-    -- a step where the second map alone is left
+    -- a step with only the second map left
     pub alone_step : (W now new ys zs : List (K × X)) (e : K × X) (v : Option X)
         → ys ≡ e ∷ drop 1 ys → v ≡ f e.0 None (Some e.1) → new ≡ now ++ keep e.0 v [] → zs ≡ drop 1 ys
         → now ++ merge_entries R f [] ys ≡ W → new ++ merge_entries R f [] zs ≡ W
@@ -91,7 +91,7 @@ module _ {K X : Type 0} where
         ∙ ap (λ l. now ++ merge_right R f l) (sym is)
         ∙ so_far
 
-    -- an entry with what was taken of the other side
+    -- an entry merged with the one taken from the other side
     pub with_taken : (x : K × X) (old new ys zs : List (K × X)) (w v : Option X) → IsNotBelow R x.0 ys → IsTakenAt R x.0 ys w zs → v ≡ f x.0 (Some x.1) w → new ≡ old ++ keep x.0 v []
         → IsMergedWith R f x old ys new zs
     with_taken x old new ys zs (Some w) v past taken made pushed rest =
@@ -112,7 +112,7 @@ module _ {K X : Type 0} where
         above Equal p q = absurd (q refl)
         above Greater p q = refl
 
-    -- one entry more of a part
+    -- one more entry of a part
     pub part_step : (W : List (K × X) → List (K × X)) (left tl now mid new ys zs ws : List (K × X)) (e : K × X) → left ≡ e ∷ tl → IsMergedBelow R f e.0 now ys mid zs → IsMergedWith R f e mid zs new ws
         → ((xs : List (K × X)) → now ++ merge_entries R f (left ++ xs) ys ≡ W xs) → (xs : List (K × X)) → new ++ merge_entries R f (tl ++ xs) ws ≡ W xs
     part_step W left tl now mid new ys zs ws e is below made so_far xs =
@@ -121,7 +121,7 @@ module _ {K X : Type 0} where
         ∙ ap (λ l. now ++ merge_entries R f (l ++ xs) ys) (sym is)
         ∙ so_far xs
 
-    -- one entry more stays as it is
+    -- one more entry stays unchanged
     pub passed_more : (part ys now next : List (K × X)) (i : ℕ) (e : K × X) (w : Option X) → i < length part → e ≡ get_or part i e → IsNotBelow R e.0 now → IsTakenAt R e.0 now w next
         → f e.0 (Some e.1) w ≡ Some e.1
         → ((xs : List (K × X)) → take i part ++ merge_entries R f (drop i part ++ xs) now ≡ merge_entries R f (part ++ xs) ys)
@@ -134,14 +134,14 @@ module _ {K X : Type 0} where
         (with_taken e (take i part) (take (i + 1) part) now next w (Some e.1) past taken (sym stays) step)
         so_far
 
-    -- all stay as they are
+    -- all entries stay unchanged
     pub passed_all : (part ys now : List (K × X)) (i : ℕ) → length part ≤ i → ((xs : List (K × X)) → take i part ++ merge_entries R f (drop i part ++ xs) now ≡ merge_entries R f (part ++ xs) ys) → ArePassed R f part ys now
     passed_all part ys now i p so_far xs =
         ap (λ l. l ++ merge_entries R f xs now) (sym (take_all i part p))
         ∙ ap (λ l. take i part ++ merge_entries R f (l ++ xs) now) (sym (drop_all i part p))
         ∙ so_far xs
 
-  -- none is at a key
+  -- no entry is at the key
   pub taken_none : (R : K → K → Ordering) (key : K) (ys : List (K × X)) → ys ≡ [] → IsTakenAt R key ys None ys
   taken_none R key ys e = (refl, subst (IsNotAt R key) (sym e) tt)
 
@@ -156,14 +156,14 @@ module _ {K X : Type 0} where
       tied Equal p = refl
       tied Greater p = cc
 
-  -- one fewer is left
+  -- one entry fewer remains
   pub one_fewer : (ys zs : List (K × X)) (e : K × X) → ys ≡ e ∷ drop 1 ys → zs ≡ drop 1 ys → length zs < length ys
   one_fewer ys zs e is passed =
       let long : length ys ≡ length (drop 1 ys) + 1 = ap length is ∙ sym (add-one (length (drop 1 ys))) in
       let same : length zs ≡ length (drop 1 ys) = ap length passed in
       omega (arith, long, same)
 
-  -- none is left below a key
+  -- no entry remains below the key
   pub past_none : (R : K → K → Ordering) (key : K) (ys : List (K × X)) → ys ≡ [] → IsNotBelow R key ys
   past_none R key ys e = subst (IsNotBelow R key) (sym e) tt
 
@@ -177,25 +177,25 @@ module _ {K X : Type 0} where
   before_first R part ys e is all = subst (AreBefore R part) (sym is) all
 
   module _ (R : K → K → Ordering) (f : Combine K X) where
-    -- what is left of the first map is a part, and what comes after it
+    -- the rest of the first map is a part, followed by the next ones
     pub merged_on : (now new rest part next ys zs whole : List (K × X)) → now ++ merge_entries R f rest ys ≡ whole → rest ≡ part ++ next → IsMergedPart R f part now ys new zs → new ++ merge_entries R f next zs ≡ whole
     merged_on now new rest part next ys zs whole so_far is merged = merged next ∙ ap (λ l. now ++ merge_entries R f l ys) (sym is) ∙ so_far
 
-    -- all of the first map is merged, and then what is left of the second
+    -- the first map is merged, and then the rest of the second
     pub merged_all : (now mid new part ys zs whole : List (K × X)) → now ++ merge_entries R f part ys ≡ whole → IsMergedPart R f part now ys mid zs → new ≡ mid ++ merge_entries R f [] zs → new ≡ whole
     merged_all now mid new part ys zs whole so_far merged put = put ∙ merged [] ∙ ap (λ l. now ++ merge_entries R f l ys) (append-nil part) ∙ so_far
 
-    -- none is left of the second map
+    -- none of the second map remains
     pub merged_none : (now ys whole : List (K × X)) → ys ≡ [] → now ++ merge_entries R f [] ys ≡ whole → now ≡ whole
     merged_none now ys whole none so_far = sym (append-nil now) ∙ ap (λ l. now ++ merge_right R f l) (sym none) ∙ so_far
 
-  -- a part that a merge leaves as it is
+  -- a merge leaves the part unchanged
   abbrev pub Stays : Combine K X → List (K × X) → Type 0
   Stays f [] = Unit {0}
   Stays f (e ∷ es) = (f e.0 (Some e.1) None ≡ Some e.1) × Stays f es
 
   module _ (R : K → K → Ordering) (f : Combine K X) where
-    -- the entries of the second map are all past it
+    -- the entries of the second map are all after the part
     pub part_stays : (part xs ys : List (K × X)) → Stays f part → AreBefore R part ys → merge_entries R f (part ++ xs) ys ≡ part ++ merge_entries R f xs ys
     part_stays [] xs ys s b = refl
     part_stays (e ∷ es) xs [] s b =
@@ -209,16 +209,16 @@ module _ {K X : Type 0} where
         ∙ ap (λ v. keep e.0 v (merge_entries R f (es ++ xs) (y ∷ ys))) s.0
         ∙ ap (λ l. e ∷ l) (part_stays es xs (y ∷ ys) s.1 (and_parts _ _ b).1)
 
--- a part that stays is put as it is
+-- a part that stays unchanged is appended as it is
 pub part_shared : {K X : Type 0} (R : K → K → Ordering) (f : Combine K X) (part old new ys : List (K × X)) → Stays f part → AreBefore R part ys → new ≡ old ++ part → IsMergedPart R f part old ys new ys
 part_shared R f part old new ys s b e xs =
     ap (λ l. l ++ merge_entries R f xs ys) e ∙ append_assoc old part (merge_entries R f xs ys) ∙ ap (λ l. old ++ l) (sym (part_stays R f part xs ys s b))
 
--- a store with dots that a join leaves stays
+-- a store with dots that a join leaves unchanged stays
 pub stays_whole : {S : Type 0} (is_empty : S → Bool) (s joined : S) → joined ≡ s → is_empty s ≡ false → cond (is_empty joined) None (Some joined) ≡ Some s
 stays_whole is_empty s joined same filled = ap (λ t. cond (is_empty t) None (Some t)) same ∙ ap (λ b. cond b None (Some s)) filled
 
--- stores of whose dots the other side has heard none stay
+-- stores stay unchanged if the other context has none of their dots
 module _ {K S : Type 0} {is_store : S → Type 0} {has : S → Dot → Bool} {below : S → Dots → S → Dots → Type 0} {join : S → Dots → S → Dots → S} {nothing : S} {is_empty : S → Bool} (laws : IsDotStore is_store has below join nothing is_empty) (c d : Dots) where
   pub unheard_stays : (part : List (K × S)) → AreKept is_store is_empty part → IsUnheard (has_in has part) d → Stays (joined_at nothing is_empty join c d) part
   unheard_stays [] k u = tt

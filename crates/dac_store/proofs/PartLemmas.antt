@@ -1,4 +1,4 @@
--- Entries in parts: what holds of the parts holds of the whole, and the other way round.
+-- Entries in parts: properties of the parts are properties of the whole, and conversely.
 use Rattle.std.proofs.Common.{◌≡◌, ℕ, ◌+◌, ◌-◌, ◌<◌, ◌≤◌, zero, suc, Bool, true, false, cond, not, ◌&&◌, ◌||◌, ◌⊎◌, T, inl, inr, List, [], ◌∷◌, ◌++◌, Some, length, get_or, take, drop, refl, sym, ap, subst, ◌∙◌, arith, append_assoc, append-nil, length-append, take-append-drop}
 use Rattle.std.specs.declared.cmp.Ordering.{Ordering}
 use Rattle.std.specs.declared.cmp.Ordering.TheVariants.{Less, Equal, Greater}
@@ -29,57 +29,57 @@ use Rattle.dac_store.specs.Joining.{AreKept}
 use Rattle.dac_store.specs.Stores.{IsDotStore, IsHeld, IsUnheard}
 use Rattle.dac_store.proofs.Passing.{has_at}
 
--- ---- blocks from a place on
+-- ---- the blocks from an index on
 
 module _ {E B : Type 0} (value : B → List E) where
-  -- the entries of the blocks from a place on, and those after them
+  -- the entries of the blocks from an index on, and those after them
   abbrev pub rest_of : List B → List E → ℕ → List E
   rest_of blocks last i = flat_map value (drop i blocks) ++ last
 
   next_block : (blocks : List B) (i : ℕ) (b : B) → i < length blocks → b ≡ get_or blocks i b → flat_map value (drop i blocks) ≡ value b ++ flat_map value (drop (i + 1) blocks)
   next_block blocks i b p is = ap (flat_map value) (drop_more blocks i b p ∙ ap (λ (d : B). d ∷ drop (i + 1) blocks) (sym is))
 
-  -- the block at a place, before those after it
+  -- the block at an index, before the later ones
   pub rest_step : (blocks : List B) (last : List E) (i : ℕ) (b : B) → i < length blocks → b ≡ get_or blocks i b → rest_of blocks last i ≡ value b ++ rest_of blocks last (i + 1)
   rest_step blocks last i b p is =
       ap (λ l. l ++ last) (next_block blocks i b p is)
       ∙ append_assoc (value b) (flat_map value (drop (i + 1) blocks)) last
 
-  -- no block is left
+  -- no block remains
   pub rest_last : (blocks : List B) (last : List E) (i : ℕ) → length blocks ≤ i → rest_of blocks last i ≡ last
   rest_last blocks last i p = ap (λ (l : List B). flat_map value l ++ last) (drop_all i blocks p)
 
-  -- none is counted but the last entries
+  -- only the last entries are counted
   pub none_counted : (blocks : List B) (last whole : List E) → whole ≡ flat_map value blocks ++ last → length last + length (flat_map value blocks) ≡ length whole
   none_counted blocks last whole e =
       let sum : length whole ≡ length (flat_map value blocks) + length last = ap length e ∙ length-append (flat_map value blocks) last in
       omega (arith, sum)
 
-  -- one block more is counted
+  -- one more block is counted
   pub one_counted : (blocks : List B) (i n m : ℕ) (b : B) (whole : ℕ) → i < length blocks → b ≡ get_or blocks i b → n + length (flat_map value (drop i blocks)) ≡ whole → m ≡ n + length (value b)
       → m + length (flat_map value (drop (i + 1) blocks)) ≡ whole
   one_counted blocks i n m b whole p is so_far more =
       let split : length (flat_map value (drop i blocks)) ≡ length (value b) + length (flat_map value (drop (i + 1) blocks)) = ap length (next_block blocks i b p is) ∙ length-append (value b) (flat_map value (drop (i + 1) blocks)) in
       omega (arith, so_far, more, split)
 
-  -- all are
+  -- all blocks are counted
   pub all_counted : (blocks : List B) (i n whole : ℕ) → length blocks ≤ i → n + length (flat_map value (drop i blocks)) ≡ whole → n ≡ whole
   all_counted blocks i n whole p e =
       let none : length (flat_map value (drop i blocks)) ≡ 0 = ap (λ (l : List B). length (flat_map value l)) (drop_all i blocks p) in
       omega (arith, none, e)
 
-  -- one block more at the end
+  -- one more block at the end
   pub one_sealed : (blocks new : List B) (b : B) (es : List E) → new ≡ blocks ++ b ∷ [] → value b ≡ es → flat_map value new ≡ flat_map value blocks ++ es
   one_sealed blocks new b es pushed is =
       ap (flat_map value) pushed
       ∙ flat_map-append value blocks (b ∷ [])
       ∙ ap (λ l. flat_map value blocks ++ l) (append-nil (value b) ∙ is)
 
-  -- which has entries
+  -- the new block has entries
   pub one_filled : (blocks new : List B) (b : B) → HaveEntries value blocks → new ≡ blocks ++ b ∷ [] → 0 < length (value b) → HaveEntries value new
   one_filled blocks new b full pushed here = subst (HaveEntries value) (sym pushed) (All-push (λ b. 0 < length (value b)) blocks b full here)
 
-  -- one block more is shared
+  -- one more block is shared
   pub one_shared : (blocks done new : List B) (i : ℕ) (b c : B) → i < length blocks → b ≡ get_or blocks i b → flat_map value done ≡ flat_map value (take i blocks) → value c ≡ value b → new ≡ done ++ c ∷ []
       → flat_map value new ≡ flat_map value (take (i + 1) blocks)
   one_shared blocks done new i b c p is so_far same pushed =
@@ -98,25 +98,28 @@ module _ {E B : Type 0} (value : B → List E) where
       ∙ ap (λ l. flat_map value blocks ++ l) (take-append-drop n last)
       ∙ is
 
-  -- all entries are in blocks, and one block more comes
-  pub then_shared : (blocks sealed new : List B) (last rest whole es : List E) (b : B) (n : ℕ) → length last ≤ n → flat_map value blocks ++ last ≡ whole → flat_map value sealed ≡ flat_map value blocks ++ take n last → rest ≡ drop n last → new ≡ sealed ++ b ∷ [] → value b ≡ es
+  -- all entries are in blocks, and one more block is shared
+  pub then_shared : (blocks sealed new : List B) (last rest whole es : List E) (b : B) → flat_map value blocks ++ last ≡ whole → flat_map value sealed ≡ flat_map value blocks ++ last → rest ≡ [] → new ≡ sealed ++ b ∷ [] → value b ≡ es
       → flat_map value new ++ rest ≡ whole ++ es
-  then_shared blocks sealed new last rest whole es b n long is all none pushed same =
-      let empty : rest ≡ [] = none ∙ drop_all n last long in
-      let before : flat_map value sealed ≡ whole = all ∙ ap (λ l. flat_map value blocks ++ l) (take_all n last long) ∙ is in
-      (λ k. one_sealed sealed new b es pushed same k ++ empty k)
+  then_shared blocks sealed new last rest whole es b is all none pushed same =
+      (λ k. one_sealed sealed new b es pushed same k ++ none k)
       ∙ append-nil (flat_map value sealed ++ es)
-      ∙ ap (λ l. l ++ es) before
+      ∙ ap (λ l. l ++ es) (all ∙ is)
 
--- ---- a walk through blocks: what it still has to show of what is left
+-- no entry is left
+pub none_left : {E : Type 0} (last : List E) → length last ≤ 0 → last ≡ []
+none_left [] p = refl
+none_left (e ∷ es) p = absurd (omega arith)
 
--- what holds of a list exactly if it holds of its two parts
+-- ---- a walk through blocks: the goal for the remaining ones
+
+-- the property holds of a list exactly if it holds of its two parts
 pub record Splits {E : Type 0} (P : List E → Type 0) : Type 0 where
   pub both : (xs ys : List E) → P xs → P ys → P (xs ++ ys)
   pub left : (xs ys : List E) → P (xs ++ ys) → P xs
   pub right : (xs ys : List E) → P (xs ++ ys) → P ys
 
--- it holds of the whole exactly if it holds of what is left
+-- the property holds of the whole exactly if it holds of the rest
 pub record IsLeft {E : Type 0} (P : List E → Type 0) (now whole : List E) : Type 0 where
   pub up : P now → P whole
   pub down : P whole → P now
@@ -125,22 +128,22 @@ pub walk_start : {E : Type 0} (P : List E → Type 0) (now whole : List E) → n
 walk_start P now whole e = record { up = subst P e; down = subst P (sym e) }
 
 module _ {E B : Type 0} (value : B → List E) (P : List E → Type 0) (splits : Splits P) (blocks : List B) (last : List E) (i : ℕ) (b : B) (whole : List E) (p : i < length blocks) (is : b ≡ get_or blocks i b) (before : IsLeft P (rest_of value blocks last i) whole) where
-  -- it holds of the next block
+  -- the next block has the property
   pub walk_next : P (value b) → IsLeft P (rest_of value blocks last (i + 1)) whole
   walk_next here = record {
     up = λ q. before.up (subst P (sym (rest_step value blocks last i b p is)) (splits.both (value b) (rest_of value blocks last (i + 1)) here q));
     down = λ w. splits.right (value b) (rest_of value blocks last (i + 1)) (subst P (rest_step value blocks last i b p is) (before.down w));
   }
 
-  -- where it holds of the whole, it does of the next block
+  -- if the whole has the property, so does the next block
   pub walk_here : P whole → P (value b)
   walk_here w = splits.left (value b) (rest_of value blocks last (i + 1)) (subst P (rest_step value blocks last i b p is) (before.down w))
 
--- no block is left
+-- no block remains
 pub walk_end : {E B : Type 0} (value : B → List E) (P : List E → Type 0) (blocks : List B) (last : List E) (i : ℕ) (whole : List E) → length blocks ≤ i → IsLeft P (rest_of value blocks last i) whole → IsLeft P last whole
 walk_end value P blocks last i whole p before = subst (λ m. IsLeft P m whole) (rest_last value blocks last i p) before
 
--- ---- which dots stores in parts hold
+-- ---- the dots of stores in parts
 
 module _ {K S : Type 0} (has : S → Dot → Bool) where
   pub has_parts : (xs ys : List (K × S)) (x : Dot) → has_in has (xs ++ ys) x ≡ (has_in has xs x || has_in has ys x)
@@ -170,7 +173,7 @@ module _ {K S : Type 0} (has : S → Dot → Bool) where
       right = λ xs ys h x e. h x (has_right xs ys x e);
     }
 
--- what may still be found: a dot of the whole is one of what is left
+-- a dot of the whole is a dot of the rest
 module _ {K S B : Type 0} (value : B → List (K × S)) (has : S → Dot → Bool) (x : Dot) (blocks : List B) (last : List (K × S)) (i : ℕ) (b : B) (whole : List (K × S)) (p : i < length blocks) (is : b ≡ get_or blocks i b) (same : has_in has (rest_of value blocks last i) x ≡ has_in has whole x) where
   has_split : (has_in has (value b) x || has_in has (rest_of value blocks last (i + 1)) x) ≡ has_in has whole x
   has_split =
@@ -184,7 +187,7 @@ module _ {K S B : Type 0} (value : B → List (K × S)) (has : S → Dot → Boo
   pub has_here : has_in has (value b) x ≡ true → has_in has whole x ≡ true
   has_here here = sym has_split ∙ or_left (has_in has (value b) x) (has_in has (rest_of value blocks last (i + 1)) x) here
 
--- ---- what holds of each entry
+-- ---- properties of each entry
 
 each_left : {E : Type 0} (P : E → Type 0) (xs ys : List E) → All P (xs ++ ys) → All P xs
 each_left P xs ys all i d p =
@@ -226,7 +229,7 @@ module _ {K : Type 0} {R : K → K → Ordering} (o : IsTotalOrder R) where
   lower x k e = ap is_eq (greater o x k (less (R x k) (subst T (sym e) tt)))
 
 module _ {K X : Type 0} {R : K → K → Ordering} (o : IsTotalOrder R) (exact : CmpEqualImpliesEq R) where
-  -- past a part whose keys are all below the key
+  -- after a part whose keys are all below the key
   find_past : (k : K) (xs ys : List (K × X)) → is_above_entries R xs k ≡ true → find R k (xs ++ ys) ≡ find R k ys
   find_past k [] ys h = refl
   find_past k (x ∷ xs) ys h =
@@ -237,7 +240,7 @@ module _ {K X : Type 0} {R : K → K → Ordering} (o : IsTotalOrder R) (exact :
   below_from k x [] p h = tt
   below_from k x (e ∷ es) p h = both _ _ (subst (λ r. T (is_lt r)) (sym (o.trans k x e.0 p (less _ (first _ _ h)))) tt) (below_from k x es p (second _ _ h))
 
-  -- in the part that has a key which isn't below it
+  -- in a part with a key that isn't below the key
   find_here : (k : K) (xs ys : List (K × X)) → IsInOrder R (xs ++ ys) → is_above_entries R xs k ≡ false → find R k (xs ++ ys) ≡ find R k xs
   find_here k [] ys s h = absurd (false≢true (sym h))
   find_here k (x ∷ xs) ys s h = elim (R x.0 k) as (λ r. R x.0 k ≡ r → find R k (x ∷ xs ++ ys) ≡ find R k (x ∷ xs)) [
@@ -251,7 +254,7 @@ module _ {K X : Type 0} {R : K → K → Ordering} (o : IsTotalOrder R) (exact :
       tied : R x.0 k ≡ Equal → eq_by_cmp R k x.0 ≡ true
       tied e = ap is_eq (o.antisymm k x.0 ∙ ap ordering_reverse e)
 
-  -- ---- the part among which a key would be
+  -- ---- the part that would contain a key
 
   pub part_whole : (k : K) (whole now : List (K × X)) → IsInOrder R whole → whole ≡ now → IsPartAt R k whole now
   part_whole k whole now s e = record {
@@ -276,7 +279,7 @@ module _ {K X : Type 0} {R : K → K → Ordering} (o : IsTotalOrder R) (exact :
     pub block_sorted : IsInOrder R (value b)
     block_sorted = sorted_left R (value b) (rest_of value blocks last (i + 1)) part_sorted
 
-    -- past a block below the key
+    -- after a block below the key
     pub part_past : is_above_entries R (value b) k ≡ true → IsPartAt R k whole (rest_of value blocks last (i + 1))
     part_past all = record {
       in_order = sorted_right R (value b) (rest_of value blocks last (i + 1)) part_sorted;
@@ -284,7 +287,7 @@ module _ {K X : Type 0} {R : K → K → Ordering} (o : IsTotalOrder R) (exact :
       above = sym (ap (λ t. t && is_above_entries R (rest_of value blocks last (i + 1)) k) all) ∙ part_above;
     }
 
-    -- at a block that isn't
+    -- at a block that isn't below the key
     pub part_here : is_above_entries R (value b) k ≡ false → IsPartAt R k whole (value b)
     part_here not = record {
       in_order = block_sorted;
@@ -298,7 +301,7 @@ module _ {K X : Type 0} {R : K → K → Ordering} (o : IsTotalOrder R) (exact :
     abbrev is_below : B → Bool
     is_below b = is_above_entries R (value b) k
 
-    -- its last key is below the key
+    -- whether the block's last key is below the key
     abbrev pub last_below : B → Bool
     last_below b = is_above_entries R (drop (length (value b) - 1) (value b)) k
 
@@ -307,7 +310,7 @@ module _ {K X : Type 0} {R : K → K → Ordering} (o : IsTotalOrder R) (exact :
     last_decides (b ∷ blocks) zero d s p = above_last_entry o (value b) k (sorted_left R (value b) (flat_map value blocks) s)
     last_decides (b ∷ blocks) (suc i) d s p = last_decides blocks i d (sorted_right R (value b) (flat_map value blocks) s) (omega arith)
 
-    -- where a block is below the key, so are entries before it
+    -- if a block is below the key, so are the entries before it
     below_before : (xs : List (K × X)) (blocks : List B) (i : ℕ) (d : B) → IsInOrder R (xs ++ flat_map value blocks) → HaveEntries value blocks → i < length blocks → is_below (get_or blocks i d) ≡ true → is_above_entries R xs k ≡ true
     below_before xs [] i d s full p h = absurd (omega arith)
     below_before xs (b ∷ blocks) i d s full p h =
@@ -327,7 +330,7 @@ module _ {K X : Type 0} {R : K → K → Ordering} (o : IsTotalOrder R) (exact :
     parted_by_last : (blocks : List B) → IsInOrder R (flat_map value blocks) → HaveEntries value blocks → IsPartitionedBy last_below blocks
     parted_by_last blocks s full i j d q p h = last_decides blocks i d s (omega arith) ∙ parted blocks s full i j d q p (sym (last_decides blocks j d s p) ∙ h)
 
-    -- past blocks below the key
+    -- after blocks below the key
     parts_past : (blocks : List B) (last whole : List (K × X)) (i : ℕ) → IsPartAt R k whole (flat_map value blocks ++ last) → AllWithin (λ b. is_below b ≡ true) blocks 0 i → i ≤ length blocks → IsPartAt R k whole (rest_of value blocks last i)
     parts_past blocks last whole zero part below p = part
     parts_past [] last whole (suc i) part below p = absurd (omega arith)
@@ -352,7 +355,7 @@ module _ {K X : Type 0} {R : K → K → Ordering} (o : IsTotalOrder R) (exact :
           part_here value k blocks last place b whole p is past
           (ap is_below is ∙ sym (last_decides blocks place b in_blocks p) ∙ point.1 place b (omega arith) p)
 
-      -- none is left, as all are below it
+      -- no block remains, because all are below the key
       pub part_at_last : length blocks ≤ place → IsPartAt R k whole last
       part_at_last p = subst (IsPartAt R k whole) (rest_last value blocks last place p) past
 
@@ -380,17 +383,17 @@ not_there : (c may : Bool) → (c ≡ true → may ≡ true) → may ≡ false �
 not_there true may f e = absurd (false≢true (sym e ∙ f refl))
 not_there false may f e = refl
 
--- what is not true is false
+-- a negated test is false
 pub not_true : (b : Bool) → not b ≡ true → b ≡ false
 not_true true e = absurd (false≢true e)
 not_true false e = refl
 
 module _ {K S : Type 0} (has : S → Dot → Bool) where
-  -- where no slot is set in both filters, none of the dots has been heard of
+  -- if no slot is set in both filters, the context has none of the dots
   pub apart_unheard : (m : List (K × S)) (slots others : List ℕ) (heard : Dots) → MayHoldAll has slots m → MayHaveAll others heard → AreApart slots others → IsUnheard (has_in has m) heard
   apart_unheard m slots others heard holds all apart x e = not_there (set.contains heard x) (may_have others x) (all x) (apart x (holds x e))
 
-  -- a dot whose slot isn't set isn't held
+  -- a dot whose slot isn't set is in no store
   pub not_held : (m : List (K × S)) (slots : List ℕ) (x : Dot) → MayHoldAll has slots m → may_have slots x ≡ false → has_in has m x ≡ false
   not_held m slots x holds e = not_there (has_in has m x) (may_have slots x) (holds x) e
 
@@ -398,7 +401,7 @@ module _ {K S : Type 0} (has : S → Dot → Bool) where
   pub one_has : (e : K × S) (x : Dot) → has_in has (e ∷ []) x ≡ true → has e.1 x ≡ true
   one_has e x h = elim (or_cases (has e.1 x) false h) [ inl here ↦ here | inr none ↦ absurd (false≢true none) ]
 
-  -- each dot of some entries is put, or one of those that are left
+  -- each dot of the entries is in the filter, or among the remaining ones
   pub record IsFilling (whole left : List (K × S)) (old slots : List ℕ) : Type 0 where
     pub own : (x : Dot) → has_in has whole x ≡ true → (has_in has left x ≡ true) ⊎ (may_have slots x ≡ true)
     pub more : (x : Dot) → may_have old x ≡ true → may_have slots x ≡ true
@@ -406,7 +409,7 @@ module _ {K S : Type 0} (has : S → Dot → Bool) where
   pub filling_start : (whole left : List (K × S)) (slots : List ℕ) → left ≡ whole → IsFilling whole left slots slots
   filling_start whole left slots e = record { own = λ x h. inl (ap (λ m. has_in has m x) e ∙ h); more = λ x h. h }
 
-  -- the dots of the first of those that are left are put too
+  -- the dots of the first of the remaining entries are put into the filter too
   pub filling_more : (whole now part next : List (K × S)) (old slots new : List ℕ) → now ≡ part ++ next → IsFilling whole now old slots → ((x : Dot) → has_in has part x ≡ true → may_have new x ≡ true) → ((x : Dot) → may_have slots x ≡ true → may_have new x ≡ true)
       → IsFilling whole next old new
   filling_more whole now part next old slots new is before own more = record {
@@ -427,7 +430,7 @@ module _ {K S : Type 0} (has : S → Dot → Bool) where
       → (x : Dot) → has_in has whole x ≡ true → may_have new x ≡ true
   filling_last whole last old slots new before own more x h = elim (before.own x h) [ inl left ↦ own x left | inr there ↦ more x there ]
 
--- entries of which nothing has been heard
+-- entries whose dots the context lacks
 module _ {S : Type 0} {is_store : S → Type 0} {has : S → Dot → Bool} {below : S → Dots → S → Dots → Type 0} {join : S → Dots → S → Dots → S} {nothing : S} {is_empty : S → Bool} (laws : IsDotStore is_store has below join nothing is_empty) where
   pub each_unheard : {K : Type 0} (R : K → K → Ordering) (mine block : List (K × S)) (c d : Dots) → IsUnheard (has_in has block) c → AtEachEntry (IsBelowAt R nothing below mine c d) block
   each_unheard R mine block c d u i e p = laws.unheard (store_at nothing (find R (get_or block i e).0 mine)) (get_or block i e).1 c d (λ x h. u x (has_at has block i e x p h))

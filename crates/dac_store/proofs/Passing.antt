@@ -1,5 +1,5 @@
--- Sets that grow by those dots of a list that pass a test, and sets that lose those that another lacks. And the dots
--- of stores in a list.
+-- Sets that gain the dots of a list that pass a test, sets that lose the dots that another lacks, and the dots of
+-- stores in a list.
 use Rattle.std.proofs.Common.{◌≡◌, ℕ, ◌+◌, ◌<◌, ◌≤◌, zero, suc, Bool, true, false, not, ◌&&◌, ◌||◌, inl, inr, List, [], ◌∷◌, ◌++◌, Result, Ok, Err, OnErr, length, get_or, take, refl, sym, ap, subst, ◌∙◌, arith}
 use Rattle.std.specs.Ordering.{eq_by_cmp}
 use Rattle.std.specs.List.{All}
@@ -17,7 +17,7 @@ use Rattle.dac_store.specs.Stores.{IsHeld, IsUnheard}
 use Rattle.dac_store.specs.DotSets.{may_stay}
 use Rattle.dac_store.specs.DotMaps.{has_in}
 
--- e: the dot; h: there before; r: among those so far; b: passes
+-- e: is the dot; h: was there before; r: is among those so far; b: passes
 kept_test : (e h r b : Bool) → (e ≡ true → b ≡ true) → (e || (h || (r && b))) ≡ (h || ((r || e) && b))
 kept_test true true r b f = refl
 kept_test true false true b f = sym (f refl)
@@ -31,7 +31,7 @@ dropped_test true h false b f = ap (λ x. h || x) (sym (f refl))
 dropped_test false h true b f = refl
 dropped_test false h false b f = refl
 
--- a set to which those dots of a list are added that pass a test
+-- the set gained the dots of the list that pass the test
 abbrev pub AddsPassing : (Dot → Bool) → List Dot → Dots → Dots → Type 0
 AddsPassing p ks had now = (q : Dot) → set.contains now q ≡ (set.contains had q || (has_key dot_cmp ks q && p q))
 
@@ -39,7 +39,7 @@ tied_test : (p : Dot → Bool) (k q : Dot) (b : Bool) → p k ≡ b → eq_by_cm
 tied_test p k q b t e = ap p (exact_dots q k ((Equal-is (dot_cmp q k)).0 e)) ∙ t
 
 module _ (p : Dot → Bool) (ks : List Dot) (had now : Dots) where
-  -- one dot more, which passes
+  -- one more dot, which passes
   pub adds_kept : (i : ℕ) (e : Dot) → i < length ks → AddsPassing p (take i ks) had now → p (get_or ks i e) ≡ true → AddsPassing p (take (i + 1) ks) had (set.insert now (get_or ks i e))
   adds_kept i e h so_far t q =
       let k = get_or ks i e in
@@ -48,7 +48,7 @@ module _ (p : Dot → Bool) (ks : List Dot) (had now : Dots) where
       ∙ kept_test (eq_by_cmp dot_cmp q k) (set.contains had q) (has_key dot_cmp (take i ks) q) (p q) (tied_test p k q true t)
       ∙ ap (λ b. set.contains had q || (b && p q)) (sym (list_any_more (eq_by_cmp dot_cmp q) ks i e h))
 
-  -- one dot more, which doesn't
+  -- one more dot, which doesn't pass
   pub adds_dropped : (i : ℕ) (e : Dot) → i < length ks → AddsPassing p (take i ks) had now → p (get_or ks i e) ≡ false → AddsPassing p (take (i + 1) ks) had now
   adds_dropped i e h so_far t q =
       let k = get_or ks i e in
@@ -62,12 +62,12 @@ module _ (p : Dot → Bool) (ks : List Dot) (had now : Dots) where
 
 -- ---- sets that lose dots
 
--- a list with one dot less is the set without it
+-- a list without a dot represents the set with it removed
 pub one_removed : (ks ls : List Dot) (k : Dot) → ((q : Dot) → has_key dot_cmp ls q ≡ (not (eq_by_cmp dot_cmp q k) && has_key dot_cmp ks q)) → set.from_list {R = dot_cmp} ls ≡ set.remove (set.from_list {R = dot_cmp} ks) k
 one_removed ks ls k h = set.same_set dots_total exact_dots _ _ (λ q.
     set.contains-from_list dots_total ls q ∙ h q ∙ ap (λ b. not (eq_by_cmp dot_cmp q k) && b) (sym (set.contains-from_list dots_total ks q)) ∙ sym (set.contains-remove dots_total (set.from_list {R = dot_cmp} ks) k q))
 
--- a set without those dots of a list that another set lacks
+-- the set lost the dots of the list that the other set lacks
 abbrev pub LosesMissing : Dots → List Dot → Dots → Dots → Type 0
 LosesMissing t ks had now = (q : Dot) → set.contains now q ≡ (set.contains had q && (set.contains t q || not (has_key dot_cmp ks q)))
 
@@ -75,7 +75,7 @@ and_none : (h : Bool) → (h && false) ≡ false
 and_none true = refl
 and_none false = refl
 
--- h: there before; t: in the other set; r: among those so far; e: the dot
+-- h: was there before; t: in the other set; r: among those so far; e: is the dot
 lost_test : (e h r t : Bool) → (e ≡ true → t ≡ false) → (not e && (h && (t || not r))) ≡ (h && (t || not (r || e)))
 lost_test true h true t f = sym (ap (λ x. h && (x || false)) (f refl) ∙ and_none h)
 lost_test true h false t f = sym (ap (λ x. h && (x || false)) (f refl) ∙ and_none h)
@@ -88,7 +88,7 @@ left_test false h true t f = refl
 left_test false h false t f = refl
 
 module _ (t : Dots) (ks : List Dot) (had now : Dots) where
-  -- one dot more, which the other set lacks
+  -- one more dot, which the other set lacks
   pub loses_one : (i : ℕ) (e : Dot) → i < length ks → LosesMissing t (take i ks) had now → set.contains t (get_or ks i e) ≡ false → LosesMissing t (take (i + 1) ks) had (set.remove now (get_or ks i e))
   loses_one i e h so_far lacks q =
       let k = get_or ks i e in
@@ -97,7 +97,7 @@ module _ (t : Dots) (ks : List Dot) (had now : Dots) where
       ∙ lost_test (eq_by_cmp dot_cmp q k) (set.contains had q) (has_key dot_cmp (take i ks) q) (set.contains t q) (tied_test (set.contains t) k q false lacks)
       ∙ ap (λ b. set.contains had q && (set.contains t q || not b)) (sym (list_any_more (eq_by_cmp dot_cmp q) ks i e h))
 
-  -- one dot more, which it has
+  -- one more dot, which the other set has
   pub loses_none : (i : ℕ) (e : Dot) → i < length ks → LosesMissing t (take i ks) had now → set.contains t (get_or ks i e) ≡ true → LosesMissing t (take (i + 1) ks) had now
   loses_none i e h so_far has q =
       let k = get_or ks i e in
@@ -117,7 +117,7 @@ fails_so (Err e) p = p
 
 -- ---- stores in a list
 
--- the map holds the dots of each of its stores
+-- the map has the dots of each of its stores
 pub has_at : {K S : Type 0} (has : S → Dot → Bool) (m : List (K × S)) (i : ℕ) (d : K × S) (x : Dot) → i < length m → has (get_or m i d).1 x ≡ true → has_in has m x ≡ true
 has_at has [] i d x p e = absurd (omega arith)
 has_at has (f ∷ m) zero d x p e = or_left (has f.1 x) (has_in has m x) e
@@ -131,7 +131,7 @@ copied_more {K} {S} xs i done new e s h is so_far same pushed =
     ∙ ap (λ (f : K × S). take i xs ++ f ∷ []) (ap (λ (t : S). (e.0, t)) same ∙ is)
     ∙ sym (take_more xs i e h)
 
--- where the dots of each store are in a set, the map's are
+-- if the dots of each store are in a set, so are the map's
 held_each : {K S : Type 0} (has : S → Dot → Bool) (c : Dots) (m : List (K × S)) → All (λ e. IsHeld (has e.1) c) m → IsHeld (has_in has m) c
 held_each has c [] all x e = absurd (false≢true e)
 held_each has c (f ∷ m) all x e = elim (or_cases (has f.1 x) (has_in has m x) e) [
@@ -142,7 +142,7 @@ held_each has c (f ∷ m) all x e = elim (or_cases (has f.1 x) (has_in has m x) 
 pub held_done : {K S : Type 0} (has : S → Dot → Bool) (c : Dots) (m : List (K × S)) (i : ℕ) → length m ≤ i → All (λ e. IsHeld (has e.1) c) (take i m) → IsHeld (has_in has m) c
 held_done has c m i p all = held_each has c m (subst (All (λ e. IsHeld (has e.1) c)) (take_all i m p) all)
 
--- where no dot of a store in a list has been heard of, no dot of the map has
+-- if a context has no dot of any store in the list, it has none of the map
 unheard_each : {K S : Type 0} (has : S → Dot → Bool) (c : Dots) (m : List (K × S)) → All (λ e. IsUnheard (has e.1) c) m → IsUnheard (has_in has m) c
 unheard_each has c [] all x e = absurd (false≢true e)
 unheard_each has c (f ∷ m) all x e = elim (or_cases (has f.1 x) (has_in has m x) e) [

@@ -1,4 +1,4 @@
--- The dots of a set, wherever it keeps them.
+-- The dots of a set, in any representation.
 use Rattle.std.specs.Prelude.{List, [], ◌∷◌}
 use Rattle.dac_origins.specs.declared.dot.Dot.{Dot}
 use Rattle.dac_store.specs.declared.few.FewDots.{FewDots}

@@ -1,4 +1,4 @@
--- The dots of a store with their values, wherever it keeps them.
+-- The entries of a store, in any representation.
 use Rattle.std.specs.Prelude.{List, []}
 use Rattle.std.specs.Arc.{arc_value}
 use Rattle.dac_origins.specs.declared.dot.Dot.{Dot}

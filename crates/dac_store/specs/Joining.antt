@@ -1,4 +1,4 @@
--- A merge of two maps in steps: what is merged so far, and what is left of each.
+-- The merge of two maps in steps: the merged entries so far, and the remaining ones of each.
 use Rattle.std.specs.Prelude.{◌≡◌, Bool, true, false, List, [], ◌∷◌, ◌++◌, Option, None, Some}
 use Rattle.std.specs.declared.cmp.Ordering.{Ordering}
 use Rattle.std.specs.declared.cmp.Ordering.TheVariants.{Less, Equal}
@@ -7,55 +7,55 @@ use Rattle.dac_lattice.specs.Entries.{Combine, merge_entries, merge_entry}
 use Rattle.dac_store.specs.Appending.{is_above_entries}
 use Rattle.dac_store.specs.DotMaps.{store_at, unless_empty}
 
--- what is kept at a key of two maps
+-- the merge of two maps at a key
 abbrev pub joined_at : {K S : Type 0} → S → (S → Bool) → (S → Dots → S → Dots → S) → Dots → Dots → Combine K S
 joined_at nothing is_empty join c d = λ _ v w. unless_empty is_empty (join (store_at nothing v) c (store_at nothing w) d)
 
--- a store stays at its key as it is
+-- the join leaves the store unchanged
 abbrev pub IsLeft : {S : Type 0} → S → (S → Bool) → (S → Dots → S → Dots → S) → Dots → Dots → S → Option S → Type 0
 IsLeft nothing is_empty join c d s w = unless_empty is_empty (join s c (store_at nothing w) d) ≡ Some s
 
--- each entry is a store with dots
+-- each entry's store satisfies its invariant and has dots
 abbrev pub AreKept : {K S : Type 0} → (S → Type 0) → (S → Bool) → List (K × S) → Type 0
 AreKept is_store is_empty [] = Unit {0}
 AreKept is_store is_empty (e ∷ es) = (is_store e.1 × (is_empty e.1 ≡ false)) × AreKept is_store is_empty es
 
 module _ {K X : Type 0} (R : K → K → Ordering) where
-  -- each key is below the first of the others
+  -- each key is below the first one of the other list
   abbrev pub AreBefore : List (K × X) → List (K × X) → Type 0
   AreBefore part [] = Unit {0}
   AreBefore part (y ∷ ys) = is_above_entries R part y.0 ≡ true
 
-  -- the first of these isn't at this key
+  -- the first entry isn't at this key
   abbrev pub IsNotAt : K → List (K × X) → Type 0
   IsNotAt key [] = Unit {0}
   IsNotAt key (y ∷ ys) = R y.0 key ≡ Equal → ⊥
 
-  -- no key of these, which are in order, is below this one
+  -- no entry of the list, which is in order, is below this key
   abbrev pub IsNotBelow : K → List (K × X) → Type 0
   IsNotBelow key [] = Unit {0}
   IsNotBelow key (y ∷ ys) = R y.0 key ≡ Less → ⊥
 
-  -- the first of these is taken if it is at this key
+  -- the first entry is taken if it is at this key
   abbrev pub IsTakenAt : K → List (K × X) → Option X → List (K × X) → Type 0
   IsTakenAt key ys None zs = (zs ≡ ys) × IsNotAt key ys
   IsTakenAt key ys (Some v) zs = (k : K) × (R k key ≡ Equal) × (ys ≡ (k, v) ∷ zs)
 
   module _ (f : Combine K X) where
-    -- all that the second map has below a key is merged
+    -- all entries of the second map below the key are merged
     pub record IsMergedBelow (key : K) (old ys new zs : List (K × X)) : Type 0 where
       pub merged : (x : K × X) (rest : List (K × X) → List (K × X)) → x.0 ≡ key
           → new ++ merge_entry R f x rest zs ≡ old ++ merge_entry R f x rest ys
       pub past : IsNotBelow key zs
 
-    -- an entry is merged
+    -- the entry is merged
     abbrev pub IsMergedWith : K × X → List (K × X) → List (K × X) → List (K × X) → List (K × X) → Type 0
     IsMergedWith x old ys new zs = (rest : List (K × X) → List (K × X)) → new ++ rest zs ≡ old ++ merge_entry R f x rest ys
 
-    -- some entries are merged
+    -- the part's entries are merged
     abbrev pub IsMergedPart : List (K × X) → List (K × X) → List (K × X) → List (K × X) → List (K × X) → Type 0
     IsMergedPart part old ys new zs = (xs : List (K × X)) → new ++ merge_entries R f xs zs ≡ old ++ merge_entries R f (part ++ xs) ys
 
-    -- a merge leaves some entries as they are, and puts none between them
+    -- the merge leaves the part unchanged, and inserts nothing into it
     abbrev pub ArePassed : List (K × X) → List (K × X) → List (K × X) → Type 0
     ArePassed part ys zs = (xs : List (K × X)) → part ++ merge_entries R f xs zs ≡ merge_entries R f (part ++ xs) ys

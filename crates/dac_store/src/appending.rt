@@ -1,11 +1,11 @@
-//! Whether a key may be appended to a list of entries in order.
+//! Whether a key can be appended to a list of entries in key order.
 ghost use Rattle.std.specs.Prelude.{◌≡◌, ◌-◌, drop, length};
 ghost use Rattle.dac_lattice.specs.Search.{IsInOrder};
 ghost use Rattle.dac_store.specs.Appending.{is_above_entries};
 
 use dac_origins::MapKey;
 
-/// Whether the last key, if there is one, is below this one.
+/// Whether the last key, if any, is below this one.
 pub(crate) fn last_is_below<K: MapKey, X>(entries: &[(K, X)], key: K) -> bool
     ensures { result ≡ is_above_entries K.cmp (drop (length entries.now - 1) entries.now) key }
 {

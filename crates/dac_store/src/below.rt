@@ -14,8 +14,8 @@ use dac_dots::{Context, FilteredContext};
 use dac_origins::MapKey;
 use std::cmp::Ordering;
 
-/// Whether what is at a key is surely below the other side's store, whatever was heard of: both are the same.
-fn is_surely_below<S: DotStore>(mine: Option<&S>, theirs: &S) -> bool
+/// Whether both stores are known to be equal, which means that one is below the other with any contexts.
+fn are_known_equal<S: DotStore>(mine: Option<&S>, theirs: &S) -> bool
     ensures { result ≡ true → (c d : Dots)
         → S.below (store_at S.nothing (option_copied mine.entry)) c theirs.now d }
 {
@@ -28,7 +28,8 @@ fn is_surely_below<S: DotStore>(mine: Option<&S>, theirs: &S) -> bool
     }
 }
 
-/// Whether what is at a key is below the other side's store. It is asked where that isn't sure.
+/// Whether the store at a key, or the empty one, is below the other side's store. Called unless both are known to be
+/// equal.
 fn is_below<S: DotStore>(
     mine: Option<&S>,
     heard: &FilteredContext<'_>,
@@ -48,7 +49,7 @@ fn is_below<S: DotStore>(
     }
 }
 
-/// The store at a key, if there is one. Entries below the key are passed.
+/// The store at a key, if any. Skips the entries below the key.
 fn store_from<'a, K: MapKey, S: DotStore>(left: &mut Entries<'a, K, S>, key: K) -> Option<&'a S>
     requires { IsInOrder K.cmp left.old }
     ensures found { option_copied result ≡ find K.cmp key left.old }
@@ -65,8 +66,8 @@ fn store_from<'a, K: MapKey, S: DotStore>(left: &mut Entries<'a, K, S>, key: K) 
     None
 }
 
-/// Whether what is at each key of some entries is below their stores. Entries below these keys are passed, and maybe
-/// some more if it isn't.
+/// Whether, at each key of `part`, the store here is below the one in `part`. Skips the entries below these keys; after
+/// false it can have skipped more.
 pub(crate) fn are_below<K: MapKey, S: DotStore>(
     left: &mut Entries<'_, K, S>,
     heard: &FilteredContext<'_>,
@@ -80,14 +81,14 @@ pub(crate) fn are_below<K: MapKey, S: DotStore>(
     ensures in_order { IsInOrder K.cmp left.new }
     ensures later { result ≡ true → HasLaterKeys K.cmp part.now left.old left.new }
 {
-    // Stores that differ stand together most often. Behind one, a store is first asked whether it is unheard.
+    // Stores that differ are mostly adjacent, so after one the test for unheard dots comes first.
     let mut differed = false;
     for (key, theirs) in part {
         if differed && theirs.is_unheard(heard) {
             continue;
         }
         let mine = store_from(left, *key);
-        let same = is_surely_below(mine, theirs);
+        let same = are_known_equal(mine, theirs);
         differed = !same;
         if same {
             continue;
@@ -99,7 +100,8 @@ pub(crate) fn are_below<K: MapKey, S: DotStore>(
     true
 }
 
-/// The same of a block, which is passed over where surely none of its dots has been heard of.
+/// Whether, at each key of a block, the store here is below the one in the block. Skips the block without a search if
+/// the filters prove all its dots unheard.
 pub(crate) fn block_below<K: MapKey, S: DotStore>(
     left: &mut Entries<'_, K, S>,
     heard: &FilteredContext<'_>,

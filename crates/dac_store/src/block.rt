@@ -12,7 +12,7 @@ use std::alloc::Global;
 use std::marker::Model;
 use std::sync::Arc;
 
-/// Some entries beside a filter of all their dots. A block never changes. Contracts see it as its entries.
+/// An immutable list of entries with a filter of all their dots. Contracts treat it as its entries.
 #[derive(Drop)]
 pub(crate) struct Block<K: MapKey, S: DotStore> {
     filter: DotFilter,
@@ -31,7 +31,7 @@ impl<K: MapKey, S: DotStore> Model for Block<K, S> {
 }
 
 impl<K: MapKey, S: DotStore> Block<K, S> {
-    /// A block of these entries, which keeps no room for more. [`NoMemory`] is the only error.
+    /// A block of these entries, without spare capacity.
     pub(crate) fn of(alloc: Global, mut entries: Vec<(K, S)>) -> Result<Arc<Self, Global>, NoMemory>
         ensures { IfOk result (λ block. arc_value block ≡ entries.items) }
     {
@@ -42,21 +42,21 @@ impl<K: MapKey, S: DotStore> Block<K, S> {
         Ok(block)
     }
 
-    /// The entries.
+    /// The entries without the filter.
     pub(crate) fn entries(&self) -> &[(K, S)]
         ensures { result.now ≡ self.now }
     {
         self.entries.as_slice()
     }
 
-    /// Whether surely none of its dots has been heard of.
+    /// Whether the filters prove that the context contains no dot of the block.
     pub(crate) fn is_apart(&self, heard: &FilteredContext<'_>) -> bool
         ensures { result ≡ true → IsUnheard (has_in S.has self.now) heard.now }
     {
         !self.filter.meets(heard.filter())
     }
 
-    /// Whether none of its dots has been heard of.
+    /// Whether the context contains no dot of the block.
     pub(crate) fn is_unheard(&self, heard: &FilteredContext<'_>) -> bool
         ensures { IsTrue result ↔ IsUnheard (has_in S.has self.now) heard.now }
     {
@@ -66,7 +66,7 @@ impl<K: MapKey, S: DotStore> Block<K, S> {
         are_unheard(&self.entries, heard)
     }
 
-    /// Whether some store holds the dot.
+    /// Whether any store contains the dot.
     pub(crate) fn has(&self, dot: Dot) -> bool
         ensures { result ≡ has_in S.has self.now dot }
     {

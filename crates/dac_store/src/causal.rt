@@ -1,4 +1,4 @@
-//! A store beside its context.
+//! A dot store paired with its causal context.
 ghost use Rattle.std.specs.Prelude.{◌≡◌, ◌↔◌, true, IsTrue, IfOk, IfErr};
 ghost use Rattle.std.specs.FinSet as set;
 ghost use Rattle.dac_origins.specs.Dots.{IsSubset};
@@ -11,13 +11,14 @@ use dac_origins::NoMemory;
 use std::alloc::Global;
 use std::marker::Model;
 
-/// The most dots that a join looks up in the other side's store, to see whether that store stays as it is.
+/// The greatest number of dots that a join looks up in the other side's store, to see whether that store is unchanged.
 const MOST_LOOKED_UP: usize = 16;
 
-/// A store beside the dots that it has heard of, among which are all that it holds. Its order is that of
-/// the contexts and of the stores under them.
+/// A dot store paired with its causal context, which contains all its dots. Ordered by the contexts, and by the stores
+/// given the contexts.
 ///
-/// A join that leaves one side's store as it is copies that store. Values whose contexts are equal may share one.
+/// A join copies one side's store if that is known to stay unchanged, because the other's is empty and has a small
+/// context. Values with equal contexts can share one.
 #[derive(Drop)]
 pub struct Causal<S: DotStore> {
     store: S,
@@ -42,8 +43,7 @@ impl<S: DotStore> Model for Causal<S> {
 }
 
 impl<S: DotStore> Causal<S> {
-    /// The store beside the context. Both are handed back where the store holds a dot that isn't in the
-    /// context. It takes no memory.
+    /// Pairs a store with a context. Fails, and returns both, if the store has a dot that isn't in the context.
     pub fn new(store: S, context: Context) -> Result<Self, (S, Context)>
         ensures ok { IfOk result (λ causal. (causal ≡ record { store = store; context = context })
             × IsHeld (S.has store) context) }
@@ -62,8 +62,8 @@ impl<S: DotStore> Causal<S> {
         }
     }
 
-    /// The store beside a context that others may share. Both are handed back where the store holds a dot that isn't
-    /// in the context. It takes no memory.
+    /// Pairs a store with a context that others can share. Fails, and returns both, if the store has a dot that isn't
+    /// in the context.
     pub fn with_shared(store: S, context: SharedContext) -> Result<Self, (S, SharedContext)>
         ensures ok { IfOk result (λ causal. (causal ≡ record { store = store; context = context })
             × IsHeld (S.has store) context) }
@@ -78,30 +78,29 @@ impl<S: DotStore> Causal<S> {
         }
     }
 
-    /// The store.
+    /// The store without its context.
     pub fn store(&self) -> &S
         ensures { result.now ≡ self.now.store }
     {
         &self.store
     }
 
-    /// The dots that have been heard of.
+    /// The causal context.
     pub fn context(&self) -> &Context
         ensures { result.now ≡ self.now.context }
     {
         self.context.context()
     }
 
-    /// The dots that have been heard of, as others may share them.
+    /// The causal context, in the form that others can share.
     pub fn shared_context(&self) -> &SharedContext
         ensures { result.now ≡ self.now.context }
     {
         &self.context
     }
 
-    /// The join with the other value, where this is the union of their contexts, which the join shares. [`NoMemory`] is
-    /// the only error.
-    pub fn join_beside(&self, other: &Self, union: &SharedContext) -> Result<Self, NoMemory>
+    /// The join with the other value. It shares `union`, the union of both contexts.
+    pub fn join_with_context(&self, other: &Self, union: &SharedContext) -> Result<Self, NoMemory>
         requires { union.now ≡ set.union self.now.context other.now.context }
         ensures { IfOk result (λ joined. joined ≡ join_stored S.join self.now other.now) }
     {
@@ -112,8 +111,8 @@ impl<S: DotStore> Causal<S> {
         Ok(Causal { store, context })
     }
 
-    /// Whether this value is below the other one, where the other has heard of each dot that this one has.
-    pub fn leq_beside(&self, other: &Self) -> bool
+    /// Whether this value is below the other one, if this context is a subset of the other.
+    pub fn leq_with_contexts(&self, other: &Self) -> bool
         requires { IsSubset self.now.context other.now.context }
         ensures { IsTrue result ↔ IsStoredBelow S.below self.now other.now }
     {
@@ -121,7 +120,7 @@ impl<S: DotStore> Causal<S> {
             .leq_in(self.context(), other.store(), other.context())
     }
 
-    /// Whether both have heard of the same dots.
+    /// Whether both contexts are equal.
     fn has_same_context(&self, other: &Self) -> bool
         ensures { IsTrue result ↔ (self.now.context ≡ other.now.context) }
     {
@@ -130,7 +129,8 @@ impl<S: DotStore> Causal<S> {
         mine.is_subset(theirs) && theirs.is_subset(mine)
     }
 
-    /// Whether both stores are equal, where both have heard of the same dots. Equal stores mostly show that at once.
+    /// Whether both stores are equal, if both contexts are. Tries `is_same` first, which mostly suffices for equal
+    /// stores.
     fn has_same_store(&self, other: &Self) -> bool
         requires { self.now.context ≡ other.now.context }
         ensures { IsTrue result ↔ (self.now ≡ other.now) }
@@ -140,10 +140,11 @@ impl<S: DotStore> Causal<S> {
         if self.store.is_same(&other.store) {
             return true;
         }
-        self.leq_beside(other) && other.leq_beside(self)
+        self.leq_with_contexts(other) && other.leq_with_contexts(self)
     }
 
-    /// Whether a join with this side surely leaves the other side's store as it is.
+    /// Whether this side's store is empty and its context is known to contain no dot of the other's store, so that a
+    /// join doesn't change that store.
     fn leaves(&self, other: &Self) -> bool
         ensures nothing { result ≡ true → self.now.store ≡ S.nothing }
         ensures unheard { result ≡ true → IsUnheard (S.has other.now.store) self.now.context }
@@ -164,12 +165,12 @@ impl<S: DotStore> Causal<S> {
         other.store.is_unheard(&filtered)
     }
 
-    /// Whether the other side has heard of many more origins: then its store is the longer one by far, as after a reboot.
-    fn is_far_behind(&self, other: &Self) -> bool {
+    /// Whether the other context has more than twice as many origins: then its store is much longer, as after a reboot.
+    fn is_much_smaller(&self, other: &Self) -> bool {
         self.context().rows() < other.context().rows() / 2
     }
 
-    /// The store of the join. It shares most with the store that joins in the other one, so that is the longer one.
+    /// The store of the join. Joins into the longer store, because the result shares most memory with that one.
     fn join_stores(&self, other: &Self) -> Result<S, NoMemory>
         ensures { IfOk result (λ joined. joined
             ≡ S.join self.now.store self.now.context other.now.store other.now.context) }
@@ -182,7 +183,7 @@ impl<S: DotStore> Causal<S> {
         if self.leaves(other) {
             return other.store.copy();
         }
-        if self.is_far_behind(other) {
+        if self.is_much_smaller(other) {
             return other
                 .store
                 .join_in(other.context(), &self.store, self.context());
@@ -210,12 +211,12 @@ impl<S: DotStore> Lattice for Causal<S> {
 
     fn join(&self, other: &Self) -> Result<Self, NoMemory> {
         let union = self.context.union(&other.context)?;
-        let joined = self.join_beside(other, &union)?;
+        let joined = self.join_with_context(other, &union)?;
         Ok(joined)
     }
 
     fn leq(&self, other: &Self) -> bool {
-        self.context().is_subset(other.context()) && self.leq_beside(other)
+        self.context().is_subset(other.context()) && self.leq_with_contexts(other)
     }
 
     fn equal(&self, other: &Self) -> bool {

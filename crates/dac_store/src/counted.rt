@@ -1,4 +1,4 @@
-//! The entries of a map, which are counted.
+//! The entries of a map, with their number.
 ghost use Rattle.std.specs.Prelude.{◌≡◌, [], ◌∷◌, ◌++◌, length, false, true, IfOk, OnOk, OnErr};
 ghost use Rattle.std.specs.Arc.{arc_value};
 ghost use Rattle.std.specs.List.{flat_map};
@@ -16,7 +16,7 @@ use std::alloc::{AllocError, Global};
 use std::marker::Model;
 use std::sync::Arc;
 
-/// The entries of a map of stores, and how many there are. Contracts see the list of the entries.
+/// The entries of a map of stores, with their number. Contracts treat them as the list of the entries.
 #[derive(Drop)]
 pub(crate) struct Counted<K: MapKey, S: DotStore> {
     count: usize,
@@ -34,7 +34,7 @@ impl<K: MapKey, S: DotStore> Model for Counted<K, S> {
     ghost invariant = { λ a. IsCounted K.cmp S.is_store S.is_empty a.parts a.count };
 }
 
-/// A clone is a copy.
+/// A clone is a copy, which `Arc::make_mut` requires.
 impl<K: MapKey, S: DotStore> Clone for Counted<K, S> {
     ghost use Rattle.std.specs.Prelude.{◌≡◌};
 
@@ -49,7 +49,7 @@ impl<K: MapKey, S: DotStore> Clone for Counted<K, S> {
 }
 
 impl<K: MapKey, S: DotStore> Counted<K, S> {
-    /// No entries. It takes no memory.
+    /// The empty list.
     pub(crate) fn empty(alloc: Global) -> Self
         ensures { result ≡ [] }
     {
@@ -59,7 +59,7 @@ impl<K: MapKey, S: DotStore> Counted<K, S> {
         }
     }
 
-    /// These entries, which are counted. [`NoMemory`] is the only error, where their number doesn't fit.
+    /// Counts these entries. Fails with [`NoMemory`] if their number exceeds `usize`.
     pub(crate) fn of(parts: Parts<K, S>) -> Result<Self, NoMemory>
         requires { IsKeyed K.cmp S.is_store S.is_empty parts }
         ensures { IfOk result (λ counted. counted ≡ parts) }
@@ -70,14 +70,14 @@ impl<K: MapKey, S: DotStore> Counted<K, S> {
         Ok(Counted { count, parts })
     }
 
-    /// The entries are those of a map. This only tells proofs so, and does nothing when it runs.
+    /// States the entries' invariant for proofs; does nothing at run time.
     pub(crate) fn tells_invariant(&self)
         ensures { IsKeyed K.cmp S.is_store S.is_empty self.now }
     {
         let _parts = &self.parts;
     }
 
-    /// The same entries, of which the blocks are shared. [`NoMemory`] is the only error.
+    /// The same entries, which share the blocks.
     fn copy(&self) -> Result<Self, NoMemory>
         ensures { IfOk result (λ copied. copied ≡ self.now) }
     {
@@ -95,7 +95,7 @@ impl<K: MapKey, S: DotStore> Counted<K, S> {
         self.parts.pieces()
     }
 
-    /// How many entries there are.
+    /// The number of entries.
     pub(crate) fn len(&self) -> usize
         ensures { result ≡ length self.now }
     {
@@ -116,15 +116,14 @@ impl<K: MapKey, S: DotStore> Counted<K, S> {
         self.parts.end_below(key)
     }
 
-    /// The store at a key.
+    /// The store at a key, if any.
     pub(crate) fn get(&self, key: K) -> Option<&S>
         ensures { option_copied result ≡ find K.cmp key self.now }
     {
         self.parts.get(key)
     }
 
-    /// Puts an entry at the end, whose key is above all others. Where memory is refused ([`NoMemory`], the only error),
-    /// all stays as it was.
+    /// Appends an entry, whose key is above all others. After [`NoMemory`] nothing has changed.
     pub(crate) fn push(&mut self, key: K, store: S) -> Result<(), NoMemory>
         requires above { is_above_entries K.cmp self.old key ≡ true }
         requires store { S.is_store store }

@@ -1,4 +1,4 @@
-//! Values at dots.
+//! Maps from dots to values of a lattice.
 ghost use Rattle.std.specs.Prelude.{◌≡◌, ◌↔◌, [], ◌∷◌, ◌++◌, IsTrue, IfOk, OnErr, Some, true, if◌then◌else◌};
 ghost use Rattle.std.specs.FinSet as set;
 ghost use Rattle.std.specs.Option.{option_copied};
@@ -17,8 +17,8 @@ use dac_origins::{Dot, NoMemory};
 use std::alloc::Global;
 use std::marker::Model;
 
-/// A value of a lattice at each of some dots. A single one takes no memory. Contracts see it as the list of the dots
-/// with their values, in the order of the dots.
+/// A map from dots to values of a lattice. A single entry needs no allocation. Contracts treat it as the list of its
+/// entries in the order of dots.
 #[derive(Drop)]
 pub struct DotFun<V: Lattice> {
     alloc: Global,
@@ -40,7 +40,7 @@ impl<V: Lattice> Model for DotFun<V> {
 }
 
 impl<V: Lattice> DotFun<V> {
-    /// The store that holds one dot, with this value. [`NoMemory`] is the only error.
+    /// The store with one dot and its value.
     pub fn one(alloc: Global, dot: Dot, value: V) -> Result<Self, NoMemory>
         ensures { IfOk result (λ store. store ≡ (dot, value) ∷ []) }
     {
@@ -49,8 +49,8 @@ impl<V: Lattice> DotFun<V> {
         Ok(store)
     }
 
-    /// Appends a dot with its value, if it is above each dot of the store, and says whether it was. Where
-    /// it wasn't, and where memory is refused ([`NoMemory`], the only error), the store stays as it was.
+    /// Appends a dot with its value if it is above each dot of the store, and returns whether it was. Otherwise, and
+    /// after [`NoMemory`], the store is unchanged.
     pub fn push(&mut self, dot: Dot, value: V) -> Result<bool, NoMemory>
         ensures ok { IfOk result (λ pushed. pushed ≡ is_above_entries dot_cmp self.old dot) }
         ensures new { IfOk result
@@ -66,22 +66,22 @@ impl<V: Lattice> DotFun<V> {
         Ok(true)
     }
 
-    /// The value at a dot, if the store holds it. It takes no memory.
+    /// The value at a dot, if the store has it.
     pub fn get(&self, dot: Dot) -> Option<&V>
         ensures { option_copied result ≡ find dot_cmp dot self.now }
     {
         value_at(self.few.as_slice(), dot)
     }
 
-    /// The dots with their values, in the order of the dots. It takes no memory.
+    /// The dots with their values, in the order of dots.
     pub fn entries(&self) -> &[(Dot, V)]
         ensures { result.now ≡ self.now }
     {
         self.few.as_slice()
     }
 
-    /// Whether the other side may hold this value at a dot. This side hasn't heard of the dot, or holds it with a
-    /// value that isn't above.
+    /// Whether the other side's value at a dot is allowed by the order: `heard` lacks the dot, or this side has it with
+    /// a value that isn't greater.
     fn lets_stand(&self, heard: &Context, dot: Dot, theirs: &V) -> bool
         ensures { IsTrue result
             ↔ (set.contains heard.now dot ≡ true
@@ -97,8 +97,8 @@ impl<V: Lattice> DotFun<V> {
     }
 }
 
-/// Keeps the value of a dot that one side alone holds where the other hasn't heard of it. Joins two values at one
-/// dot.
+/// Keeps the value of a dot that only one side has if the other's context lacks the dot, and joins the values of a dot
+/// that both have.
 #[derive(Clone, Copy)]
 struct JoinHeard<'a> {
     mine: &'a Context,

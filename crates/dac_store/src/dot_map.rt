@@ -1,4 +1,4 @@
-//! Stores at keys.
+//! Maps from keys to dot stores.
 ghost use Rattle.std.specs.Prelude.{◌≡◌, ◌&&◌, [], ◌∷◌, ◌++◌, length, not, false, true, IfOk, OnOk, OnErr, if◌then◌else◌};
 ghost use Rattle.std.specs.Arc.{arc_value};
 ghost use Rattle.std.specs.List.{flat_map};
@@ -21,14 +21,14 @@ use std::alloc::Global;
 use std::marker::Model;
 use std::sync::Arc;
 
-/// A store at each of some keys. A key without dots isn't kept, so equal maps are equal values. Contracts
-/// see it as the list of the keys with their stores, in the order of the keys.
+/// A map from keys to dot stores. A key without dots is absent, so equal maps are equal values. Contracts treat it as
+/// the list of its entries in key order.
 ///
-/// The entries stand in blocks, which never change, and the last ones in a list behind them. A join shares the blocks of its
-/// own side that it surely leaves as they are.
+/// The entries are stored in immutable blocks, and the last ones in a list after them. A join shares the blocks of its
+/// own side that it is known to leave unchanged.
 ///
-/// Copies share all entries, so a copy costs as much as a pointer. Appending to entries that another map has too first
-/// copies those that stand in no block. An empty map takes no memory.
+/// Copies share all entries, so a copy only increments a reference count. Appending to shared entries first copies
+/// those in no block. An empty map needs no allocation.
 #[derive(Drop)]
 pub struct DotMap<K: MapKey, S: DotStore> {
     alloc: Global,
@@ -45,8 +45,7 @@ impl<K: MapKey, S: DotStore> Model for DotMap<K, S> {
 }
 
 impl<K: MapKey, S: DotStore> DotMap<K, S> {
-    /// The map that has this store at this key, and no other key. It is empty where the store holds no
-    /// dots. [`NoMemory`] is the only error.
+    /// The map with one entry, or the empty map if the store has no dots.
     pub fn one(alloc: Global, key: K, store: S) -> Result<Self, NoMemory>
         ensures { IfOk result (λ map. map ≡ (if S.is_empty store then [] else (key, store) ∷ [])) }
     {
@@ -55,9 +54,8 @@ impl<K: MapKey, S: DotStore> DotMap<K, S> {
         Ok(map)
     }
 
-    /// Appends a key with its store, if the key is above each key of the map and the store holds dots. Says whether
-    /// that was so. Where it wasn't, and where memory is refused ([`NoMemory`], the only error), the map stays as it
-    /// was.
+    /// Appends a key with its store if the key is above each key of the map and the store has dots, and returns whether
+    /// that was so. Otherwise, and after [`NoMemory`], the map is unchanged.
     pub fn push(&mut self, key: K, store: S) -> Result<bool, NoMemory>
         ensures ok { IfOk result
             (λ pushed. pushed ≡ (is_above_entries K.cmp self.old key && not (S.is_empty store))) }
@@ -85,8 +83,7 @@ impl<K: MapKey, S: DotStore> DotMap<K, S> {
         }
     }
 
-    /// Puts an entry at the end, whose key is above all others. Where memory is refused ([`NoMemory`], the only error),
-    /// the map stays as it was.
+    /// Appends an entry, whose key is above all others. After [`NoMemory`] the map is unchanged.
     fn append(&mut self, key: K, store: S) -> Result<(), NoMemory>
         requires above { is_above_entries K.cmp self.old key ≡ true }
         requires store { S.is_store store }
@@ -101,7 +98,7 @@ impl<K: MapKey, S: DotStore> DotMap<K, S> {
         Ok(())
     }
 
-    /// The map of these entries. [`NoMemory`] is the only error.
+    /// The map of these entries.
     fn of(parts: Parts<K, S>) -> Result<Self, NoMemory>
         requires { IsKeyed K.cmp S.is_store S.is_empty parts }
         ensures { IfOk result (λ map. map ≡ parts) }
@@ -128,7 +125,7 @@ impl<K: MapKey, S: DotStore> DotMap<K, S> {
         }
     }
 
-    /// The store at a key, if it holds dots. It takes no memory.
+    /// The store at a key, if any; it has dots.
     pub fn get(&self, key: K) -> Option<&S>
         ensures { option_copied result ≡ find K.cmp key self.now }
     {
@@ -138,7 +135,7 @@ impl<K: MapKey, S: DotStore> DotMap<K, S> {
         }
     }
 
-    /// The keys with their stores, in the order of the keys, for a reader. It takes no memory.
+    /// An iterator over the entries, in key order.
     pub fn entries(&self) -> Entries<'_, K, S>
         ensures { result ≡ self.now }
     {
@@ -146,7 +143,7 @@ impl<K: MapKey, S: DotStore> DotMap<K, S> {
         Entries::of(blocks, last)
     }
 
-    /// How many keys there are.
+    /// The number of keys.
     pub fn len(&self) -> usize
         ensures { result ≡ length self.now }
     {
@@ -157,7 +154,7 @@ impl<K: MapKey, S: DotStore> DotMap<K, S> {
     }
 }
 
-/// One entry, whose store holds dots.
+/// The single entry, whose store must have dots.
 fn first_entry<K: MapKey, S: DotStore>(
     alloc: Global,
     key: K,

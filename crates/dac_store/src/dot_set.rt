@@ -1,4 +1,4 @@
-//! Sets of dots.
+//! Sets of dots as a dot store.
 ghost use Rattle.std.specs.Prelude.{◌≡◌, ◌↔◌, ◌||◌, ◌&&◌, IfOk, OnErr, OnOk, true, if◌then◌else◌};
 ghost use Rattle.std.specs.FinSet as set;
 ghost use Rattle.dac_origins.specs.InOrder.{in_order};
@@ -13,12 +13,11 @@ use dac_origins::{Dot, NoMemory};
 use std::alloc::Global;
 use std::marker::Model;
 
-/// A side knows few dots where the other side's set has this many times as many.
-///
-/// Each dot that is dropped moves those after it, so the number is higher than one look at a dot would ask.
-const FEW_BESIDE: usize = 32;
+/// A context is small if the other side's set has this many times as many dots. The factor is high because each removal
+/// moves all later dots.
+const SMALL_CONTEXT_FACTOR: usize = 32;
 
-/// A set of dots, kept as one sorted list. A single dot takes no memory. Contracts see it as a finite set.
+/// A set of dots, stored as a sorted list. A single dot needs no allocation. Contracts treat it as a finite set.
 #[derive(Drop)]
 pub struct DotSet {
     alloc: Global,
@@ -41,7 +40,7 @@ impl Model for DotSet {
 }
 
 impl DotSet {
-    /// The set of one dot. It takes no memory today, and answers as the other stores do.
+    /// The set of one dot. Allocates nothing at present; it returns a `Result` as the other stores do.
     pub fn one(alloc: Global, dot: Dot) -> Result<Self, NoMemory>
         ensures { IfOk result (λ one. one ≡ set.insert set.empty dot) }
     {
@@ -49,15 +48,15 @@ impl DotSet {
         Ok(DotSet { alloc, few })
     }
 
-    /// The dots in rising order, each once. It takes no memory.
+    /// The dots in ascending order, each once.
     pub fn dots(&self) -> &[Dot]
         ensures { result.now ≡ in_order self.now }
     {
         self.few.as_slice()
     }
 
-    /// Appends a dot, if it is above each dot of the set, and says whether it was. Where it wasn't, and
-    /// where memory is refused ([`NoMemory`], the only error), the set stays as it was.
+    /// Appends a dot if it is above each dot of the set, and returns whether it was. Otherwise, and after [`NoMemory`],
+    /// the set is unchanged.
     pub fn push(&mut self, dot: Dot) -> Result<bool, NoMemory>
         ensures ok { IfOk result (λ pushed. pushed ≡ is_above_dots self.old dot) }
         ensures new { IfOk result
@@ -72,7 +71,7 @@ impl DotSet {
         Ok(true)
     }
 
-    /// No dots, with room for so many.
+    /// The empty set, with room for `most` dots.
     fn with_room(alloc: Global, most: usize) -> Result<Self, NoMemory>
         ensures { IfOk result (λ made. made ≡ set.empty) }
     {
@@ -80,7 +79,7 @@ impl DotSet {
         Ok(DotSet { alloc, few })
     }
 
-    /// An equal set, with room for so many dots more.
+    /// An equal set, with room for `more` further dots.
     fn copy_with_room(&self, more: usize) -> Result<Self, NoMemory>
         ensures { IfOk result (λ copied. copied ≡ self.now) }
     {
@@ -99,7 +98,7 @@ impl DotSet {
         }
     }
 
-    /// Puts a dot into the set. Where memory is refused the set stays as it was.
+    /// Inserts a dot. After [`NoMemory`] the set is unchanged.
     fn insert(&mut self, dot: Dot) -> Result<(), NoMemory>
         ensures ok { OnOk result (self.new ≡ set.insert self.old dot) }
         ensures err { OnErr result (self.new ≡ self.old) }
@@ -108,22 +107,27 @@ impl DotSet {
         Ok(())
     }
 
-    /// Takes a dot out of the set, if it is there.
+    /// Removes a dot, if it is there.
     fn remove(&mut self, dot: Dot)
         ensures { self.new ≡ set.remove self.old dot }
     {
         self.few.remove(dot);
     }
 
-    /// Whether a dot may stay beside these: it is one of them, or this side hasn't heard of it.
+    /// Whether the other side's dot stays in a join: this set has it, or `heard` lacks it.
     fn lets_stay(&self, heard: &Context, dot: Dot) -> bool
         ensures { result ≡ may_stay self.now heard.now dot }
     {
         self.has(dot) || !heard.contains(dot)
     }
 
-    /// Adds the dots of `from` that may stay beside those of another side.
-    fn add_staying(&mut self, from: &Self, beside: &Self, heard: &Context) -> Result<(), NoMemory>
+    /// Inserts the dots of `from` that stay in a join with the set `beside` and its context.
+    fn insert_surviving(
+        &mut self,
+        from: &Self,
+        beside: &Self,
+        heard: &Context,
+    ) -> Result<(), NoMemory>
         ensures { OnOk result ((q : _)
             → set.contains self.new q
             ≡ (set.contains self.old q
@@ -137,8 +141,8 @@ impl DotSet {
         Ok(())
     }
 
-    /// Takes out the dots that another side has heard of and doesn't hold.
-    fn drop_missing(&mut self, beside: &Self, heard: &Context) -> Result<(), NoMemory>
+    /// Removes the dots that the context of another side has and its set lacks.
+    fn remove_replaced(&mut self, beside: &Self, heard: &Context) -> Result<(), NoMemory>
         ensures { OnOk result ((q : _)
             → set.contains self.new q
             ≡ (set.contains self.old q && may_stay beside.now heard.now q)) }
@@ -152,18 +156,18 @@ impl DotSet {
         Ok(())
     }
 
-    /// The join with a side that knows few dots: these dots but those that it dropped, and its own.
+    /// The join with a side whose context is small: removes the dots that it removed, and adds its own.
     fn join_few(&self, heard: &Context, few: &Self, few_heard: &Context) -> Result<Self, NoMemory>
         ensures { IfOk result
             (λ joined. joined ≡ join_sets self.now heard.now few.now few_heard.now) }
     {
         let mut joined = self.copy_with_room(few.dots().len())?;
-        joined.drop_missing(few, few_heard)?;
-        joined.add_staying(few, self, heard)?;
+        joined.remove_replaced(few, few_heard)?;
+        joined.insert_surviving(few, self, heard)?;
         Ok(joined)
     }
 
-    /// The join that looks at each dot of both sides.
+    /// The join that examines each dot of both sides.
     fn join_each(
         &self,
         heard: &Context,
@@ -175,8 +179,8 @@ impl DotSet {
     {
         let most = self.dots().len().max(other.dots().len());
         let mut joined = DotSet::with_room(self.alloc, most)?;
-        joined.add_staying(self, other, other_heard)?;
-        joined.add_staying(other, self, heard)?;
+        joined.insert_surviving(self, other, other_heard)?;
+        joined.insert_surviving(other, self, heard)?;
         Ok(joined)
     }
 }
@@ -224,14 +228,14 @@ impl DotStore for DotSet {
         other: &Self,
         other_heard: &Context,
     ) -> Result<Self, NoMemory> {
-        // Most joins bring dots that both sides have.
+        // Mostly both sides have the same dots.
         if self.is_same(other) {
             return self.copy();
         }
-        if other_heard.has_at_most(self.dots().len() / FEW_BESIDE) {
+        if other_heard.has_at_most(self.dots().len() / SMALL_CONTEXT_FACTOR) {
             return self.join_few(heard, other, other_heard);
         }
-        if heard.has_at_most(other.dots().len() / FEW_BESIDE) {
+        if heard.has_at_most(other.dots().len() / SMALL_CONTEXT_FACTOR) {
             return other.join_few(other_heard, self, heard);
         }
         self.join_each(heard, other, other_heard)

@@ -1,4 +1,4 @@
-//! Entries of a map that are read one after the other.
+//! An iterator over the entries of a map.
 ghost use Rattle.std.specs.Prelude.{◌≡◌, [], ◌∷◌, ◌++◌, drop, MatchOption};
 ghost use Rattle.std.specs.Arc.{arc_value};
 ghost use Rattle.std.specs.List.{flat_map};
@@ -10,8 +10,7 @@ use std::alloc::Global;
 use std::marker::Model;
 use std::sync::Arc;
 
-/// The keys of a map with their stores, in the order of the keys, as far as they are left to a reader. Contracts see
-/// the list of those that are left. To read them takes no memory.
+/// An iterator over the entries of a map, in key order. Contracts treat it as the list of the remaining entries.
 #[derive(Drop)]
 pub struct Entries<'a, K: MapKey, S: DotStore> {
     here: &'a [(K, S)],
@@ -32,7 +31,7 @@ impl<'a, K: MapKey, S: DotStore> Model for Entries<'a, K, S> {
 }
 
 impl<'a, K: MapKey, S: DotStore> Entries<'a, K, S> {
-    /// The entries of these blocks, and those after them.
+    /// The entries of these blocks, followed by those of a list.
     pub(crate) fn of(blocks: &'a [Arc<Block<K, S>, Global>], last: &'a [(K, S)]) -> Self
         ensures { result ≡ flat_map arc_value blocks.now ++ last.now }
     {
@@ -55,7 +54,7 @@ impl<'a, K: MapKey, S: DotStore> Entries<'a, K, S> {
         }
     }
 
-    /// A reader of the same entries.
+    /// Another iterator over the same remaining entries.
     pub(crate) fn again(&self) -> Self
         ensures { result ≡ self.now }
     {
@@ -66,7 +65,12 @@ impl<'a, K: MapKey, S: DotStore> Entries<'a, K, S> {
         }
     }
 
-    /// The next entry, if one is left.
+    /// The number of entries in one slice from the next one on, a hint for reserving room.
+    pub(crate) fn at_hand(&self) -> usize {
+        self.here.len()
+    }
+
+    /// The next entry, if any, without advancing.
     pub fn first(&self) -> Option<&'a (K, S)>
         ensures { MatchOption result (self.now ≡ [])
             (λ entry. self.now ≡ entry.now ∷ drop 1 self.now) }
@@ -74,7 +78,7 @@ impl<'a, K: MapKey, S: DotStore> Entries<'a, K, S> {
         self.here.first()
     }
 
-    /// Passes the next entry, if one is left.
+    /// Skips the next entry, if any.
     pub fn pass(&mut self)
         ensures { self.new ≡ drop 1 self.old }
     {
@@ -85,7 +89,7 @@ impl<'a, K: MapKey, S: DotStore> Entries<'a, K, S> {
         *self = Self::of(self.blocks, self.last);
     }
 
-    /// The next entry, which is passed, if one is left.
+    /// Returns the next entry, if any, and advances.
     pub fn next(&mut self) -> Option<&'a (K, S)>
         ensures { MatchOption result ((self.old ≡ []) × (self.new ≡ []))
             (λ entry. self.old ≡ entry.now ∷ self.new) }

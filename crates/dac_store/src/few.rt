@@ -1,4 +1,4 @@
-//! Few dots, with little memory.
+//! Lists of dots, which are mostly single.
 ghost use Rattle.std.specs.Prelude.{◌≡◌, ◌||◌, ◌&&◌, [], ◌∷◌, IfOk, OnErr, OnOk, not, true};
 ghost use Rattle.std.specs.Ordering.{eq_by_cmp};
 ghost use Rattle.dac_origins.specs.Dots.{dot_cmp};
@@ -11,19 +11,19 @@ use std::alloc::Global;
 use std::cmp::Ordering;
 use std::slice::from_ref;
 
-/// The dots of a set in rising order. A single one takes no memory.
+/// The dots of a set in ascending order. A single one needs no allocation.
 #[derive(Drop)]
 pub(crate) enum FewDots {
     /// No dots.
     Empty,
-    /// A single dot.
+    /// A single dot, stored inline.
     One(Dot),
     /// A list of dots.
     Sorted(Vec<Dot>),
 }
 
 impl FewDots {
-    /// No dots, with room for so many.
+    /// The empty list, with room for `most` dots.
     pub(crate) fn with_room(alloc: Global, most: usize) -> Result<Self, NoMemory>
         ensures { IfOk result (λ made. dots_of made ≡ []) }
     {
@@ -34,7 +34,7 @@ impl FewDots {
         Ok(FewDots::Sorted(dots))
     }
 
-    /// The dots in rising order. It takes no memory.
+    /// The dots in ascending order.
     pub(crate) fn as_slice(&self) -> &[Dot]
         ensures { result.now ≡ dots_of self.now }
     {
@@ -56,7 +56,7 @@ impl FewDots {
         }
     }
 
-    /// Equal dots.
+    /// A list of equal dots.
     pub(crate) fn copy(&self, alloc: Global) -> Result<Self, NoMemory>
         ensures { IfOk result (λ copied. dots_of copied ≡ dots_of self.now) }
     {
@@ -70,7 +70,7 @@ impl FewDots {
         }
     }
 
-    /// Equal dots, with room for so many more.
+    /// A list of equal dots, with room for `more` further ones.
     pub(crate) fn copy_with_room(&self, alloc: Global, more: usize) -> Result<Self, NoMemory>
         ensures { IfOk result (λ copied. dots_of copied ≡ dots_of self.now) }
     {
@@ -83,7 +83,7 @@ impl FewDots {
         Ok(FewDots::Sorted(copied))
     }
 
-    /// Puts a dot in its place, unless it is there. Where memory is refused the dots stay as they were.
+    /// Inserts a dot, unless it is there. After [`NoMemory`] the dots are unchanged.
     pub(crate) fn insert(&mut self, alloc: Global, dot: Dot) -> Result<(), NoMemory>
         requires { IsRising dot_cmp (dots_of self.old) }
         ensures rising { IsRising dot_cmp (dots_of self.new) }
@@ -100,7 +100,7 @@ impl FewDots {
         Ok(())
     }
 
-    /// Takes a dot out, if it is there. It takes no memory.
+    /// Removes a dot, if it is there.
     pub(crate) fn remove(&mut self, dot: Dot)
         requires { IsRising dot_cmp (dots_of self.old) }
         ensures rising { IsRising dot_cmp (dots_of self.new) }
@@ -121,7 +121,7 @@ impl FewDots {
     }
 }
 
-/// A dot beside a single one, which takes memory only where it is another.
+/// A single dot and another one; allocates only if they differ.
 fn one_or_two(alloc: Global, single: Dot, dot: Dot) -> Result<FewDots, NoMemory>
     ensures rising { IfOk result (λ both. IsRising dot_cmp (dots_of both)) }
     ensures ok { IfOk result (λ both. (q : _)

@@ -1,4 +1,4 @@
-//! Few values at dots, with little memory.
+//! Lists of dots with values, which are mostly single.
 ghost use Rattle.std.specs.Prelude.{◌≡◌, ◌++◌, [], ◌∷◌, IfOk, OnOk, OnErr};
 ghost use Rattle.std.specs.Arc.{arc_value};
 ghost use Rattle.std.specs.Option.{option_copied, option_to_list};
@@ -14,7 +14,7 @@ use std::cmp::Ordering;
 use std::marker::Model;
 use std::sync::Arc;
 
-/// Dots with their values, which stores may share. Contracts see the list of them.
+/// Dots with their values, which stores can share. Contracts treat them as a list.
 #[derive(Drop)]
 pub(crate) struct DotEntries<V: Lattice> {
     entries: Vec<(Dot, V)>,
@@ -29,7 +29,7 @@ impl<V: Lattice> Model for DotEntries<V> {
     ghost view = { λ a. a.entries.items };
 }
 
-/// A clone is a copy, with memory of its own.
+/// A clone is a copy, which `Arc::make_mut` requires; it shares nothing.
 impl<V: Lattice> Clone for DotEntries<V> {
     ghost use Rattle.std.specs.Prelude.{◌≡◌};
 
@@ -44,7 +44,7 @@ impl<V: Lattice> Clone for DotEntries<V> {
 }
 
 impl<V: Lattice> DotEntries<V> {
-    /// This list, which others may share.
+    /// Moves a list into shared memory.
     fn shared(alloc: Global, entries: Vec<(Dot, V)>) -> Result<Arc<Self, Global>, NoMemory>
         ensures { IfOk result (λ shared. arc_value shared ≡ entries.items) }
     {
@@ -59,7 +59,7 @@ impl<V: Lattice> DotEntries<V> {
         self.entries.as_slice()
     }
 
-    /// Puts a dot with its value at the end. Where memory is refused the list stays as it was.
+    /// Appends a dot with its value. After [`NoMemory`] the list is unchanged.
     fn push(&mut self, dot: Dot, value: V) -> Result<(), NoMemory>
         ensures ok { OnOk result (self.new ≡ self.old ++ (dot, value) ∷ []) }
         ensures err { OnErr result (self.new ≡ self.old) }
@@ -69,20 +69,20 @@ impl<V: Lattice> DotEntries<V> {
     }
 }
 
-/// The dots of a store with their values, in the order of the dots. A single one takes no memory, and copies share a list
-/// of several.
+/// The dots of a store with their values, in the order of dots. A single one needs no allocation, and copies share a
+/// list of several.
 #[derive(Drop)]
 pub(crate) enum FewEntries<V: Lattice> {
     /// No dots.
     Empty,
-    /// A single dot with its value.
+    /// A single dot with its value, stored inline.
     One([(Dot, V); 1]),
     /// A list of dots with their values.
     Sorted(Arc<DotEntries<V>, Global>),
 }
 
 impl<V: Lattice> FewEntries<V> {
-    /// The dots with their values, in order. It takes no memory.
+    /// The dots with their values, in order.
     pub(crate) fn as_slice(&self) -> &[(Dot, V)]
         ensures { result.now ≡ entries_of self.now }
     {
@@ -110,7 +110,7 @@ impl<V: Lattice> FewEntries<V> {
         }
     }
 
-    /// Puts a dot with its value at the end. Where memory is refused the entries stay as they were.
+    /// Appends a dot with its value. After [`NoMemory`] the entries are unchanged.
     pub(crate) fn push(&mut self, alloc: Global, dot: Dot, value: V) -> Result<(), NoMemory>
         ensures ok { OnOk result (entries_of self.new ≡ entries_of self.old ++ (dot, value) ∷ []) }
         ensures err { OnErr result (entries_of self.new ≡ entries_of self.old) }
@@ -124,7 +124,7 @@ impl<V: Lattice> FewEntries<V> {
     }
 }
 
-/// Equal to a single entry, with another one behind it.
+/// A copy of a single entry, with another one after it.
 fn two<V: Lattice>(
     alloc: Global,
     single: &[(Dot, V); 1],
@@ -142,7 +142,7 @@ fn two<V: Lattice>(
     Ok(FewEntries::Sorted(shared))
 }
 
-/// Equal values at the dots of a list.
+/// Copies of the values at the dots of a list.
 fn copy_each<V: Lattice>(alloc: Global, entries: &[(Dot, V)]) -> Result<Vec<(Dot, V)>, NoMemory>
     ensures { IfOk result (λ copied. copied.items ≡ entries.now) }
 {
@@ -153,8 +153,7 @@ fn copy_each<V: Lattice>(alloc: Global, entries: &[(Dot, V)]) -> Result<Vec<(Dot
     Ok(copied)
 }
 
-/// The entries of both lists as `how` combines them. Where each has at most one, it takes memory only for two that
-/// are kept.
+/// Merges both lists with `how`. If each has at most one entry, it allocates only for a result of two.
 pub(crate) fn merge_few<V: Lattice, C: Combine<Dot, V>>(
     alloc: Global,
     how: &C,
@@ -172,7 +171,7 @@ pub(crate) fn merge_few<V: Lattice, C: Combine<Dot, V>>(
     Ok(FewEntries::Sorted(shared))
 }
 
-/// At most one entry of each side, as `how` combines them.
+/// Merges at most one entry of each side.
 fn merge_singles<V: Lattice, C: Combine<Dot, V>>(
     alloc: Global,
     how: &C,
@@ -191,7 +190,7 @@ fn merge_singles<V: Lattice, C: Combine<Dot, V>>(
     }
 }
 
-/// One entry of each side, as `how` combines them.
+/// Merges one entry of each side.
 fn merge_pair<V: Lattice, C: Combine<Dot, V>>(
     alloc: Global,
     how: &C,
@@ -210,7 +209,7 @@ fn merge_pair<V: Lattice, C: Combine<Dot, V>>(
     }
 }
 
-/// What is kept at one dot.
+/// The merged value at one dot, if any.
 fn keep_one<V: Lattice>(dot: Dot, value: Option<V>) -> FewEntries<V>
     ensures { entries_of result ≡ keep dot value [] }
 {
@@ -220,7 +219,7 @@ fn keep_one<V: Lattice>(dot: Dot, value: Option<V>) -> FewEntries<V>
     }
 }
 
-/// What is kept at two dots, of which the lower one comes first.
+/// The merged values at two dots, the lower one first.
 fn keep_both<V: Lattice>(
     alloc: Global,
     lower: Dot,

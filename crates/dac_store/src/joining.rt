@@ -1,4 +1,4 @@
-//! The join of two maps, which shares the blocks that it leaves as they are.
+//! The join of two maps, which shares the blocks that it leaves unchanged.
 ghost use Rattle.std.specs.Prelude.{◌≡◌, ◌++◌, [], Some, true, IfOk, IfSome, OnOk};
 ghost use Rattle.std.specs.Arc.{arc_value};
 ghost use Rattle.std.specs.List.{flat_map};
@@ -20,14 +20,14 @@ use dac_origins::{MapKey, NoMemory};
 use std::alloc::Global;
 use std::sync::Arc;
 
-/// The store, unless it holds no dots.
+/// The store, or `None` if it has no dots.
 fn unless_empty<S: DotStore>(store: S) -> Option<S>
     ensures { result ≡ unless_empty S.is_empty store }
 {
     if store.is_empty() { None } else { Some(store) }
 }
 
-/// Joins the two stores of each key beside what each side has heard of, and drops a key without dots.
+/// Joins the two stores of each key with the contexts of both sides, and drops a key without dots.
 #[derive(Clone, Copy)]
 pub(crate) struct JoinStores<'a> {
     pub(crate) alloc: Global,
@@ -42,10 +42,6 @@ impl<K: MapKey, S: DotStore> Combine<K, S> for JoinStores<'_> {
         (S.join (store_at S.nothing v) h.mine.now (store_at S.nothing w) h.theirs.now) };
 
     fn left(&self, _key: K, mine: &S) -> Result<Option<S>, NoMemory> {
-        if mine.is_unheard(self.theirs) {
-            mine.tells_invariant();
-            return Ok(unless_empty(mine.copy()?));
-        }
         Ok(unless_empty(mine.join_in(
             self.mine.context(),
             &S::empty(self.alloc),
@@ -70,7 +66,7 @@ impl<K: MapKey, S: DotStore> Combine<K, S> for JoinStores<'_> {
     }
 }
 
-/// Puts an entry at the end, if there is a store.
+/// Appends an entry, if there is a store.
 fn put_kept<K: MapKey, S: DotStore>(
     built: &mut Parts<K, S>,
     key: K,
@@ -87,7 +83,7 @@ fn put_kept<K: MapKey, S: DotStore>(
     }
 }
 
-/// Puts the other side's next entries at the end whose keys are below this one.
+/// Merges the other side's next entries below a key, and appends the results.
 fn put_below<K: MapKey, S: DotStore, C: Combine<K, S>>(
     how: &C,
     built: &mut Parts<K, S>,
@@ -107,7 +103,7 @@ fn put_below<K: MapKey, S: DotStore, C: Combine<K, S>>(
     Ok(())
 }
 
-/// Puts all entries that the other side has left at the end.
+/// Merges all remaining entries of the other side, and appends the results.
 fn put_rest<K: MapKey, S: DotStore, C: Combine<K, S>>(
     how: &C,
     built: &mut Parts<K, S>,
@@ -137,7 +133,7 @@ fn take_at<'a, K: MapKey, S: DotStore>(theirs: &mut Entries<'a, K, S>, key: K) -
     Some(store)
 }
 
-/// What is kept at a key of the first map, by what the second one has there.
+/// The merged store at a key of the first map, if any.
 fn kept_at<K: MapKey, S: DotStore, C: Combine<K, S>>(
     how: &C,
     key: K,
@@ -159,36 +155,57 @@ fn kept_at<K: MapKey, S: DotStore, C: Combine<K, S>>(
     }
 }
 
-/// Puts what an entry makes with the other side's at the end, which is taken if it is at the same key. None is left there
-/// below it.
-fn put_entry<K: MapKey, S: DotStore, C: Combine<K, S>>(
-    how: &C,
+/// Whether the join is known to leave a store unchanged, given the other side's store at its key, if any.
+fn surely_stays<S: DotStore>(how: &JoinStores<'_>, mine: &S, theirs: Option<&S>) -> bool
+    ensures { result ≡ true → IsLeft S.nothing S.is_empty S.join how.now.mine.now
+        how.now.theirs.now mine.now (option_copied theirs.entry) }
+{
+    mine.tells_invariant();
+    if mine.is_empty() {
+        return false;
+    }
+    match theirs {
+        Some(theirs) => mine.is_same(theirs),
+        None => mine.is_unheard(how.theirs),
+    }
+}
+
+/// Merges an entry with the other side's at the same key, if any, and appends the result. Requires that the other side
+/// has no remaining entry below the key. Most stores are known to stay unchanged, so that a copy suffices.
+fn put_entry<K: MapKey, S: DotStore>(
+    how: &JoinStores<'_>,
     built: &mut Parts<K, S>,
     entry: &(K, S),
     theirs: &mut Entries<'_, K, S>,
 ) -> Result<(), NoMemory>
     requires { IsNotBelow K.cmp entry.now.0 theirs.old }
-    ensures { OnOk result (IsMergedWith K.cmp (C.combined how.now) entry.now built.old theirs.old
-        built.new theirs.new) }
+    ensures { OnOk result (IsMergedWith K.cmp
+        (joined_at S.nothing S.is_empty S.join how.now.mine.now how.now.theirs.now)
+        entry.now built.old theirs.old built.new theirs.new) }
 {
     let (key, store) = entry;
     let taken = take_at(theirs, *key);
+    if surely_stays(how, store, taken) {
+        built.put(*key, store.copy()?)?;
+        return Ok(());
+    }
     let kept = kept_at(how, *key, store, taken)?;
     put_kept(built, *key, kept)?;
     Ok(())
 }
 
-/// Joins these entries with the other side's up to their last key.
-fn join_part<K: MapKey, S: DotStore, C: Combine<K, S>>(
-    how: &C,
+/// Merges these entries with the other side's up to their last key, and appends the results.
+fn join_part<K: MapKey, S: DotStore>(
+    how: &JoinStores<'_>,
     built: &mut Parts<K, S>,
     part: &[(K, S)],
     theirs: &mut Entries<'_, K, S>,
 ) -> Result<(), NoMemory>
-    ensures { OnOk result (IsMergedPart K.cmp (C.combined how.now) part.now built.old theirs.old
-        built.new theirs.new) }
+    ensures { OnOk result (IsMergedPart K.cmp
+        (joined_at S.nothing S.is_empty S.join how.now.mine.now how.now.theirs.now)
+        part.now built.old theirs.old built.new theirs.new) }
 {
-    built.make_room(part.len())?;
+    built.make_room(part.len().saturating_add(theirs.at_hand()))?;
     for entry in part {
         put_below(how, built, theirs, entry.0)?;
         put_entry(how, built, entry, theirs)?;
@@ -196,7 +213,7 @@ fn join_part<K: MapKey, S: DotStore, C: Combine<K, S>>(
     Ok(())
 }
 
-/// Whether all entries that the other side has left are past these.
+/// Whether all remaining entries of the other side are after these.
 fn are_before<K: MapKey, S: DotStore>(part: &[(K, S)], theirs: &Entries<'_, K, S>) -> bool
     requires { IsInOrder K.cmp part.now }
     ensures { result ≡ true → AreBefore K.cmp part.now theirs.now }
@@ -207,7 +224,8 @@ fn are_before<K: MapKey, S: DotStore>(part: &[(K, S)], theirs: &Entries<'_, K, S
     }
 }
 
-/// Whether a block can be shared: a block may come next, and the join surely leaves its entries as they are.
+/// Whether a block can be shared without comparing stores: a shared block can follow, all remaining entries of the
+/// other side are after it, and the filters prove that the other context has none of its dots.
 fn can_share<K: MapKey, S: DotStore>(
     how: &JoinStores<'_>,
     built: &Parts<K, S>,
@@ -227,7 +245,7 @@ fn can_share<K: MapKey, S: DotStore>(
     block.is_apart(how.theirs)
 }
 
-/// Whether the other side's next entry, if one is left, isn't below this key.
+/// Whether the other side's next entry, if any, isn't below this key.
 fn is_none_below<K: MapKey, S: DotStore>(theirs: &Entries<'_, K, S>, key: K) -> bool
     ensures { result ≡ true → IsNotBelow K.cmp key theirs.now }
 {
@@ -237,23 +255,8 @@ fn is_none_below<K: MapKey, S: DotStore>(theirs: &Entries<'_, K, S>, key: K) -> 
     }
 }
 
-/// Whether a store surely stays as it is beside what the other side has at its key.
-fn surely_stays<S: DotStore>(how: &JoinStores<'_>, mine: &S, theirs: Option<&S>) -> bool
-    ensures { result ≡ true → IsLeft S.nothing S.is_empty S.join how.now.mine.now
-        how.now.theirs.now mine.now (option_copied theirs.entry) }
-{
-    mine.tells_invariant();
-    if mine.is_empty() {
-        return false;
-    }
-    match theirs {
-        Some(theirs) => mine.is_same(theirs),
-        None => mine.is_unheard(how.theirs),
-    }
-}
-
-/// Whether the other side's next entry is past these, or surely the same as the one at its key. If not, the join may
-/// change these, or put an entry between them.
+/// A quick test for [`left_past`]: whether the other side's next entry is after these, or known to equal the one at its
+/// key. Otherwise the join can change these entries, or insert one between them.
 fn may_leave<K: MapKey, S: DotStore>(part: &[(K, S)], theirs: &Entries<'_, K, S>) -> bool
     requires { IsInOrder K.cmp part.now }
 {
@@ -267,8 +270,7 @@ fn may_leave<K: MapKey, S: DotStore>(part: &[(K, S)], theirs: &Entries<'_, K, S>
     }
 }
 
-/// What is left of the other side's entries past these, if the join surely leaves these as they are and puts none
-/// between them.
+/// The other side's entries after these, if the join is known to leave these unchanged and to insert none between them.
 fn left_past<'a, K: MapKey, S: DotStore>(
     how: &JoinStores<'_>,
     part: &[(K, S)],
@@ -295,7 +297,7 @@ fn left_past<'a, K: MapKey, S: DotStore>(
     Some(rest)
 }
 
-/// Joins the entries of a block with the other side's up to their last key, or shares the block.
+/// Merges the entries of a block with the other side's up to their last key, or shares the block.
 fn join_block<K: MapKey, S: DotStore>(
     how: &JoinStores<'_>,
     built: &mut Parts<K, S>,
@@ -323,7 +325,7 @@ fn join_block<K: MapKey, S: DotStore>(
     Ok(())
 }
 
-/// The join of two maps. One is in blocks, with entries after them. [`NoMemory`] is the only error.
+/// The join of two maps. One is given as blocks with entries after them.
 pub(crate) fn join_parts<K: MapKey, S: DotStore>(
     how: &JoinStores<'_>,
     blocks: &[Arc<Block<K, S>, Global>],

@@ -1,15 +1,17 @@
-//! Stores of dots: values that hold dots, ordered and joined under what each side has heard of.
+//! Dot stores: values that contain dots, ordered and joined with causal contexts.
 //!
-//! A replica that has heard of a dot and doesn't hold it has dropped it. One that hasn't heard of it may still get
-//! it. So two stores are joined beside their contexts: what one side alone holds stays where the other hasn't heard
-//! of it. These are the dot stores of delta-state replicated data types. This crate says once what a store owes, as
-//! the laws of the trait [`DotStore`]. It proves them for sets of dots ([`DotSet`]), values at dots ([`DotFun`]) and
-//! stores at keys ([`DotMap`]). A store beside a context that has all its dots ([`Causal`]) is then a lattice, for
-//! every value of the type.
+//! If a dot is in a replica's context but not in its store, the replica removed it; if it isn't in the context, the
+//! replica can still receive it. Therefore stores are joined with their contexts: a dot that only one side has stays
+//! unless the other's context contains it. These are the dot stores of delta-state CRDTs. The trait [`DotStore`] states
+//! the laws. They are proved for sets of dots ([`DotSet`]), maps from dots to a lattice ([`DotFun`]) and maps from keys
+//! to dot stores ([`DotMap`]). A store paired with a context that has all its dots ([`Causal`]) is then a lattice.
 //!
-//! Stores ask mostly whether a context contains a dot. The join of two sets lists the dots of a context where it has few.
-//! Maps keep their entries in blocks, each beside a filter of its dots. A join shares the blocks that it surely leaves as
-//! they are, and no contract tells of blocks: the entries of a map come by a reader ([`Entries`]).
+//! Stores mostly test whether a context contains a dot; only the join of two sets lists the dots of a context, if they
+//! are few. Maps store their entries in blocks, each with a filter of its dots, so that a join can share the blocks
+//! that it is known to leave unchanged. No contract mentions blocks: [`Entries`] iterates over the entries of a map.
+//!
+//! Public functions that don't return `Result<_, NoMemory>` allocate nothing. One that does fails only with `NoMemory`,
+//! and then leaves its borrowed arguments unchanged.
 #![tactic(auto)]
 
 pub use causal::Causal;

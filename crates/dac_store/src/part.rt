@@ -1,4 +1,4 @@
-//! Lists of entries: which dots their stores hold.
+//! The dots of the stores in a list of entries.
 ghost use Rattle.std.specs.Prelude.{◌≡◌, ◌↔◌, true, IsTrue};
 ghost use Rattle.dac_origins.specs.declared.Dot.{Dot};
 ghost use Rattle.dac_dots.specs.DotFilters.{may_have};
@@ -9,7 +9,7 @@ use crate::DotStore;
 use dac_dots::{Context, DotFilter, FilteredContext};
 use dac_origins::{Dot, MapKey};
 
-/// Whether some store holds the dot.
+/// Whether any store contains the dot.
 pub(crate) fn entries_have<K: MapKey, S: DotStore>(entries: &[(K, S)], dot: Dot) -> bool
     ensures { result ≡ has_in S.has entries.now dot }
 {
@@ -21,7 +21,7 @@ pub(crate) fn entries_have<K: MapKey, S: DotStore>(entries: &[(K, S)], dot: Dot)
     false
 }
 
-/// Whether the context has each dot of each store.
+/// Whether the context contains each dot of each store.
 pub(crate) fn are_within<K: MapKey, S: DotStore>(entries: &[(K, S)], context: &Context) -> bool
     ensures { IsTrue result ↔ IsHeld (has_in S.has entries.now) context.now }
 {
@@ -33,7 +33,7 @@ pub(crate) fn are_within<K: MapKey, S: DotStore>(entries: &[(K, S)], context: &C
     true
 }
 
-/// Whether no store holds a dot that has been heard of.
+/// Whether the context contains no dot of any store.
 pub(crate) fn are_unheard<K: MapKey, S: DotStore>(
     entries: &[(K, S)],
     heard: &FilteredContext<'_>,

@@ -1,5 +1,5 @@
-//! Entries in blocks, which maps share, and a few after them.
-ghost use Rattle.std.specs.Prelude.{◌≡◌, ◌≤◌, [], ◌∷◌, ◌++◌, length, take, drop, IfOk, IfSome, OnOk, OnErr};
+//! Entries in blocks, which maps share, with a few entries after them.
+ghost use Rattle.std.specs.Prelude.{◌≡◌, ◌<◌, ◌≤◌, [], ◌∷◌, ◌++◌, length, take, drop, IfOk, IfSome, OnOk, OnErr};
 ghost use Rattle.std.specs.Arc.{arc_value};
 ghost use Rattle.std.specs.List.{flat_map};
 ghost use Rattle.std.specs.Option.{option_copied};
@@ -18,13 +18,13 @@ use std::marker::Model;
 use std::mem::replace;
 use std::sync::Arc;
 
-/// How many entries the last ones are at most, where a join makes them.
+/// After a join, fewer entries than this are in no block.
 const MOST: usize = 24;
 
-/// How many entries a block has at least, where a join makes it and others follow.
+/// The least size of the blocks that a join makes.
 const LEAST: usize = 12;
 
-/// Entries in blocks, and those after them. Contracts see all entries as one list.
+/// Entries in blocks, and those after them. Contracts treat all entries as one list.
 #[derive(Drop)]
 pub(crate) struct Parts<K: MapKey, S: DotStore> {
     blocks: Vec<Arc<Block<K, S>, Global>>,
@@ -46,7 +46,7 @@ impl<K: MapKey, S: DotStore> Model for Parts<K, S> {
 }
 
 impl<K: MapKey, S: DotStore> Parts<K, S> {
-    /// No entries. It takes no memory.
+    /// The empty list.
     pub(crate) fn empty(alloc: Global) -> Self
         ensures { result ≡ [] }
     {
@@ -56,7 +56,7 @@ impl<K: MapKey, S: DotStore> Parts<K, S> {
         }
     }
 
-    /// No entries, with room for so many blocks and two more, unless none is asked for. [`NoMemory`] is the only error.
+    /// The empty list, with room for `blocks` blocks and two more, or with no room if `blocks` is 0.
     pub(crate) fn with_room(alloc: Global, blocks: usize) -> Result<Self, NoMemory>
         ensures { IfOk result (λ parts. parts ≡ []) }
     {
@@ -70,7 +70,7 @@ impl<K: MapKey, S: DotStore> Parts<K, S> {
         })
     }
 
-    /// Where the memory comes from.
+    /// The allocator of the entries' memory.
     pub(crate) fn allocator(&self) -> Global {
         *self.last.allocator()
     }
@@ -82,7 +82,7 @@ impl<K: MapKey, S: DotStore> Parts<K, S> {
         (self.blocks.as_slice(), self.last.as_slice())
     }
 
-    /// How many entries there are, if the number fits.
+    /// The number of entries, or `None` if it exceeds `usize`.
     pub(crate) fn count(&self) -> Option<usize>
         ensures { IfSome result (λ count. count ≡ length self.now) }
     {
@@ -97,7 +97,7 @@ impl<K: MapKey, S: DotStore> Parts<K, S> {
         Some(count)
     }
 
-    /// The entries among which a key would be.
+    /// The block, or the entries after the blocks, that contains a key or would contain it.
     fn part_at(&self, key: K) -> &[(K, S)]
         requires { IsInOrder K.cmp self.now }
         ensures { IsPartAt K.cmp key self.now result.now }
@@ -111,7 +111,7 @@ impl<K: MapKey, S: DotStore> Parts<K, S> {
         }
     }
 
-    /// Whether each key of the entries, which are in order, is below this one.
+    /// Whether each key is below this one. Requires entries in key order.
     pub(crate) fn end_below(&self, key: K) -> bool
         requires { IsInOrder K.cmp self.now }
         ensures { result ≡ is_above_entries K.cmp self.now key }
@@ -119,7 +119,7 @@ impl<K: MapKey, S: DotStore> Parts<K, S> {
         ends_below(self.part_at(key), key)
     }
 
-    /// The store at a key, where the entries are in order.
+    /// The store at a key, if any. Requires entries in key order.
     pub(crate) fn get(&self, key: K) -> Option<&S>
         requires { IsInOrder K.cmp self.now }
         ensures { option_copied result ≡ find K.cmp key self.now }
@@ -127,7 +127,7 @@ impl<K: MapKey, S: DotStore> Parts<K, S> {
         value_at(self.part_at(key), key)
     }
 
-    /// The same entries, of which the blocks are shared. [`NoMemory`] is the only error.
+    /// The same entries, which share the blocks.
     pub(crate) fn copy(&self) -> Result<Self, NoMemory>
         ensures { IfOk result (λ copied. copied ≡ self.now) }
     {
@@ -140,16 +140,18 @@ impl<K: MapKey, S: DotStore> Parts<K, S> {
         })
     }
 
-    /// Puts an entry at the end. Where memory is refused ([`NoMemory`], the only error), all stays as it was.
+    /// Appends an entry. After [`NoMemory`] nothing has changed.
     pub(crate) fn push(&mut self, key: K, store: S) -> Result<(), NoMemory>
         ensures ok { OnOk result (self.new ≡ self.old ++ (key, store) ∷ []) }
         ensures err { OnErr result (self.new ≡ self.old) }
     {
-        self.last.push((key, store))?;
+        // A fallible push returns its value on failure, which costs more than the test for room.
+        self.last.reserve(1)?;
+        self.last.push_reserved((key, store));
         Ok(())
     }
 
-    /// Makes room for so many entries more. [`NoMemory`] is the only error.
+    /// Reserves room for `more` entries, but for no more than [`MOST`] in no block.
     pub(crate) fn make_room(&mut self, more: usize) -> Result<(), NoMemory>
         ensures { self.new ≡ self.old }
     {
@@ -158,8 +160,8 @@ impl<K: MapKey, S: DotStore> Parts<K, S> {
         Ok(())
     }
 
-    /// Puts an entry at the end, and makes a block of the first of the last entries where these are many. [`NoMemory`]
-    /// is the only error, and may leave other entries.
+    /// Appends an entry, and if [`MOST`] are then in no block makes a block of the first [`LEAST`] of them. After
+    /// [`NoMemory`] the entries can have changed.
     pub(crate) fn put(&mut self, key: K, store: S) -> Result<(), NoMemory>
         ensures { OnOk result (self.new ≡ self.old ++ (key, store) ∷ []) }
     {
@@ -171,34 +173,53 @@ impl<K: MapKey, S: DotStore> Parts<K, S> {
         Ok(())
     }
 
-    /// Whether a block may come next, and no small one is made before it.
+    /// Whether a shared block can follow without first making a block of fewer than [`LEAST`] entries.
     pub(crate) fn ends_whole(&self) -> bool {
         self.last.is_empty() || self.last.len() >= LEAST
     }
 
-    /// Puts the entries of a block at the end, and shares it. [`NoMemory`] is the only error, and may leave other
-    /// entries.
+    /// Appends the entries of a block, which is shared. After [`NoMemory`] the entries can have changed.
     pub(crate) fn share(&mut self, block: &Arc<Block<K, S>, Global>) -> Result<(), NoMemory>
         ensures { OnOk result (self.new ≡ self.old ++ arc_value block.now) }
     {
         if block.entries().is_empty() {
             return Ok(());
         }
-        let open = self.last.len();
-        seal(&mut self.blocks, &mut self.last, open)?;
+        seal_all(&mut self.blocks, &mut self.last)?;
         self.blocks.push(Arc::try_clone(block)?)?;
         Ok(())
     }
 }
 
-/// Makes a block of so many of the last entries, if there are any. [`NoMemory`] is the only error, and may leave other
-/// entries.
+/// Makes a block of all of the last entries, if there are any. After [`NoMemory`] the entries can have changed.
+fn seal_all<K: MapKey, S: DotStore>(
+    blocks: &mut Vec<Arc<Block<K, S>, Global>>,
+    last: &mut Vec<(K, S)>,
+) -> Result<(), NoMemory>
+    ensures filled { HaveEntries arc_value blocks.old.items
+        → HaveEntries arc_value blocks.new.items }
+    ensures sealed { OnOk result
+        (flat_map arc_value blocks.new.items
+        ≡ flat_map arc_value blocks.old.items ++ last.old.items) }
+    ensures rest { OnOk result (last.new.items ≡ []) }
+{
+    // Most shared blocks come right after another one, so that no entry is open.
+    let count = last.len();
+    if count == 0 {
+        return Ok(());
+    }
+    seal(blocks, last, count)?;
+    Ok(())
+}
+
+/// Makes a block of the first `count` of the last entries. After [`NoMemory`] the entries can have changed.
 fn seal<K: MapKey, S: DotStore>(
     blocks: &mut Vec<Arc<Block<K, S>, Global>>,
     last: &mut Vec<(K, S)>,
     count: usize,
 ) -> Result<(), NoMemory>
-    requires { count ≤ length last.old.items }
+    requires some { 0 < count }
+    requires within { count ≤ length last.old.items }
     ensures filled { HaveEntries arc_value blocks.old.items
         → HaveEntries arc_value blocks.new.items }
     ensures sealed { OnOk result
@@ -206,9 +227,6 @@ fn seal<K: MapKey, S: DotStore>(
         ≡ flat_map arc_value blocks.old.items ++ take count last.old.items) }
     ensures rest { OnOk result (last.new.items ≡ drop count last.old.items) }
 {
-    if count == 0 {
-        return Ok(());
-    }
     let alloc = *last.allocator();
     let rest = last.split_off(count)?;
     let sealed = replace(last, rest);
@@ -217,7 +235,7 @@ fn seal<K: MapKey, S: DotStore>(
     Ok(())
 }
 
-/// The same blocks, which both lists share. [`NoMemory`] is the only error.
+/// The same blocks, which both lists share.
 fn share_blocks<K: MapKey, S: DotStore>(
     alloc: Global,
     blocks: &[Arc<Block<K, S>, Global>],
@@ -234,7 +252,7 @@ fn share_blocks<K: MapKey, S: DotStore>(
     Ok(shared)
 }
 
-/// Equal entries, with memory of their own. [`NoMemory`] is the only error.
+/// Equal entries, which share nothing.
 fn copy_entries<K: MapKey, S: DotStore>(
     alloc: Global,
     entries: &[(K, S)],

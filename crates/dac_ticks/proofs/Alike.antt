@@ -1,4 +1,4 @@
--- Boards are the same under configurations that are alike.
+-- Boards under configurations that are alike are the same.
 use Rattle.std.proofs.Common.{◌≡◌, ℕ, zero, suc, add-one, ◌+◌, ◌<◌, ◌≤◌, true, false, Bool, not, ◌&&◌, eqb, List, [], ◌∷◌, ◌++◌, get_or, All, Option, Some, None, slice_get, subst, refl, sym, ap, ◌∙◌, arith}
 use Rattle.std.specs.Prelude.{map as list_map, nat_lt, is_some, option_map, unwrap_or, if◌then◌else◌}
 use Rattle.std.specs.List.{range_with_len, list_any, position_from}
@@ -13,7 +13,7 @@ use Rattle.std.proofs.lemmas.Option.{slice_get_within, get_or_from_slice_get}
 use Rattle.dac_base.specs.declared.NodeId.{NodeId}
 use Rattle.dac_base.specs.declared.AppId.{AppId}
 use Rattle.dac_origins.specs.declared.dot.Origin.{Origin}
-use Rattle.dac_config.specs.Table.{Table, AppRow, node_count, app_count, group_of, group_among, HaveOneList}
+use Rattle.dac_config.specs.Table.{Table, AppRow, node_count, app_count, group_of, group_among, HaveEqualLists}
 use Rattle.dac_chains.specs.Lives.{live_at}
 use Rattle.dac_wishes.specs.PermissionsValue.{is_permitted}
 use Rattle.dac_meaning.specs.StateValue.{StateValue, permissions_of}
@@ -24,7 +24,7 @@ use Rattle.dac_board.specs.declared.spot.Spot.{Spot}
 use Rattle.dac_board.specs.Boards.{spot_of, spots_of, group_held, row_of, rows_of}
 use Rattle.dac_ticks.specs.KeptBoards.{AreAlike, AreAlikeFor, GoesFor}
 
--- its groups are of nodes that there are
+-- the table's groups have only nodes of the configuration
 abbrev pub HasMembers : Table → Type 0
 HasMembers t = All (λ app. All (λ group. All (λ node. node < node_count t) group) app.groups) t.apps
 
@@ -36,7 +36,7 @@ group_by_list t app node None e = refl
 group_by_list t app node (Some row) e = refl
 
 -- if two configurations have one list for an application, each node has the same group in both
-pub one_group : (t u : Table) (app : AppId) (node : NodeId) → HaveOneList t u app → group_of t app node ≡ group_of u app node
+pub one_group : (t u : Table) (app : AppId) (node : NodeId) → HaveEqualLists t u app → group_of t app node ≡ group_of u app node
 one_group t u app node one =
     group_by_list t app node (slice_get t.apps app.0) refl
     ∙ ap (λ groups. group_among groups node.0) one.groups
@@ -71,11 +71,11 @@ past_last t app node members past = past_last_by t app node members past (slice_
 -- ---- lists of places
 
 module _ {I X : Type 0} (numbered : ℕ → I) where
-  -- the values of one place more
+  -- the values of one more place
   one_more : (f : I → X) (n : ℕ) → list_map f (list_map numbered (range_with_len 0 (n + 1))) ≡ list_map f (list_map numbered (range_with_len 0 n)) ++ f (numbered n) ∷ []
   one_more f n = ap (list_map f) (map-range_with_len_more numbered 0 n n (omega arith)) ∙ map_push f (list_map numbered (range_with_len 0 n)) (numbered n)
 
-  -- two lists that have the same at each of the first n
+  -- two lists that agree at each of the first n places
   same_below : (f g : I → X) (n : ℕ) → ((k : ℕ) → k < n → f (numbered k) ≡ g (numbered k))
       → list_map f (list_map numbered (range_with_len 0 n)) ≡ list_map g (list_map numbered (range_with_len 0 n))
   same_below f g zero h = refl
@@ -104,7 +104,7 @@ module _ (t u : Table) (alike : AreAlike t u) (here : HasMembers t) (there : Has
           past_last t app node here past ∙ sym (past_last u app node there (omega (arith, past, alike.nodes)))
     ] refl
 
-    -- the node with its group, where the application is permitted so if no one has said
+    -- the node with its group, if it is eligible by this default permission
     abbrev spot_with : NodeId → Option ℕ → Bool → Option Spot
     spot_with node group permitted =
         if is_some group && option_map_or (λ inc. (is_permitted (key_at app node inc) permitted (permissions_of s) && not (is_drained_at s node inc)) && is_started_at s (key_at app node inc)) (live_at s.lives node) false then option_map (λ group. record { group = group; node = node }) group
@@ -118,7 +118,7 @@ module _ (t u : Table) (alike : AreAlike t u) (here : HasMembers t) (there : Has
         same_below numbered_node (spot_of t s app) (spot_of u s app) (node_count t) (λ k lt. same_spot (numbered_node k))
         ∙ ap (λ n. list_map (spot_of u s app) (list_map numbered_node (range_with_len 0 n))) alike.nodes
 
-    -- how it stands, where it is permitted so if no one has said
+    -- the standing by this default permission
     abbrev standing_with : Bool → Origin → Standing
     standing_with permitted o =
         if not (is_up s o) then Lost
@@ -148,6 +148,6 @@ module _ (t u : Table) (alike : AreAlike t u) (here : HasMembers t) (there : Has
       same_below numbered_app (row_of t s) (row_of u s) (app_count t) (λ k lt. same_row (numbered_app k) lt)
       ∙ ap (λ n. list_map (row_of u s) (list_map numbered_app (range_with_len 0 n))) alike.apps
 
--- what a board shows under one of two that are alike it shows under the other
+-- a board under one of two configurations that are alike shows the same state under the other
 pub goes_for : (t u : Table) → HasMembers t → HasMembers u → AreAlike t u → GoesFor t u
 goes_for t u here there alike = λ board s shows. shows ∙ same_rows t u alike here there s

@@ -6,24 +6,24 @@ use Rattle.dac_config.specs.Table.{Table}
 use Rattle.dac_chains.specs.Lives.{IsLive}
 use Rattle.dac_meaning.specs.StateValue.{StateValue, IsState}
 use Rattle.dac_decide.specs.FailoverWait.{Note, waits_of}
-use Rattle.dac_ticks.specs.Ticks.{Turn, turn_of}
+use Rattle.dac_ticks.specs.Ticks.{Sweep, sweep_of}
 
--- the application is one of these
+-- the list contains the application
 abbrev pub IsAmong : AppId → List AppId → Type 0
 IsAmong app [] = ⊥
 IsAmong app (a ∷ apps) = (a ≡ app) ⊎ IsAmong app apps
 
--- what is noted at a tick that finds this state
+-- the notes after a tick in this state
 abbrev pub noting : StateValue → ℕ → List Note → List Note
 noting s now notes = record { state = s; moment = now } ∷ notes
 
--- the turn of a tick that notes first
-abbrev pub tick_of : Table → Origin → List Note → ℕ → StateValue → Turn
-tick_of t own notes now s = turn_of t own (waits_of t (noting s now notes)) now s
+-- the sweep of a tick, which notes before it claims
+abbrev pub tick_of : Table → Origin → List Note → ℕ → StateValue → Sweep
+tick_of t own notes now s = sweep_of t own (waits_of t (noting s now notes)) now s
 
--- Let the incarnation be the live one of its node. Then a second tick at the same moment claims nothing and leaves
--- the state as it is. It notes once more. It passes none but those that the first passed. It may pass fewer: a claim
--- of the first may have made another node the better choice.
+-- If the incarnation is the live one of its node, a second tick at the same moment claims nothing and leaves the state
+-- unchanged. It passes over only applications that the first passed over, possibly fewer, because a claim of the first
+-- can make another node the better choice.
 abbrev pub SecondTickClaimsNothing : Type 0
 SecondTickClaimsNothing = (t : Table) (own : Origin) (notes : List Note) (now : ℕ) (s : StateValue) → IsState s
     → IsLive s.lives own.node own.inc

@@ -1,5 +1,4 @@
--- Operations that one incarnation issues one after another: each under the next dot by the state that
--- those before it leave.
+-- Operations that one incarnation issues in sequence: each under the next dot in the state that the earlier ones left.
 use Rattle.std.specs.Prelude.{◌≡◌, List, [], ◌∷◌}
 use Rattle.dac_origins.specs.declared.dot.Origin.{Origin}
 use Rattle.dac_operations.specs.declared.act.Act.{Act}
@@ -8,7 +7,7 @@ use Rattle.dac_meaning.specs.StateValue.{StateValue, join}
 use Rattle.dac_meaning.specs.Meaning.{meaning_of}
 use Rattle.dac_commands.specs.Commands.{next_operation}
 
--- it is the incarnation's next operation, whatever it says
+-- the incarnation's next operation, with any act
 abbrev pub IsNextOf : Origin → StateValue → Operation → Type 0
 IsNextOf own s o = (act : Act) × (o ≡ next_operation s own act)
 

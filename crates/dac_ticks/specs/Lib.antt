@@ -1,7 +1,7 @@
 pub mod Ticks
 pub mod Again
 pub mod Staying
-pub mod TurnSoFar
+pub mod SweepSoFar
 pub mod InWords
 pub mod Issued
 pub mod KeptBoards

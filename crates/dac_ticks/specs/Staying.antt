@@ -1,4 +1,4 @@
--- What is claimed stays with its claimer.
+-- Claimed applications stay with their claimer.
 use Rattle.std.specs.Prelude.{◌≡◌, ℕ, ◌<◌, List, Option, Some}
 use Rattle.std.specs.FinMap as map
 use Rattle.dac_base.specs.declared.NodeId.{NodeId}
@@ -15,7 +15,7 @@ use Rattle.dac_config.specs.Table.{Table}
 use Rattle.dac_placement.specs.declared.verdicts.Verdict.TheVariants.{Kept}
 use Rattle.dac_placement.specs.Placement.{IsVerdict, RunsAt}
 use Rattle.dac_decide.specs.declared.waits.Noted.{Noted}
-use Rattle.dac_ticks.specs.Ticks.{turn_from, turn_over}
+use Rattle.dac_ticks.specs.Ticks.{sweep_from, sweep_over}
 
 -- the operation claims the application
 abbrev pub ClaimsApp : AppId → Operation → Type 0
@@ -26,7 +26,7 @@ pub record IsKeptAt (t : Table) (s : StateValue) (app : AppId) (node : NodeId) :
   pub verdict : IsVerdict t s app (Kept node)
   pub runs : RunsAt t s app node
 
--- so each application is that one of the operations claims
+-- each application that one of the operations claims is kept at the node
 abbrev pub AreKeptAt : Table → StateValue → NodeId → List Operation → Type 0
 AreKeptAt t s node os = (o : Operation) (app : AppId) → IsOperationOf o os → ClaimsApp app o → IsKeptAt t s app node
 
@@ -36,15 +36,15 @@ AreLaterClaims s os = (o : Operation) (app : AppId) → IsOperationOf o os → (
     → o.act ≡ Claim app term how from
     → (claim : ClaimValue) → map.get s.claims app ≡ Some claim → claim.term < term
 
--- So it is with what an incarnation claims of some applications in turn, in the state that it finds. A tick takes all
--- of the configuration in turn.
+-- The claims of a pass over some applications are later claims. A tick passes over all applications of the
+-- configuration.
 abbrev pub ClaimsAreLater : Type 0
 ClaimsAreLater = (t : Table) (own : Origin) (waits : List (Option Noted)) (now : ℕ) (s : StateValue) (apps : List AppId)
-    → IsState s → AreLaterClaims s (turn_over t own waits now (turn_from s) apps).ops
+    → IsState s → AreLaterClaims s (sweep_over t own waits now (sweep_from s) apps).ops
 
--- What an incarnation that is live claims of some applications in turn is kept at its node, in the state that all these
--- claims leave. So it is after a tick, and after each claim alone.
+-- The applications that a live incarnation claims in a pass over some applications are kept at its node, in the state
+-- after all these claims. This covers a whole tick, and each claim alone.
 abbrev pub ClaimsStay : Type 0
 ClaimsStay = (t : Table) (own : Origin) (waits : List (Option Noted)) (now : ℕ) (s : StateValue) (apps : List AppId)
     → IsState s → IsLive s.lives own.node own.inc
-    → let turn = turn_over t own waits now (turn_from s) apps in AreKeptAt t turn.state own.node turn.ops
+    → let sweep = sweep_over t own waits now (sweep_from s) apps in AreKeptAt t sweep.state own.node sweep.ops

@@ -1,4 +1,4 @@
--- What a command that is taken up brings about in the state that its operation leaves.
+-- The effect of an accepted command, in the state that its operation leaves.
 use Rattle.std.specs.Prelude.{◌≡◌, ◌↔◌, ℕ, true, [], ◌∷◌, None}
 use Rattle.dac_base.specs.declared.NodeId.{NodeId}
 use Rattle.dac_base.specs.declared.AppId.{AppId}
@@ -17,10 +17,10 @@ use Rattle.dac_commands.specs.Causes.{refusal_of_command}
 abbrev pub AtLive : StateValue → NodeId → (ℕ → Type 0) → Type 0
 AtLive s node P = (inc : ℕ) × (IsLive s.lives node inc × P inc)
 
--- What is so in the state that is left. No incarnation of a node that was declared down is live. At the live
--- incarnation of the node, the application is permitted exactly if the permit says so. It is wished there after a
--- start, and it isn't after a stop. That incarnation is drained exactly if the drain says so. What was taken over runs
--- at the own node.
+-- The effect of each command. After a Down no incarnation of the node is live. At the node's live incarnation the
+-- application is permitted exactly when the permit's value is true, is started after a start, and isn't after a stop.
+-- That incarnation is drained exactly when the drain's value is true. After a takeover the application runs at this
+-- node.
 abbrev pub TakesEffect : Table → Origin → StateValue → Command → Type 0
 TakesEffect t own left (Down node) = (inc : ℕ) → ¬ IsLive left.lives node inc
 TakesEffect t own left (Permit app node value) =
@@ -30,7 +30,7 @@ TakesEffect t own left (Stop app node) = AtLive left node (λ inc. ¬ IsStartedA
 TakesEffect t own left (Drain node value) = AtLive left node (λ inc. IsDrainedAt left node inc ↔ (value ≡ true))
 TakesEffect t own left (Takeover app) = RunsAt t left app own.node
 
--- so it is after each command that isn't refused, once its operation is joined
+-- each accepted command has its effect after its operation is joined
 abbrev pub CommandsTakeEffect : Type 0
 CommandsTakeEffect =
     (t : Table) (own : Origin) (s : StateValue) (c : Command) → IsState s → refusal_of_command t own s c ≡ None

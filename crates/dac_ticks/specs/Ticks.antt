@@ -1,6 +1,6 @@
--- What a tick claims. It takes the applications of the configuration in the order of its file, each on the state that
--- the claims before it left. (OTP starts, restarts and moves distributed applications as soon as nodes come and go.
--- That a controller looks after them at its ticks is this project's own.)
+-- The claims of a tick, which takes the applications of the configuration in the order of its file, each in the state
+-- that the earlier claims left. (OTP starts, restarts and moves distributed applications as soon as nodes come and go.
+-- That a controller does so at its ticks is this project's own rule.)
 use Rattle.std.specs.Prelude.{ℕ, Bool, false, ◌&&◌, ◌==◌, List, [], ◌∷◌, ◌++◌, Option, None, fold, if◌then◌else◌}
 use Rattle.std.specs.Option.{option_map, option_map_or}
 use Rattle.dac_base.specs.declared.NodeId.{NodeId}
@@ -20,12 +20,12 @@ use Rattle.dac_decide.specs.FailoverWait.{noted_at, is_due_by}
 use Rattle.dac_commands.specs.Commands.{claim_act, next_operation}
 use Rattle.dac_commands.specs.Causes.{terms_used_up}
 
--- the node whose claim is the application's greatest
+-- the node of the application's greatest claim
 abbrev pub held_by : StateValue → AppId → Option NodeId
 held_by s app = option_map (λ (o : Origin). o.node) (holder_of s app)
 
--- How the application comes to its candidate by this verdict. A failover and a takeover are named, from the node that
--- held it, and whatever else is normal
+-- The claim by this verdict. A failover or takeover is claimed as such, from the node that held the application, and
+-- any other as normal
 abbrev pub claimed_by : StateValue → AppId → Verdict → Act
 claimed_by s app (Failover n) = claim_act s app FailedOver (held_by s app)
 claimed_by s app (Takeover n) = claim_act s app TakenOver (held_by s app)
@@ -35,7 +35,7 @@ claimed_by s app _ = claim_act s app Normal None
 abbrev pub claim_of : Table → Origin → StateValue → AppId → Operation
 claim_of t own s app = next_operation s own (claimed_by s app (verdict_of t s app))
 
--- the incarnation's node is the candidate of this verdict, and the verdict is due now, where so much is noted
+-- the verdict's candidate is the incarnation's node, and the verdict is due by these waits
 abbrev pub is_mine_by : Table → Origin → List (Option Noted) → ℕ → StateValue → AppId → Verdict → Bool
 is_mine_by t own waits now s app verdict = option_map_or (λ (n : NodeId). n.0 == own.node.0) (candidate_of verdict)
     false && is_due_by t (noted_at waits app) s app now verdict
@@ -44,34 +44,34 @@ is_mine_by t own waits now s app verdict = option_map_or (λ (n : NodeId). n.0 =
 abbrev pub is_mine : Table → Origin → List (Option Noted) → ℕ → StateValue → AppId → Bool
 is_mine t own waits now s app = is_mine_by t own waits now s app (verdict_of t s app)
 
--- What a tick has done so far: the claims that it issued, and the applications that it passed since their terms are
--- used up. Last comes the state that the claims leave
-pub record Turn : Type 0 where
+-- A sweep: a node's pass over its applications at one tick. So far it issued these claims, passed over these
+-- applications because their terms are used up, and reached this state
+pub record Sweep : Type 0 where
   pub ops : List Operation
   pub passed : List AppId
   pub state : StateValue
 
--- nothing so far
-abbrev pub turn_from : StateValue → Turn
-turn_from s = record { ops = []; passed = []; state = s }
+-- a sweep before its first application
+abbrev pub sweep_from : StateValue → Sweep
+sweep_from s = record { ops = []; passed = []; state = s }
 
-abbrev pub passing : Turn → AppId → Turn
-passing turn app = record { ops = turn.ops; passed = turn.passed ++ app ∷ []; state = turn.state }
+abbrev pub passing : Sweep → AppId → Sweep
+passing sweep app = record { ops = sweep.ops; passed = sweep.passed ++ app ∷ []; state = sweep.state }
 
-abbrev pub claiming : Turn → Operation → Turn
-claiming turn o =
-    record { ops = turn.ops ++ o ∷ []; passed = turn.passed; state = join turn.state (meaning_of (o ∷ [])) }
+abbrev pub claiming : Sweep → Operation → Sweep
+claiming sweep o =
+    record { ops = sweep.ops ++ o ∷ []; passed = sweep.passed; state = join sweep.state (meaning_of (o ∷ [])) }
 
--- one application more
-abbrev pub turned : Table → Origin → List (Option Noted) → ℕ → Turn → AppId → Turn
-turned t own waits now turn app =
-    if is_mine t own waits now turn.state app then if terms_used_up turn.state app then passing turn app else claiming turn (claim_of t own turn.state app)
-    else turn
+-- a sweep after one more application
+abbrev pub swept : Table → Origin → List (Option Noted) → ℕ → Sweep → AppId → Sweep
+swept t own waits now sweep app =
+    if is_mine t own waits now sweep.state app then if terms_used_up sweep.state app then passing sweep app else claiming sweep (claim_of t own sweep.state app)
+    else sweep
 
--- the turn of these applications
-abbrev pub turn_over : Table → Origin → List (Option Noted) → ℕ → Turn → List AppId → Turn
-turn_over t own waits now turn apps = fold (turned t own waits now) turn apps
+-- a sweep after these applications
+abbrev pub sweep_over : Table → Origin → List (Option Noted) → ℕ → Sweep → List AppId → Sweep
+sweep_over t own waits now sweep apps = fold (swept t own waits now) sweep apps
 
--- the turn of a tick, where so much is noted by then
-abbrev pub turn_of : Table → Origin → List (Option Noted) → ℕ → StateValue → Turn
-turn_of t own waits now s = turn_over t own waits now (turn_from s) (apps_of t)
+-- the sweep of a tick: a pass over all applications of the configuration, with these waits
+abbrev pub sweep_of : Table → Origin → List (Option Noted) → ℕ → StateValue → Sweep
+sweep_of t own waits now s = sweep_over t own waits now (sweep_from s) (apps_of t)

@@ -1,5 +1,5 @@
 pub mod Counters
-pub mod Turning
+pub mod Sweeping
 pub mod Claims
 pub mod Words
 pub mod Claimed

@@ -1,4 +1,4 @@
-//! A board that is kept from tick to tick.
+//! A board that is maintained from tick to tick.
 ghost use Rattle.std.specs.Prelude.{◌≡◌, ◌<◌, ◌↔◌, IsTrue, IsSome, IfOk, IfSome, true};
 ghost use Rattle.std.specs.Option.{option_copied};
 ghost use Rattle.dac_config.specs.Table.{app_count};
@@ -15,13 +15,14 @@ use std::marker::Model;
 
 /// A board, and the configuration under which it shows a state.
 ///
-/// A controller that keeps one gives its ticks the board where it shows the state under the tick's configuration too.
+/// A controller that keeps one passes the board to its ticks, if it also shows the state under the tick's
+/// configuration.
 pub struct KeptBoard {
     config: Config,
     board: Board,
 }
 
-/// Written out: a drop is one call for a proof, wherever it stands.
+/// Written out so that a drop is one call in every proof.
 impl Drop for KeptBoard {
     fn drop(self) {
         let KeptBoard {
@@ -40,7 +41,7 @@ impl Model for KeptBoard {
 }
 
 impl KeptBoard {
-    /// The board of a state. [`NoMemory`] is the only error.
+    /// The board of a state.
     pub fn new(alloc: Global, config: &Config, state: &State) -> Result<Self, NoMemory>
         ensures { IfOk result (λ kept. IsBoardOf kept state.now) }
     {
@@ -49,7 +50,7 @@ impl KeptBoard {
         Ok(KeptBoard { config, board })
     }
 
-    /// Takes up that the state that is shown came to be another one. It takes no memory.
+    /// Updates the board after the state that it shows grew from `old` to `new`.
     pub fn absorb(&mut self, old: &State, new: &State)
         ensures { IsBoardOf self.old old.now → IsBoardOf self.new new.now }
     {
@@ -57,7 +58,7 @@ impl KeptBoard {
         board.absorb(config, old, new, new);
     }
 
-    /// An equal board, with memory of its own. [`NoMemory`] is the only error.
+    /// An equal board that shares nothing with this one.
     pub fn copy(&self) -> Result<Self, NoMemory>
         ensures { IfOk result (λ copied. copied ≡ self.now) }
     {
@@ -66,7 +67,7 @@ impl KeptBoard {
         Ok(KeptBoard { config, board })
     }
 
-    /// The board, where it goes by this configuration. It takes no memory.
+    /// The board, if it shows the same states under this configuration.
     pub fn under(&self, config: &Config) -> Option<&Board>
         ensures shows { (s : Value) → IsBoardOf self.now s
             → IfSome (option_copied result) (λ board. Shows config.now board s) }
@@ -80,8 +81,8 @@ impl KeptBoard {
     }
 }
 
-/// Whether boards are the same under two configurations: they have as many nodes and as many applications, and for
-/// each application the same groups and the same permission by default.
+/// Whether boards under two configurations are the same: the same number of nodes and of applications, and for each
+/// application the same groups and the same default permission.
 fn are_alike(one: &Config, other: &Config) -> bool
     ensures alike { IsTrue result ↔ AreAlike one.now other.now }
     ensures goes { IsTrue result → GoesFor one.now other.now }
@@ -100,13 +101,13 @@ fn are_alike(one: &Config, other: &Config) -> bool
     true
 }
 
-/// Whether two configurations say the same of an application: the group of each node, and its permission by default.
+/// Whether two configurations have the same group of each node and the same default permission for an application.
 fn are_alike_for(one: &Config, other: &Config, app: AppId) -> bool
     requires one { app.0 < app_count one.now }
     requires other { app.0 < app_count other.now }
     ensures { IsTrue result ↔ AreAlikeFor one.now other.now app }
 {
-    // The configuration of a running cluster stays, so that one walk over its list mostly tells.
+    // A running cluster's configuration is constant, so that one walk over its list mostly decides.
     if one.lists_alike(other, app) {
         return true;
     }

@@ -1,18 +1,21 @@
-//! What a controller does at its ticks: it claims the applications that are its node's to run, and due.
+//! Ticks: at a tick a controller claims the applications that its node should run now.
 //!
-//! [`turn_of`] takes the applications in the order of the configuration file, each on the state that this tick's earlier
-//! claims have left. It returns a [`Turn`]: the operations to issue, the applications that had to be passed, and the
-//! state that the claims leave. It changes nothing; the caller carries out what it returns. So a controller that has
-//! claimed an application sees its own claim, and the load that it brings, when it looks at the next.
+//! [`sweep_of`] makes a [`Sweep`], a node's pass over all its applications at one tick, in the order of the configuration
+//! file. Each application is evaluated in the state that this tick's earlier claims left, so that a controller sees its
+//! own claims, and the load that they bring. The sweep holds the operations to issue, the applications that were passed
+//! over, and the state after the claims. The caller carries it out; nothing here changes a state.
 //!
-//! A tick computes one verdict for each application that its own node may run, or takes the verdicts from a board that shows
-//! the state: a controller may keep one, as a [`KeptBoard`], until its state changes. A claim costs one delta and one join, and a
-//! tick that claims nothing copies no state.
+//! A tick computes a verdict for each application for which its node is eligible, or reads all verdicts from a board of
+//! the state. A controller can maintain one from tick to tick, as a [`KeptBoard`]. A claim costs one delta and one
+//! join, and a tick without claims copies no state.
+//!
+//! Functions that don't return `Result<_, NoMemory>` allocate nothing. `NoMemory` is the only error, and leaves a
+//! public function's arguments unchanged.
 #![tactic(auto)]
 
 pub use kept::KeptBoard;
-pub use turning::{Turn, board_under, turn_of};
+pub use sweeping::{Sweep, board_under, sweep_of};
 
 mod kept;
 pub mod laws;
-mod turning;
+mod sweeping;

@@ -1,5 +1,5 @@
--- Bytes: the reader's tests decide what the grammar says of them, what the class of one is, and the longest stretch of
--- bytes that pass a test.
+-- Bytes: the reader's tests decide the grammar's classes, `class_of` finds the class of a byte, and `stretch` finds the
+-- longest prefix that passes a test.
 use Rattle.std.proofs.Common.{◌≡◌, ◌≢◌, inl, inr, ℕ, suc, ◌+◌, ◌<◌, Bool, true, false, ◌||◌, cond, eqb, leb, List, [], ◌∷◌, ◌++◌, length, take, drop, refl, sym, ap, subst, ◌∙◌, arith}
 use Rattle.std.specs.Prelude.{All}
 use Rattle.std.specs.Bool.{Decides}
@@ -16,11 +16,11 @@ use Rattle.dac_tokens.specs.declared.token.Class.TheVariants as class
 use Rattle.dac_tokens.specs.declared.token.Symbol.{Symbol}
 use Rattle.dac_tokens.specs.declared.token.Symbol.TheVariants.{OpenList, CloseList, OpenTuple, CloseTuple, Comma, FullStop}
 use Rattle.dac_tokens.specs.Scan.{is_blank, class_of, ends_stop, breaks_number, stretch}
-use Rattle.dac_tokens.specs.TokenGrammar.{IsBlank, StartsGap, Begins, GoesOnAsNumber, EndsTerm, bytes_of}
+use Rattle.dac_tokens.specs.TokenGrammar.{IsBlank, StartsGap, Begins, ContinuesAsNumber, EndsTerm, bytes_of}
 use Rattle.dac_tokens.specs.TokenFaults.{IsRefused, IsUnknown}
 use Rattle.dac_tokens.specs.laws.NameBytes.{tells_letter}
 
--- a test fails where the fact that it decides does
+-- a test returns false if the fact that it decides is false
 pub fails : {P : Type 0} (r : Bool) → Decides r P → (P → ⊥) → r ≡ false
 fails r tells other = false_from_ne_true r (λ e. other (tells.0 e))
 
@@ -34,12 +34,11 @@ pub tells_stop : (rest : List ℕ) → Decides (ends_stop rest) (EndsTerm rest)
 tells_stop [] = (λ e. inl refl, λ h. refl)
 tells_stop (b ∷ bs) = (λ e. inr (grind (arith, nat_tests)), λ h. grind (arith, nat_tests))
 
-pub tells_break : (rest : List ℕ) → (Begins IsAsciiDigit rest → ⊥) → Decides (breaks_number rest) (GoesOnAsNumber rest)
+pub tells_break : (rest : List ℕ) → (Begins IsAsciiDigit rest → ⊥) → Decides (breaks_number rest) (ContinuesAsNumber rest)
 tells_break [] no_digit = (λ e. absurd cc, λ h. absurd h)
 tells_break (b ∷ []) no_digit = (λ e. grind (arith, nat_tests), λ h. grind (arith, nat_tests))
 tells_break (b ∷ c ∷ bs) no_digit = (λ e. grind (arith, nat_tests), λ h. grind (arith, nat_tests))
 
--- the last test of `class_of`
 abbrev is_refused : ℕ → Bool
 is_refused b =
     eqb b 60 || eqb b 35 || eqb b 36 || eqb b 43 || eqb b 126 || eqb b 124 || leb 128 b
@@ -47,7 +46,7 @@ is_refused b =
 tells_refused : (b : ℕ) → Decides (is_refused b) (IsRefused b)
 tells_refused b = (λ e. grind (arith, nat_tests), λ h. grind (arith, nat_tests))
 
--- the class of a byte that passes a test which no byte passes that is a class alone
+-- the class of a byte that passes a test which no byte with a class of its own passes
 class_by : (p : ℕ → Bool) (b : ℕ) → p b ≡ true → (p 91 ≡ false) × (p 93 ≡ false) × (p 123 ≡ false) × (p 125 ≡ false) × (p 44 ≡ false) × (p 46 ≡ false) × (p 45 ≡ false) × (p 39 ≡ false) × (p 34 ≡ false) → class_of b ≡ cond (is_ascii_lowercase b) class.Letter (cond (is_ascii_digit b) class.Digit (cond (is_refused b) class.Refused class.Unknown))
 class_by p b holds apart = rw (other 91 apart.0, other 93 apart.1, other 123 apart.2, other 125 apart.3, other 44 apart.4, other 46 apart.5, other 45 apart.6, other 39 apart.7, other 34 apart.8) refl
   where
@@ -80,7 +79,6 @@ unknown_class b un = rw (mark 91 OpenList refl, mark 93 CloseList refl, mark 123
     mark : (n : ℕ) (symbol : Symbol) → n ∷ [] ≡ bytes_of symbol → eqb b n ≡ false
     mark n symbol is = ne_eqb b n (λ e. un.no_mark symbol (ap (λ k. k ∷ []) e ∙ is))
 
--- what a byte of a class is
 abbrev pub IsOf : Class → ℕ → Type 0
 IsOf (class.Bracket FullStop) b = ⊥
 IsOf (class.Bracket symbol) b = b ∷ [] ≡ bytes_of symbol
@@ -145,7 +143,7 @@ module _ (p : ℕ → Bool) (P : ℕ → Type 0) (tells : (b : ℕ) → Decides 
           let one : 1 + prefix_len p bs ≡ suc (prefix_len p bs) = omega arith in
           rw one (All-cons P b (take (prefix_len p bs) bs) ((tells b).0 e) more)
 
-  -- every byte of the stretch is such
+  -- every byte of the stretch passes
   pub run_passes : (bs : List ℕ) → All P (take (stretch p bs) bs)
   run_passes bs = rw (length-prefix_len p bs) (passes bs)
 
@@ -159,7 +157,7 @@ module _ (p : ℕ → Bool) (P : ℕ → Type 0) (tells : (b : ℕ) → Decides 
           let one : 1 + prefix_len p bs ≡ suc (prefix_len p bs) = omega arith in
           more (rw one at k)
 
-  -- the byte behind the stretch is not
+  -- the byte after the stretch doesn't pass
   pub run_stops : (bs : List ℕ) → Begins P (drop (stretch p bs) bs) → ⊥
   run_stops bs h = stops bs (rw (length-prefix_len p bs) at h)
 
@@ -168,7 +166,7 @@ module _ (p : ℕ → Bool) (P : ℕ → Type 0) (tells : (b : ℕ) → Decides 
   prefix_is [] (b ∷ bs) all ends = rw (fails (p b) (tells b) ends) refl
   prefix_is (x ∷ xs) ys all ends = rw ((tells x).1 (All-head P x xs all)) (omega (arith, prefix_is xs ys (All-tail P x xs all) ends))
 
-  -- such bytes before one that is not are the stretch
+  -- bytes that pass, before one that doesn't, are the stretch
   pub run_of : (xs ys : List ℕ) → All P xs → (Begins P ys → ⊥) → stretch p (xs ++ ys) ≡ length xs
   run_of xs ys all ends = length-prefix_len p (xs ++ ys) ∙ prefix_is xs ys all ends
 

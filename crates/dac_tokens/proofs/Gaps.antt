@@ -1,4 +1,4 @@
--- Gaps between tokens: what is passed over is a gap, and a gap is passed over.
+-- Gaps between tokens: exactly gaps are skipped.
 use Rattle.std.proofs.Common.{◌≡◌, ◌⊎◌, inl, inr, ℕ, ◌≤◌, Bool, true, false, not, cond, eqb, List, [], ◌∷◌, ◌++◌, length, refl, sym, ap, subst, ◌∙◌, arith, append_assoc}
 use Rattle.std.proofs.lemmas.Bool.{eqb-true, eqb-false, ne_eqb}
 use Rattle.std.proofs.lemmas.Bool.Decides.{nat_tests}
@@ -13,18 +13,18 @@ length_after_gap comment [] = omega arith
 length_after_gap true (b ∷ bs) = omega (arith, length_after_gap (not (eqb b 10)) bs)
 length_after_gap false (b ∷ bs) = grind (arith, length_after_gap true bs, length_after_gap false bs)
 
--- what a gap leaves of these bytes, where something is left
+-- the rest of these bytes after a gap, if any
 pub record IsPassed (bytes rest : List ℕ) : Type 0 where
   pub gap : List ℕ
   pub parts : bytes ≡ gap ++ rest
   pub is_gap : IsGap gap
   pub stops : Begins StartsGap rest → ⊥
 
--- what is left behind a gap: a rest with no gap before it, or nothing
+-- the result of skipping a gap: a rest with no gap before it, or nothing
 abbrev Passed : List ℕ → List ℕ → Type 0
 Passed bytes rest = IsPassed bytes rest ⊎ ((rest ≡ []) × IsLastGap bytes)
 
--- the same inside a comment
+-- the result of skipping a gap, from inside a comment
 abbrev PassedInLine : List ℕ → List ℕ → Type 0
 PassedInLine bytes rest = ((line more : List ℕ) × (bytes ≡ line ++ 10 ∷ more) × IsLine line × Passed more rest) ⊎ (IsLine bytes × (rest ≡ []))
 
@@ -67,7 +67,7 @@ passed_from true [] = inr (All-nil (λ b. b ≡ 10 → ⊥), refl)
 passed_from true (b ∷ bs) = in_line b bs (eqb b 10) refl (passed_from false bs) (passed_from true bs)
 passed_from false (b ∷ bs) = between_tokens b bs (eqb b 37) (is_blank b) refl refl (passed_from false bs) (passed_from true bs)
 
--- where nothing is left, there was a gap alone
+-- if nothing remains, the bytes were one last gap
 pub last_gap : (bytes : List ℕ) → after_gap false bytes ≡ [] → IsLastGap bytes
 last_gap bytes e = by (passed_from false bytes)
   where
@@ -75,7 +75,7 @@ last_gap bytes e = by (passed_from false bytes)
     by (inl p) = Closed (subst IsGap (sym (p.parts ∙ ap (λ (xs : List ℕ). p.gap ++ xs) e ∙ append-nil p.gap)) p.is_gap)
     by (inr (none, last)) = last
 
--- what is left stands behind a gap
+-- the rest follows a gap
 pub gap_before : (bytes : List ℕ) (b : ℕ) (bs : List ℕ) → after_gap false bytes ≡ b ∷ bs → IsPassed bytes (b ∷ bs)
 gap_before bytes b bs e = by (passed_from false bytes)
   where
@@ -108,11 +108,11 @@ no_gap (b ∷ bs) stops =
     let no_blank : is_blank b ≡ false = grind (arith, nat_tests) in
     rw (no_percent, no_blank) refl
 
--- a gap is passed over, where none goes on behind it
+-- a gap is skipped, if no gap begins after it
 pub gap_read : (gap rest : List ℕ) → IsGap gap → (Begins StartsGap rest → ⊥) → after_gap false (gap ++ rest) ≡ rest
 gap_read gap rest is_gap stops = gap_passed gap rest is_gap ∙ no_gap rest stops
 
--- and a last gap, with nothing left
+-- a last gap is skipped, and nothing remains
 pub last_read : (bytes : List ℕ) → IsLastGap bytes → after_gap false bytes ≡ []
 last_read bytes (Closed gap) = ap (after_gap false) (sym (append-nil bytes)) ∙ gap_passed bytes [] gap
 last_read bytes (Open gap line parts is_gap is_line) = ap (after_gap false) parts ∙ gap_passed gap (37 ∷ line) is_gap ∙ line_ends line is_line

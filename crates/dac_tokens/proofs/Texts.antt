@@ -1,4 +1,4 @@
--- Whole texts: what is read is what the grammar and the table of faults have, and the other way round.
+-- Whole texts: reading agrees with the grammar and the table of faults, in both directions.
 use Rattle.std.proofs.Common.{◌≡◌, inl, inr, ℕ, zero, suc, ◌+◌, ◌-◌, ◌<◌, ◌≤◌, false, leb, List, [], ◌∷◌, ◌++◌, length, Result, Ok, Err, refl, sym, ap, subst, ◌∙◌, arith, length-append}
 use Rattle.std.specs.Prelude.{IfOk, ◌↔◌}
 use Rattle.std.proofs.lemmas.Bool.{leb-true, leb-false, cond_both, true≢false}
@@ -10,20 +10,20 @@ use Rattle.dac_tokens.specs.Gives.{◌>>=◌}
 use Rattle.dac_tokens.specs.Words.{Word, Punctuation, is_end, Located}
 use Rattle.dac_tokens.specs.Scan.{after_gap, class_of, unsupported, token_of, word_at}
 use Rattle.dac_tokens.specs.Stream.{Stream, opened, depth_after, token_from, and_then, tokens_within, tokens_of, end_at, ended, stopped, taken}
-use Rattle.dac_tokens.specs.TokenGrammar.{Begins, Nothing, IsLastGap, Closed, IsNextToken, AreSpelled, depth_behind, NestWell, AreTokensOf}
+use Rattle.dac_tokens.specs.TokenGrammar.{Begins, Nothing, IsLastGap, Closed, IsNextToken, AreSpelled, depth_after_word, NestWell, AreTokensOf}
 use Rattle.dac_tokens.specs.TokenFaults.{IsOpeningBracket, TooDeep, IsFaultAt, StopAt}
 use Rattle.dac_tokens.proofs.Bytes.{class_is}
 use Rattle.dac_tokens.proofs.Gaps.{IsPassed, length_after_gap, last_gap, gap_before, gap_read, last_read}
 use Rattle.dac_tokens.proofs.Word.{IsToken, StopsThere, Found, word_found, token_read, own_some, no_gap, no_end, step, stop_read}
 
--- what the depth behind a word is: as the grammar has it, or a fault at a 65th open bracket
+-- the depth after a word: that of the grammar, or a fault at a 65th open bracket
 data Depth (at depth : ℕ) : Word → Result ℕ ConfigFault → Type 0 where
-  Within : (w : Word) → depth_behind depth w ≤ 64 → Depth at depth w (Ok (depth_behind depth w))
+  Within : (w : Word) → depth_after_word depth w ≤ 64 → Depth at depth w (Ok (depth_after_word depth w))
   List65 : 64 ≤ depth → Depth at depth (Punctuation OpenList) (Err (record { kind = Unsupported; at = at }))
   Tuple65 : 64 ≤ depth → Depth at depth (Punctuation OpenTuple) (Err (record { kind = Unsupported; at = at }))
 
--- `fault` says what a 65th bracket is
-opened_found : (at depth : ℕ) (w : Word) → depth_behind depth w ≡ depth + 1 → (64 ≤ depth → Depth at depth w (unsupported at)) → Depth at depth w (opened at depth)
+-- `fault` states the result at a 65th bracket
+opened_found : (at depth : ℕ) (w : Word) → depth_after_word depth w ≡ depth + 1 → (64 ≤ depth → Depth at depth w (unsupported at)) → Depth at depth w (opened at depth)
 opened_found at depth w more fault = cond_both (leb 64 depth) (unsupported at) (Ok (depth + 1)) (Depth at depth w) (λ e. fault (leb-true 64 depth e)) (λ e. let lt : depth < 64 = leb-false 64 depth e in rw (← more) (Within w (omega arith)))
 
 depth_found : (at depth : ℕ) (w : Word) → depth ≤ 64 → Depth at depth w (depth_after at depth w)
@@ -31,10 +31,10 @@ depth_found at depth (Punctuation OpenList) le = opened_found at depth (Punctuat
 depth_found at depth (Punctuation OpenTuple) le = opened_found at depth (Punctuation OpenTuple) refl Tuple65
 depth_found at depth w le = Within w (omega arith)
 
-depth_read : (at depth : ℕ) (w : Word) → depth ≤ 64 → depth_behind depth w ≤ 64 → depth_after at depth w ≡ Ok (depth_behind depth w)
+depth_read : (at depth : ℕ) (w : Word) → depth ≤ 64 → depth_after_word depth w ≤ 64 → depth_after at depth w ≡ Ok (depth_after_word depth w)
 depth_read at depth w le within = by w (depth_after at depth w) within (depth_found at depth w le)
   where
-    by : (w : Word) (r : Result ℕ ConfigFault) → depth_behind depth w ≤ 64 → Depth at depth w r → r ≡ Ok (depth_behind depth w)
+    by : (w : Word) (r : Result ℕ ConfigFault) → depth_after_word depth w ≤ 64 → Depth at depth w r → r ≡ Ok (depth_after_word depth w)
     by _ _ within (Within w le) = refl
     by _ _ within (List65 deep) = absurd (omega (arith, within, deep))
     by _ _ within (Tuple65 deep) = absurd (omega (arith, within, deep))
@@ -42,10 +42,10 @@ depth_read at depth w le within = by w (depth_after at depth w) within (depth_fo
 opening_begins : (bytes own rest : List ℕ) (b : ℕ) → bytes ≡ own ++ rest → own ≡ b ∷ [] → IsOpeningBracket b → Begins IsOpeningBracket bytes
 opening_begins bytes own rest b parts is h = rw (parts, is) h
 
--- what stands first in bytes that begin at the offset `at`: the end behind a gap, a token, or a fault
+-- the first item of bytes that begin at the offset `at`: the end after a gap, a token, or a fault
 data First (at end depth : ℕ) (bytes : List ℕ) : Result (Located × ℕ × List ℕ) ConfigFault → Type 0 where
   AtEnd : IsLastGap bytes → First at end depth bytes (Ok (end_at end, depth, []))
-  Next : (t : Located) (own rest : List ℕ) → IsNextToken at bytes t own rest → depth_behind depth t.word ≤ 64 → First at end depth bytes (Ok (t, depth_behind depth t.word, rest))
+  Next : (t : Located) (own rest : List ℕ) → IsNextToken at bytes t own rest → depth_after_word depth t.word ≤ 64 → First at end depth bytes (Ok (t, depth_after_word depth t.word, rest))
   Fault : (e : ConfigFault) → IsFaultAt at depth bytes e → First at end depth bytes (Err e)
 
 step_found : (at end depth offset : ℕ) (bytes rest : List ℕ) → after_gap false bytes ≡ rest → at + length bytes ≡ end → offset + length rest ≡ end → depth ≤ 64 → First at end depth bytes (step depth offset rest)
@@ -86,21 +86,21 @@ first_read at end depth bytes _ whole le (Fault e h) =
     let offset : end - length h.rest + h.behind ≡ e.at = omega (arith, size, whole, h.offset) in
     rw (left, stop.read, offset) refl
 
--- what bytes that begin at the offset `at` are: tokens up to the end, or up to a fault
+-- bytes that begin at the offset `at` are these tokens up to the end, or up to a fault
 abbrev IsText : ℕ → ℕ → ℕ → List ℕ → List Located → Result Located ConfigFault → Type 0
 IsText at end depth bytes ts (Ok t) = (t ≡ end_at end) × AreSpelled at bytes ts × NestWell depth ts
 IsText at end depth bytes ts (Err e) = StopAt at depth bytes ts e
 
--- a token before such a text makes one, and of one that begins with a token the rest is one
-add_first : (at end depth : ℕ) (bytes : List ℕ) (t : Located) (own rest : List ℕ) (ts : List Located) (last : Result Located ConfigFault) → IsNextToken at bytes t own rest → depth_behind depth t.word ≤ 64 → IsText (t.at + length own) end (depth_behind depth t.word) rest ts last → IsText at end depth bytes (t ∷ ts) last
+-- a token before such a text makes such a text
+add_first : (at end depth : ℕ) (bytes : List ℕ) (t : Located) (own rest : List ℕ) (ts : List Located) (last : Result Located ConfigFault) → IsNextToken at bytes t own rest → depth_after_word depth t.word ≤ 64 → IsText (t.at + length own) end (depth_after_word depth t.word) rest ts last → IsText at end depth bytes (t ∷ ts) last
 add_first at end depth bytes t own rest ts (Ok _) next within (is, spelled, nested) = (is, (own, rest, next, spelled), (within, nested))
 add_first at end depth bytes t own rest ts (Err e) next within stop = (own, rest, next, within, stop)
 
-split_first : (at end depth : ℕ) (bytes : List ℕ) (t : Located) (ts : List Located) (last : Result Located ConfigFault) → IsText at end depth bytes (t ∷ ts) last → (own rest : List ℕ) × IsNextToken at bytes t own rest × (depth_behind depth t.word ≤ 64) × IsText (t.at + length own) end (depth_behind depth t.word) rest ts last
+split_first : (at end depth : ℕ) (bytes : List ℕ) (t : Located) (ts : List Located) (last : Result Located ConfigFault) → IsText at end depth bytes (t ∷ ts) last → (own rest : List ℕ) × IsNextToken at bytes t own rest × (depth_after_word depth t.word ≤ 64) × IsText (t.at + length own) end (depth_after_word depth t.word) rest ts last
 split_first at end depth bytes t ts (Ok _) (is, (own, rest, next, spelled), (within, nested)) = (own, rest, next, within, (is, spelled, nested))
 split_first at end depth bytes t ts (Err e) (own, rest, next, within, stop) = (own, rest, next, within, stop)
 
--- fewer bytes are behind a token, and they begin where it ends
+-- fewer bytes follow a token, and they begin where it ends
 behind_token : (at end : ℕ) (bytes : List ℕ) (t : Located) (own rest : List ℕ) → IsNextToken at bytes t own rest → at + length bytes ≡ end → (length rest < length bytes) × (t.at + length own + length rest ≡ end)
 behind_token at end bytes t own rest next whole =
     let size = ap length next.parts ∙ length-append next.gap (own ++ rest) in
@@ -111,13 +111,13 @@ behind_token at end bytes t own rest next whole =
 abbrev IsStream : ℕ → ℕ → ℕ → List ℕ → Stream → Type 0
 IsStream at end depth bytes s = IsText at end depth bytes s.tokens s.last
 
--- what is first, and what was found behind it
+-- the first item, followed by the stream of the rest
 then_found : (at end depth : ℕ) (bytes : List ℕ) (f : ℕ → List ℕ → Stream) (r : Result (Located × ℕ × List ℕ) ConfigFault) → at + length bytes ≡ end → ((at' depth' : ℕ) (rest : List ℕ) → length rest < length bytes → at' + length rest ≡ end → depth' ≤ 64 → IsStream at' end depth' rest (f depth' rest)) → First at end depth bytes r → IsStream at end depth bytes (and_then r f)
 then_found at end depth bytes f _ whole more (AtEnd gap) = (refl, gap, tt)
 then_found at end depth bytes f _ whole more (Next t own rest next within) =
     let h = behind_token at end bytes t own rest next whole in
-    let s = f (depth_behind depth t.word) rest in
-    rw (no_end t.word own rest next.spelled) (add_first at end depth bytes t own rest s.tokens s.last next within (more (t.at + length own) (depth_behind depth t.word) rest h.0 h.1 within))
+    let s = f (depth_after_word depth t.word) rest in
+    rw (no_end t.word own rest next.spelled) (add_first at end depth bytes t own rest s.tokens s.last next within (more (t.at + length own) (depth_after_word depth t.word) rest h.0 h.1 within))
 then_found at end depth bytes f _ whole more (Fault e fault) = fault
 
 within_found : (n at end depth : ℕ) (bytes : List ℕ) → length bytes < n → at + length bytes ≡ end → depth ≤ 64 → IsStream at end depth bytes (tokens_within n end depth bytes)
@@ -135,7 +135,7 @@ within_read [] (Err e) (suc n) at end depth bytes lt whole le fault = rw (first_
 within_read (t ∷ ts) last (suc n) at end depth bytes lt whole le text =
     let (own, rest, next, within, more) = split_first at end depth bytes t ts last text in
     let h = behind_token at end bytes t own rest next whole in
-    rw (first_read at end depth bytes _ whole le (Next t own rest next within), no_end t.word own rest next.spelled, within_read ts last n (t.at + length own) end (depth_behind depth t.word) rest (omega (arith, h.0)) h.1 within more) refl
+    rw (first_read at end depth bytes _ whole le (Next t own rest next within), no_end t.word own rest next.spelled, within_read ts last n (t.at + length own) end (depth_after_word depth t.word) rest (omega (arith, h.0)) h.1 within more) refl
 
 stream_found : (at end depth : ℕ) (bytes : List ℕ) → at + length bytes ≡ end → depth ≤ 64 → IsStream at end depth bytes (tokens_of end depth bytes)
 unfolding tokens_of
@@ -163,7 +163,7 @@ text_ends text = by (tokens_of (length text) 0 text).tokens (tokens_of (length t
     by ts (Ok t) h = h.0
     by ts (Err e) h = tt
 
--- what `next` answers, where these tokens are left: the first and fewer, or the fault
+-- the result of `next` if these tokens are left: the first and fewer, or the fault
 abbrev pub IsTaken : ℕ → Stream → Result (Located × ℕ × List ℕ) ConfigFault → Type 0
 IsTaken end s (Ok x) = (taken s ≡ Ok (x.0, tokens_of end x.1 x.2)) × (length (tokens_of end x.1 x.2).tokens ≤ length s.tokens) × (is_end x.0.word ≡ false → length (tokens_of end x.1 x.2).tokens < length s.tokens)
 IsTaken end s (Err e) = (taken s ≡ Err e) × IsTokenFault e.kind
@@ -175,14 +175,14 @@ first_taken at end depth bytes s _ whole le is (AtEnd gap) =
     rw (now, after) (refl, omega arith, λ f. absurd (true≢false f))
 first_taken at end depth bytes s _ whole le is (Next t own rest next within) =
     let h = behind_token at end bytes t own rest next whole in
-    let more = tokens_of end (depth_behind depth t.word) rest in
-    let now : s ≡ record { tokens = t ∷ more.tokens; last = more.last } = sym is ∙ stream_read at end depth bytes _ whole le (add_first at end depth bytes t own rest more.tokens more.last next within (stream_found (t.at + length own) end (depth_behind depth t.word) rest h.1 within)) in
+    let more = tokens_of end (depth_after_word depth t.word) rest in
+    let now : s ≡ record { tokens = t ∷ more.tokens; last = more.last } = sym is ∙ stream_read at end depth bytes _ whole le (add_first at end depth bytes t own rest more.tokens more.last next within (stream_found (t.at + length own) end (depth_after_word depth t.word) rest h.1 within)) in
     rw now (refl, omega arith, λ _. omega arith)
 first_taken at end depth bytes s _ whole le is (Fault e fault) =
     let now : s ≡ stopped [] e = sym is ∙ stream_read at end depth bytes (stopped [] e) whole le fault in
     (ap taken now, (stop_read depth 0 fault.rest fault.behind e.kind fault.fault).of_token)
 
--- the same by what its parts read: the gap, and then the token
+-- the result of `next`, given the results of its two calls: the gap, and the token
 pub next_taken : (end depth : ℕ) (bytes rest : List ℕ) (s : Stream) (w : Result (Word × List ℕ) ConfigFault) → length bytes ≤ end → depth ≤ 64 → tokens_of end depth bytes ≡ s → rest ≡ after_gap false bytes → length rest ≤ length bytes → word_at (end - length rest) rest ≡ w → IsTaken end s (w >>= λ x. depth_after (end - length rest) depth x.0 >>= λ after. Ok (record { word = x.0; at = end - length rest }, after, x.1))
 next_taken end depth bytes rest s w no_more le is gap within read =
     let whole : end - length bytes + length bytes ≡ end = omega arith in

@@ -1,5 +1,5 @@
--- One word: what reading finds at its first byte, a token or the fault that stands there; what is spelled so is read;
--- and where by the table no token begins, reading has that fault.
+-- One word: the bytes decide between a token and a fault; the bytes of a token are read as this token; and a fault of
+-- the table is the reader's fault.
 use Rattle.std.proofs.Common.{◌≡◌, ◌⊎◌, inl, inr, ℕ, zero, suc, ◌+◌, ◌-◌, ◌<◌, ◌≤◌, Bool, true, false, ◌&&◌, ◌||◌, cond, eqb, leb, List, [], ◌∷◌, ◌++◌, length, take, drop, Result, Ok, Err, refl, sym, ap, subst, ◌∙◌, arith, append_assoc, length-append}
 use Rattle.std.specs.Prelude.{IfOk, All, codes}
 use Rattle.std.specs.Bool.{Decides}
@@ -20,12 +20,12 @@ use Rattle.dac_tokens.specs.Gives.{◌>>=◌}
 use Rattle.dac_tokens.specs.Words.{Word, Punctuation, Name, Number, Text, End, is_end, Located}
 use Rattle.dac_tokens.specs.Scan.{class_of, is_name_byte, is_quotable, is_fun, stretch, ends_stop, breaks_number, bad_token, unsupported, atom_at, closed_at, quoted_at, two_quotes, inside_string, string_at, number_at, negative_at, token_of, word_at}
 use Rattle.dac_tokens.specs.Stream.{depth_after}
-use Rattle.dac_tokens.specs.TokenGrammar.{StartsGap, Begins, IsNameByte, IsQuotable, IsUnquotable, IsDigits, IsNumber, GoesOnAsNumber, IsStringText, Empty, Plain, Escape, Spells}
+use Rattle.dac_tokens.specs.TokenGrammar.{StartsGap, Begins, IsNameByte, IsQuotable, IsUnquotable, IsDigits, IsNumber, ContinuesAsNumber, IsStringText, Empty, Plain, Escape, Spells}
 use Rattle.dac_tokens.specs.TokenFaults.{IsOpeningBracket, IsRefused, IsUnknown, NoToken, LoneDot, LoneMinus, Unknown, Function, OtherNumber, InQuotes, NoQuote, ThreeQuotes, ControlEscape, NoDoubleQuote, Refused, TooDeep}
 use Rattle.dac_tokens.specs.laws.NameBytes.{tells_name_byte}
 use Rattle.dac_tokens.proofs.Bytes.{fails, tells_digit, tells_stop, tells_break, letter_class, digit_class, refused_class, gap_class, unknown_class, IsOf, class_is, stretch-first, taken_length, run_passes, run_stops, run_of, taken_run, dropped_run}
 
--- bytes without a gap before them: those of a token, and the rest behind it
+-- bytes without a gap before them: those of a token, and the rest after it
 pub record IsToken (bytes : List ℕ) (w : Word) (rest : List ℕ) : Type 0 where
   pub own : List ℕ
   pub parts : bytes ≡ own ++ rest
@@ -35,7 +35,7 @@ pub record IsToken (bytes : List ℕ) (w : Word) (rest : List ℕ) : Type 0 wher
 abbrev pub StopsThere : ℕ → ℕ → List ℕ → ConfigFault → Type 0
 StopsThere at depth bytes e = (behind : ℕ) × (e.at ≡ at + behind) × NoToken depth bytes behind e.kind
 
--- a token, or where no gap begins, a fault
+-- a token, or, if no gap begins, a fault
 abbrev pub Found : ℕ → List ℕ → Result (Word × List ℕ) ConfigFault → Type 0
 Found at bytes (Ok x) = IsToken bytes x.0 x.1
 Found at bytes (Err e) = (Begins StartsGap bytes → ⊥) → (depth : ℕ) → StopsThere at depth bytes e
@@ -44,14 +44,14 @@ Found at bytes (Err e) = (Begins StartsGap bytes → ⊥) → (depth : ℕ) → 
 here : (at : ℕ) (bytes : List ℕ) (kind : FaultKind) → ((depth : ℕ) → NoToken depth bytes 0 kind) → Found at bytes (Err (record { kind = kind; at = at }))
 here at bytes kind stop = λ _ depth. (0, omega arith, stop depth)
 
--- quoted atoms, from behind their opening quote
+-- quoted atoms, after their opening quote
 tells_quotable : (b : ℕ) → Decides (is_quotable b) (IsQuotable b)
 tells_quotable b = (λ e. grind (arith, nat_tests), λ h. grind (arith, nat_tests))
 
 unquotable : (b : ℕ) → is_quotable b ≡ false → eqb b 39 ≡ false → IsUnquotable b
 unquotable b no_test other = grind (arith, nat_tests)
 
--- behind an opening quote stand a name and its quote, a name and a refused byte, or a name alone
+-- after an opening quote: a name and its quote, a name and a refused byte, or a name alone
 closed_found : (at : ℕ) (bs name rest : List ℕ) → bs ≡ name ++ rest → All IsQuotable name → (Begins IsQuotable rest → ⊥) → Found at (39 ∷ bs) (closed_at at name rest)
 closed_found at bs name [] parts all ends = here at (39 ∷ bs) BadToken (λ _. NoQuote bs refl (subst (All IsQuotable) (sym (parts ∙ append-nil name)) all))
 closed_found at bs name (b ∷ rest) parts all ends = cond_both (eqb b 39) (Ok (Name name, rest)) (unsupported (at + 1 + length name)) (Found at (39 ∷ bs)) closed refused
@@ -81,21 +81,22 @@ quoted_refused at name (b ∷ rest) all begins = quoted_is at name (b ∷ rest) 
 quoted_open : (at : ℕ) (name : List ℕ) → All IsQuotable name → quoted_at at name ≡ bad_token at
 quoted_open at name all = ap (quoted_at at) (sym (append-nil name)) ∙ quoted_is at name [] all (λ q. q)
 
--- strings, from behind their opening quote: how reading ends at the byte with `offset` bytes before it, where no more of a string's text stands
+-- strings, after their opening quote: the result at the byte with `offset` bytes before it, where the string's text
+-- ends
 data Ending (at offset : ℕ) : List ℕ → Result (Word × List ℕ) ConfigFault → Type 0 where
   Closed : (more : List ℕ) → Ending at offset (34 ∷ more) (Ok (Text, more))
   Control : (more : List ℕ) → Ending at offset (92 ∷ 94 ∷ more) (Err (record { kind = Unsupported; at = offset }))
   Cut : Ending at offset [] (Err (record { kind = BadToken; at = at }))
   Escaped : Ending at offset (92 ∷ []) (Err (record { kind = BadToken; at = at }))
 
--- behind an opening quote at `at`, with `offset` bytes before them, these bytes are a text up to such an end
+-- after an opening quote at `at`, with `offset` bytes before them, these bytes are a text up to such an end
 abbrev FoundInside : ℕ → ℕ → List ℕ → Result (Word × List ℕ) ConfigFault → Type 0
 FoundInside at offset bs r = (inner rest : List ℕ) × (bs ≡ inner ++ rest) × IsStringText inner × Ending at (offset + length inner) rest r
 
 ends_here : (at offset : ℕ) (bs : List ℕ) (r : Result (Word × List ℕ) ConfigFault) → Ending at offset bs r → FoundInside at offset bs r
 ends_here at offset bs r end = ([], bs, refl, Empty, subst (λ (k : ℕ). Ending at k bs r) (omega arith) end)
 
--- one byte more before what was found, or a backslash and the byte that it takes along
+-- one more byte before a text, or a backslash and the byte that it escapes
 plain_more : (at offset b : ℕ) (bs : List ℕ) (r : Result (Word × List ℕ) ConfigFault) → (b ≡ 34 → ⊥) → (b ≡ 92 → ⊥) → FoundInside at (offset + 1) bs r → FoundInside at offset (b ∷ bs) r
 plain_more at offset b bs r no_end no_escape (inner, rest, parts, text, end) = (b ∷ inner, rest, ap (λ (xs : List ℕ). b ∷ xs) parts, Plain b inner no_end no_escape text, subst (λ (k : ℕ). Ending at k rest r) (omega arith) end)
 
@@ -114,14 +115,14 @@ at_byte at offset b bs true d e f _ _ = let is : b ≡ 34 = eqb-true b 34 e in r
 at_byte at offset b bs false true e f _ escaped = let is : b ≡ 92 = eqb-true b 92 f in rw is escaped
 at_byte at offset b bs false false e f found _ = plain_more at offset b bs _ (eqb-false b 34 e) (eqb-false b 92 f) found
 
--- from a byte on, or from the byte behind a backslash
+-- from a byte, or from the byte after a backslash
 inside_found : (at offset : ℕ) (bs : List ℕ) → FoundInside at offset bs (inside_string at offset false bs) × FoundInside at offset (92 ∷ bs) (inside_string at (offset + 1) true bs)
 inside_found at offset [] = (ends_here at offset [] _ Cut, ends_here at offset (92 ∷ []) _ Escaped)
 inside_found at offset (b ∷ bs) =
     let next = inside_found at (offset + 1) bs in
     (at_byte at offset b bs (eqb b 34) (eqb b 92) refl refl next.0 (inside_found at offset bs).1, behind_backslash at offset b bs (eqb b 94) refl (inside_found at (offset + 1 + 1) bs).0)
 
--- the reader's test finds two quotes in a row
+-- the reader's test detects two quotes in a row
 two_in_row : (bs : List ℕ) → two_quotes bs ≡ true → (rest : List ℕ) × (bs ≡ 34 ∷ 34 ∷ rest)
 two_in_row [] e = absurd cc
 two_in_row (b ∷ []) e = absurd cc
@@ -133,7 +134,7 @@ tells_third : (rest : List ℕ) → Decides (two_quotes (34 ∷ rest)) (Begins (
 tells_third [] = (λ e. absurd cc, λ h. absurd h)
 tells_third (b ∷ bs) = Decides-eqb b 34
 
--- what stands behind a string's opening quote
+-- the result after a string's opening quote
 string_found : (at : ℕ) (bs : List ℕ) → Found at (34 ∷ bs) (string_at at bs)
 string_found at bs = by (two_quotes bs) refl
   where
@@ -151,7 +152,7 @@ string_found at bs = by (two_quotes bs) refl
     by true two = here at (34 ∷ bs) Unsupported (λ _. ThreeQuotes (two_in_row bs two).0 (ap (λ (xs : List ℕ). 34 ∷ xs) (two_in_row bs two).1))
     by false two = let h = (inside_found at (at + 1) bs).0 in inside two h.0 h.1 h.2 h.3 (inside_string at (at + 1) false bs) h.4
 
--- a string's text is passed over
+-- a string's text is skipped
 inside_read : (at offset : ℕ) (inner more : List ℕ) → IsStringText inner → inside_string at offset false (inner ++ more) ≡ inside_string at (offset + length inner) false more
 inside_read at offset _ more Empty = ap (λ (k : ℕ). inside_string at k false more) (omega arith)
 inside_read at offset _ more (Plain b inner no_end no_escape text) =
@@ -165,7 +166,7 @@ other_first : (b : ℕ) (bs : List ℕ) → (b ≡ 34 → ⊥) → two_quotes (b
 other_first b [] h = refl
 other_first b (c ∷ bs) h = ap (λ (t : Bool). t && eqb c 34) (ne_eqb b 34 h)
 
--- behind a text no two quotes stand in a row, where none do without it
+-- two quotes don't begin a string's text, unless it is empty and they begin the rest
 no_quotes : (inner more : List ℕ) → IsStringText inner → (inner ≡ [] → two_quotes more ≡ false) → two_quotes (inner ++ more) ≡ false
 no_quotes _ more Empty h = h refl
 no_quotes _ more (Plain b inner no_end no_escape text) h = other_first b (inner ++ more) no_end
@@ -186,7 +187,7 @@ string_open : (at : ℕ) (inner last : List ℕ) → IsStringText inner → (las
 string_open at inner last text (inl e) = rw e (string_is at inner [] text (λ e. refl))
 string_open at inner last text (inr e) = rw e (string_is at inner (92 ∷ []) text (λ e. refl))
 
--- words of other kinds: what is found
+-- words of other kinds
 begins_all : (P : ℕ → Type 0) (bs : List ℕ) → All P bs → 0 < length bs → Begins P bs
 begins_all P [] all lt = absurd (omega arith)
 begins_all P (b ∷ bs) all lt = All-head P b bs all
@@ -247,7 +248,7 @@ word_found class.DoubleQuote at b bs is = rw is (string_found at bs)
 word_found class.Refused at b bs is = here at (b ∷ bs) Unsupported (λ _. Refused is)
 word_found class.Unknown at b bs is = λ no_gap depth. (0, omega arith, Unknown (is no_gap))
 
--- no more is left than there was
+-- the rest is no longer than the bytes
 pub word_no_more : (at : ℕ) (bs : List ℕ) → IfOk (word_at at bs) (λ x. length x.1 ≤ length bs)
 unfolding word_at
 word_no_more at [] = omega arith
@@ -257,7 +258,7 @@ word_no_more at (b ∷ bs) = by (token_of (class_of b) at b bs) (word_found (cla
     by (Ok x) t = let size = ap length t.parts ∙ length-append t.own x.1 in omega (arith, size)
     by (Err e) stop = tt
 
--- how what is spelled so is read
+-- the bytes of a token are read as this token
 atom_is : (at : ℕ) (name rest : List ℕ) → All IsNameByte name → (Begins IsNameByte rest → ⊥) → atom_at at (name ++ rest) ≡ cond (is_fun name) (unsupported at) (Ok (Name name, rest))
 atom_is at name rest all ends =
     rw (taken_run is_name_byte IsNameByte tells_name_byte name rest all ends, dropped_run is_name_byte IsNameByte tells_name_byte name rest all ends) refl
@@ -266,7 +267,7 @@ number_is : (at : ℕ) (negative : Bool) (digits rest : List ℕ) → All IsAsci
 number_is at negative digits rest all ends =
     rw (taken_run is_ascii_digit IsAsciiDigit tells_digit digits rest all ends, dropped_run is_ascii_digit IsAsciiDigit tells_digit digits rest all ends) refl
 
--- whether a number's own bytes are read goes by what stands behind them
+-- whether a number is read depends on the bytes after it
 numbers_are : (negative : Bool) (at : ℕ) (digits own rest : List ℕ) → IsNumber negative digits own → (Begins IsAsciiDigit rest → ⊥) → word_at at (own ++ rest) ≡ cond (breaks_number rest) (unsupported at) (Ok (Number negative digits, rest))
 unfolding word_at
 numbers_are false at [] own rest spelled ends = absurd spelled.1.begins
@@ -276,11 +277,11 @@ numbers_are true at (d ∷ ds) own rest spelled ends =
     let size = run_of is_ascii_digit IsAsciiDigit tells_digit (d ∷ ds) rest spelled.1.goes_on ends in
     rw spelled.0 (cond-false _ _ _ (ne_eqb (stretch is_ascii_digit ((d ∷ ds) ++ rest)) 0 (λ none. omega (arith, size))) ∙ number_is at true (d ∷ ds) rest spelled.1.goes_on ends)
 
-no_digit : (rest : List ℕ) → (GoesOnAsNumber rest → ⊥) → Begins IsAsciiDigit rest → ⊥
+no_digit : (rest : List ℕ) → (ContinuesAsNumber rest → ⊥) → Begins IsAsciiDigit rest → ⊥
 no_digit [] h d = d
 no_digit (b ∷ bs) h d = h (inl d)
 
--- what is spelled so is read
+-- the bytes of any token are read as this token
 pub token_read : (w : Word) (at : ℕ) (own rest : List ℕ) → Spells w own rest → word_at at (own ++ rest) ≡ Ok (w, rest)
 unfolding word_at
 token_read (Punctuation FullStop) at own rest spelled = rw spelled.0 (cond-true _ _ _ ((tells_stop rest).1 spelled.1))
@@ -301,7 +302,7 @@ pub no_end : (w : Word) (own rest : List ℕ) → Spells w own rest → is_end w
 no_end End own rest spelled = absurd spelled
 no_end w own rest spelled = refl
 
--- a token has a byte of its own
+-- a token has at least one byte
 pub own_some : (w : Word) (own rest : List ℕ) → Spells w own rest → 0 < length own
 own_some (Punctuation FullStop) own rest spelled = rw spelled.0 (omega arith)
 own_some (Punctuation symbol) own rest spelled = rw spelled (omega arith)
@@ -325,11 +326,11 @@ no_gap w own rest spelled gap =
     let both : bad_token {A = Word × List ℕ} 0 ≡ Ok (w, rest) = sym (gap_refused 0 (own ++ rest) gap) ∙ token_read w 0 own rest spelled in
     cc
 
--- one token and the depth behind it, as they are read from the front of bytes at `at`
+-- one token and the depth after it, read from the front of bytes at `at`
 abbrev pub step : ℕ → ℕ → List ℕ → Result (Located × ℕ × List ℕ) ConfigFault
 step depth at bytes = word_at at bytes >>= λ word. depth_after at depth word.0 >>= λ after. Ok (record { word = word.0; at = at }, after, word.1)
 
--- what a row of the table of faults says: such a fault is a token's, no gap begins there, and reading has it
+-- a row of the table of faults: its kind is a token fault, no gap begins there, and reading returns it
 pub record IsStop (depth at : ℕ) (bytes : List ℕ) (behind : ℕ) (kind : FaultKind) : Type 0 where
   pub of_token : IsTokenFault kind
   pub no_gap : Begins StartsGap bytes → ⊥
@@ -347,7 +348,7 @@ unfolding word_at
 of_class c P depth at [] kind of_token no_gap is same h = absurd h
 of_class c P depth at (b ∷ bs) kind of_token no_gap is same h = stopped depth at (b ∷ bs) 0 at kind of_token (no_gap b h) (omega arith) (ap (λ (k : Class). token_of k at b bs) (is b h) ∙ same b bs)
 
--- a byte past a space that is no percent sign begins no gap
+-- a byte greater than a space that isn't a percent sign begins no gap
 shut : (n : ℕ) → (leb n 32 || eqb n 37) ≡ false → StartsGap n → ⊥
 shut n other gap = grind (arith, nat_tests)
 
@@ -365,7 +366,7 @@ too_deep depth at [] le h = absurd h
 too_deep depth at (b ∷ bs) le (inl e) = let same : at + 0 ≡ at = omega arith in rw e (record { of_token = tt; no_gap = shut 91 refl; read = rw (le-leb 64 depth le, same) refl })
 too_deep depth at (b ∷ bs) le (inr e) = let same : at + 0 ≡ at = omega arith in rw e (record { of_token = tt; no_gap = shut 123 refl; read = rw (le-leb 64 depth le, same) refl })
 
--- where no token begins reading stops
+-- if by the table no token begins, reading returns that fault
 pub stop_read : (depth at : ℕ) (bytes : List ℕ) (behind : ℕ) (kind : FaultKind) → NoToken depth bytes behind kind → IsStop depth at bytes behind kind
 unfolding word_at
 stop_read depth at bytes _ kind (LoneDot rest parts h) = rw parts (stopped depth at (46 ∷ rest) 0 at BadToken tt (shut 46 refl) (omega arith) (cond-false _ _ _ (fails (ends_stop rest) (tells_stop rest) h)))

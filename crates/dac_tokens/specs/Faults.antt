@@ -1,9 +1,9 @@
--- How a fault is shown, and which faults a token can have.
+-- Numbers and names of faults, and the faults of tokens.
 use Rattle.std.specs.Prelude.{ℕ, List, codes}
 use Rattle.dac_tokens.specs.declared.fault.FaultKind.{FaultKind}
 use Rattle.dac_tokens.specs.declared.fault.FaultKind.TheVariants.{TooLong, BadToken, Unsupported, BadShape, NoDistributed, TwiceApp, TwiceInList, EmptyList, EmptyTuple, TooManyNodes, TooManyApps, NumberTooLarge, NameTooLong, NoMemory}
 
--- the number in the program's output
+-- a kind's number in the program's output
 abbrev pub number_of : FaultKind → ℕ
 number_of TooLong = 1
 number_of BadToken = 2
@@ -20,7 +20,7 @@ number_of NumberTooLarge = 12
 number_of NameTooLong = 13
 number_of NoMemory = 14
 
--- the name in the program's output
+-- a kind's name in the program's output
 abbrev pub name_of : FaultKind → List ℕ
 name_of TooLong = codes "TooLong"
 name_of BadToken = codes "BadToken"

@@ -1,4 +1,4 @@
--- The tokens of a text, one at a time, as they are read.
+-- The first token of a sequence of bytes, as a function.
 use Rattle.std.specs.Prelude.{ℕ, ◌+◌, ◌-◌, Bool, true, false, not, ◌&&◌, ◌||◌, List, [], ◌∷◌, length, take, drop, Result, Ok, Err, nat_le, ◌==◌, if◌then◌else◌, codes}
 use Rattle.std.specs.Str.{bytes_eq}
 use Rattle.std.specs.List.{take_while}
@@ -12,7 +12,7 @@ use Rattle.dac_tokens.specs.declared.token.Stretch.{Stretch}
 use Rattle.dac_tokens.specs.declared.token.Stretch.TheVariants as kind
 use Rattle.dac_tokens.specs.Words.{Word, Punctuation, Name, Number, Text, End}
 
--- how many bytes at the front pass
+-- the number of bytes at the front that pass
 abbrev pub stretch : (ℕ → Bool) → List ℕ → ℕ
 stretch passes bs = length (take_while passes bs)
 
@@ -20,7 +20,7 @@ stretch passes bs = length (take_while passes bs)
 abbrev pub is_blank : ℕ → Bool
 is_blank b = nat_le b 32
 
--- the bytes from the first that is neither blank nor in a comment, which goes on up to a line feed
+-- the bytes from the first one that is neither blank nor in a comment, which extends to a line feed
 abbrev pub after_gap : Bool → List ℕ → List ℕ
 after_gap comment [] = []
 after_gap true (b ∷ bs) = after_gap (not (b == 10)) bs
@@ -29,7 +29,7 @@ after_gap false (b ∷ bs) =
     else (if is_blank b then after_gap false bs
     else b ∷ bs)
 
--- what may begin with a byte
+-- the class of tokens that can begin with a byte
 abbrev pub class_of : ℕ → Class
 class_of b =
     if b == 91 then class.Bracket OpenList
@@ -46,32 +46,32 @@ class_of b =
     else (if b == 60 || b == 35 || b == 36 || b == 43 || b == 126 || b == 124 || nat_le 128 b then class.Refused
     else class.Unknown)))))))))))
 
--- what a bare atom may go on with
+-- a byte that a bare atom can contain after its first
 abbrev pub is_name_byte : ℕ → Bool
 is_name_byte b = is_ascii_alphanumeric b || b == 95 || b == 64
 
--- what a quoted atom may hold
+-- a byte that a quoted atom can contain
 abbrev pub is_quotable : ℕ → Bool
 is_quotable b = nat_le 32 b && not (b == 127) && not (b == 39) && not (b == 92)
 
--- what each kind of stretch is made of
+-- the bytes of each kind of stretch
 abbrev pub goes_on : Stretch → ℕ → Bool
 goes_on kind.Digits = is_ascii_digit
 goes_on kind.Name = is_name_byte
 goes_on kind.Quoted = is_quotable
 
--- a full stop's dot has a blank, a comment or the end behind it
+-- a dot is a full stop if a blank, a comment or the end follows it
 abbrev pub ends_stop : List ℕ → Bool
 ends_stop [] = true
 ends_stop (b ∷ bs) = nat_le b 32 || b == 37
 
--- whether a base, an underscore or a fraction stands behind the digits of a number
+-- whether a base, an underscore or a fraction follows the digits of a number
 abbrev pub breaks_number : List ℕ → Bool
 breaks_number [] = false
 breaks_number (b ∷ []) = b == 35 || b == 95
 breaks_number (b ∷ c ∷ bs) = b == 35 || b == 95 || (b == 46 && is_ascii_digit c)
 
--- the bare word that is no atom
+-- the bare word `fun`, which is no atom
 abbrev pub is_fun : List ℕ → Bool
 is_fun name = bytes_eq name (codes "fun")
 
@@ -81,31 +81,30 @@ bad_token at = Err (record { kind = BadToken; at = at })
 abbrev pub unsupported : {A : Type 0} → ℕ → Result A ConfigFault
 unsupported at = Err (record { kind = Unsupported; at = at })
 
--- the bare atom at the front, which begins at `at`: the longest stretch of its bytes
+-- the bare atom at the front, at offset `at`: the longest stretch of its bytes
 abbrev pub atom_at : ℕ → List ℕ → Result (Word × List ℕ) ConfigFault
 atom_at at bs =
     let n = stretch is_name_byte bs in
     if is_fun (take n bs) then unsupported at else Ok (Name (take n bs), drop n bs)
 
--- the quoted atom of this name, whose opening quote is at `at`, with these bytes behind the name
+-- the quoted atom of this name; its opening quote is at `at`, and these bytes follow the name
 abbrev pub closed_at : ℕ → List ℕ → List ℕ → Result (Word × List ℕ) ConfigFault
 closed_at at name [] = bad_token at
 closed_at at name (b ∷ rest) = if b == 39 then Ok (Name name, rest) else unsupported (at + 1 + length name)
 
--- the quoted atom whose opening quote, at `at`, stands before the bytes
+-- the quoted atom whose opening quote, at `at`, precedes the bytes
 abbrev pub quoted_at : ℕ → List ℕ → Result (Word × List ℕ) ConfigFault
 quoted_at at bs =
     let n = stretch is_quotable bs in
     closed_at at (take n bs) (drop n bs)
 
--- whether two more double quotes stand behind a first
+-- whether two more double quotes follow a first one
 abbrev pub two_quotes : List ℕ → Bool
 two_quotes [] = false
 two_quotes (b ∷ []) = false
 two_quotes (b ∷ c ∷ bs) = b == 34 && c == 34
 
--- reads on in the string whose opening quote is at `at`, from the byte at `offset` on, which a backslash may
--- have taken along
+-- the rest of the string whose opening quote is at `at`, from the byte at `offset`, which a backslash can have escaped
 abbrev pub inside_string : ℕ → ℕ → Bool → List ℕ → Result (Word × List ℕ) ConfigFault
 inside_string at offset escaped [] = bad_token at
 inside_string at offset escaped (b ∷ bs) =
@@ -113,21 +112,21 @@ inside_string at offset escaped (b ∷ bs) =
     else (if not escaped && b == 34 then Ok (Text, bs)
     else inside_string at (offset + 1) (not escaped && b == 92) bs)
 
--- the string whose opening quote, at `at`, stands before the bytes
+-- the string whose opening quote, at `at`, precedes the bytes
 abbrev pub string_at : ℕ → List ℕ → Result (Word × List ℕ) ConfigFault
 string_at at bs = if two_quotes bs then unsupported at else inside_string at (at + 1) false bs
 
--- the digits at the front, of a number that begins at `at`
+-- the number at `at`, whose digits are at the front
 abbrev pub number_at : ℕ → Bool → List ℕ → Result (Word × List ℕ) ConfigFault
 number_at at negative bs =
     let n = stretch is_ascii_digit bs in
     if breaks_number (drop n bs) then unsupported at else Ok (Number negative (take n bs), drop n bs)
 
--- the digits behind a minus at `at`
+-- the digits after a minus at `at`
 abbrev pub negative_at : ℕ → List ℕ → Result (Word × List ℕ) ConfigFault
 negative_at at bs = if stretch is_ascii_digit bs == 0 then bad_token at else number_at at true bs
 
--- the token that begins with the byte b of this class, at `at`, and bs behind it
+-- the token at `at` whose first byte is b, of this class, and which continues in bs
 abbrev pub token_of : Class → ℕ → ℕ → List ℕ → Result (Word × List ℕ) ConfigFault
 token_of (class.Bracket symbol) at b bs = Ok (Punctuation symbol, bs)
 token_of class.Comma at b bs = Ok (Punctuation Comma, bs)
@@ -140,7 +139,7 @@ token_of class.DoubleQuote at b bs = string_at at bs
 token_of class.Refused at b bs = unsupported at
 token_of class.Unknown at b bs = bad_token at
 
--- the token at the front, with no blank before it, and the bytes after it
+-- the token at the front, with no gap before it, and the bytes after it
 unfoldable pub word_at : ℕ → List ℕ → Result (Word × List ℕ) ConfigFault
 word_at at [] = Ok (End, [])
 word_at at (b ∷ bs) = token_of (class_of b) at b bs

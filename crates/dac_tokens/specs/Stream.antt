@@ -7,11 +7,11 @@ use Rattle.dac_tokens.specs.Words.{Word, Punctuation, Name, Number, Text, End, i
 use Rattle.dac_tokens.specs.Gives.{◌>>=◌}
 use Rattle.dac_tokens.specs.Scan.{after_gap, word_at, unsupported}
 
--- one more open bracket, which stands at `at`, where `depth` were open: at most MAX_DEPTH
+-- the depth after an opening bracket at `at`, given `depth` before it: at most MAX_DEPTH
 abbrev pub opened : ℕ → ℕ → Result ℕ ConfigFault
 opened at depth = if nat_le MAX_DEPTH depth then unsupported at else Ok (depth + 1)
 
--- how many brackets are open after a token at `at`, where `depth` were before it
+-- the number of brackets open after a token at `at`, given `depth` before it
 abbrev pub depth_after : ℕ → ℕ → Word → Result ℕ ConfigFault
 depth_after at depth (Punctuation OpenList) = opened at depth
 depth_after at depth (Punctuation OpenTuple) = opened at depth
@@ -24,8 +24,8 @@ depth_after at depth (Number negative digits) = Ok depth
 depth_after at depth Text = Ok depth
 depth_after at depth End = Ok depth
 
--- The first token of the bytes, which stand before the offset `end`, with `depth` brackets open. It comes with the
--- depth after it and the bytes after it.
+-- The first token of bytes that end at the offset `end`, given `depth` open brackets; with the depth and the bytes
+-- after it.
 unfoldable pub token_from : ℕ → ℕ → List ℕ → Result (Located × ℕ × List ℕ) ConfigFault
 token_from end depth bytes = do
   let rest = after_gap false bytes
@@ -34,36 +34,36 @@ token_from end depth bytes = do
   after ← depth_after at depth word.0
   Ok (record { word = word.0; at = at }, after, word.1)
 
--- the tokens of a text up to the end or the first token with a fault of its own, and what is there
+-- the tokens of a text up to the end or the first fault, and that end or fault
 pub record Stream : Type 0 where
   pub tokens : List Located
   pub last : Result Located ConfigFault
 
--- the end of a text of so many bytes
+-- the end of a text of `end` bytes
 abbrev pub end_at : ℕ → Located
 end_at end = record { word = End; at = end }
 
--- these tokens, and the end behind them
+-- these tokens, followed by the end
 abbrev pub ended : ℕ → List Located → Stream
 ended end ts = record { tokens = ts; last = Ok (end_at end) }
 
--- these tokens, and a fault behind them
+-- these tokens, followed by a fault
 abbrev pub stopped : List Located → ConfigFault → Stream
 stopped ts e = record { tokens = ts; last = Err e }
 
--- what was read first, and the tokens after it
+-- the first token read, followed by the tokens of the rest
 abbrev pub and_then : Result (Located × ℕ × List ℕ) ConfigFault → (ℕ → List ℕ → Stream) → Stream
 and_then (Err e) rest = record { tokens = []; last = Err e }
 and_then (Ok first) rest =
     if is_end first.0.word then record { tokens = []; last = Ok first.0 }
     else record { tokens = first.0 ∷ (rest first.1 first.2).tokens; last = (rest first.1 first.2).last }
 
--- at most n tokens
+-- at most n tokens; n bounds the recursion
 unfoldable pub tokens_within : ℕ → ℕ → ℕ → List ℕ → Stream
 tokens_within zero end depth bytes = record { tokens = []; last = Ok (record { word = End; at = end }) }
 tokens_within (suc n) end depth bytes = and_then (token_from end depth bytes) (tokens_within n end)
 
--- the tokens of the bytes, which stand before the offset `end`, with `depth` brackets open
+-- the tokens of bytes that end at the offset `end`, given `depth` open brackets
 unfoldable pub tokens_of : ℕ → ℕ → List ℕ → Stream
 tokens_of end depth bytes = tokens_within (suc (length bytes)) end depth bytes
 
@@ -72,6 +72,6 @@ taken_of [] (Err e) = Err e
 taken_of [] (Ok t) = Ok (t, record { tokens = []; last = Ok t })
 taken_of (t ∷ ts) last = Ok (t, record { tokens = ts; last = last })
 
--- the first token of a stream, and the stream after it; behind the end stands the end
+-- the first token of a stream, and the stream after it; at the end, the end again
 abbrev pub taken : Stream → Result (Located × Stream) ConfigFault
 taken s = taken_of s.tokens s.last

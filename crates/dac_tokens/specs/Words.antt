@@ -1,12 +1,12 @@
--- Tokens without where they lie in memory.
+-- Tokens as values, independent of memory.
 use Rattle.std.specs.Prelude.{ℕ, Bool, true, false, List}
 use Rattle.dac_tokens.specs.declared.token.Symbol.{Symbol}
 use Rattle.dac_tokens.specs.declared.token.Token.{Token}
 use Rattle.dac_tokens.specs.declared.token.Token.TheVariants as tokens
 use Rattle.dac_tokens.specs.declared.token.Located.{Located as LocatedToken}
 
--- A token: a symbol, an atom by its name, or a number by its sign (true: negative) and digits. Or it is a string, of
--- which nothing is kept, or the end of the text
+-- A token: a symbol, an atom by its name, a number by its sign (true: negative) and digits, a string without its
+-- contents, or the end of the text
 pub data Word : Type 0 where
   Punctuation : Symbol → Word
   Name : List ℕ → Word
@@ -28,7 +28,7 @@ is_end (Name name) = false
 is_end (Number negative digits) = false
 is_end Text = false
 
--- a token, and the number of bytes before it
+-- a token with the number of bytes before it
 pub record Located : Type 0 where
   pub word : Word
   pub at : ℕ

@@ -1,4 +1,4 @@
-//! Why a text is no configuration.
+//! The faults of a configuration text.
 
 ghost use Rattle.std.specs.Prelude.{◌≡◌};
 ghost use Rattle.dac_tokens.specs.declared.fault.FaultKind.TheVariants.{NoMemory};
@@ -6,29 +6,28 @@ ghost use Rattle.dac_tokens.specs.declared.fault.FaultKind.TheVariants.{NoMemory
 use std::alloc::{AllocError, AllocFailed};
 use thiserror::Error;
 
-/// What is wrong at an offset of the text. The number of each kind is its place in this list, from 1, and
-/// its name and number are part of the program's output.
+/// A kind of fault. Its number is its position in this list, from 1. Number and name are part of the program's output.
 #[derive(Clone, Copy, Debug, PartialEq, Eq, Error)]
 pub enum FaultKind {
     /// The text has more than 65,536 bytes.
     #[error("TooLong")]
     TooLong = 1,
-    /// No token begins with this byte, or not with what follows it, as a quote that is never closed.
+    /// No token begins with this byte, or the token is incomplete, for example an atom whose quote is never closed.
     #[error("BadToken")]
     BadToken,
-    /// A token of Erlang, or a byte in one, that configurations here can't have.
+    /// An Erlang token, or a byte of one, that configurations can't contain here.
     #[error("Unsupported")]
     Unsupported,
-    /// Another token was wanted here.
+    /// A different token is required here.
     #[error("BadShape")]
     BadShape,
-    /// The text has no application in a parameter `distributed`.
+    /// The parameter `distributed` is missing or lists no application.
     #[error("NoDistributed")]
     NoDistributed,
-    /// An application stands in `distributed` a second time.
+    /// `distributed` lists an application twice.
     #[error("TwiceApp")]
     TwiceApp,
-    /// A node stands in one list a second time.
+    /// A list contains a node twice.
     #[error("TwiceInList")]
     TwiceInList,
     /// A list of nodes is empty.
@@ -37,10 +36,10 @@ pub enum FaultKind {
     /// A tuple of nodes is empty.
     #[error("EmptyTuple")]
     EmptyTuple,
-    /// There are more nodes than a cluster may have.
+    /// The text names more nodes than a cluster can have.
     #[error("TooManyNodes")]
     TooManyNodes,
-    /// There are more applications than a cluster may have.
+    /// The text lists more applications than a cluster can have.
     #[error("TooManyApps")]
     TooManyApps,
     /// A number is above 4,294,967,295.
@@ -49,7 +48,7 @@ pub enum FaultKind {
     /// A name of an application or node has more than 255 bytes.
     #[error("NameTooLong")]
     NameTooLong,
-    /// Memory was refused; nothing is said of the text.
+    /// Out of memory. It carries no information about the text.
     #[error("NoMemory")]
     NoMemory,
 }
@@ -57,14 +56,14 @@ pub enum FaultKind {
 impl FaultKind {
     ghost use Rattle.dac_tokens.specs.Faults.{number_of, name_of};
 
-    /// The number that stands for it in the program's output, 1 to 14.
+    /// The kind's number in the program's output, 1 to 14.
     pub fn number(self) -> u8
         ensures { result ≡ number_of self }
     {
         self as u8
     }
 
-    /// Its name in the program's output, which is also what `Display` prints.
+    /// The kind's name in the program's output, which `Display` prints too.
     pub fn name(self) -> &'static str
         ensures { result.now ≡ name_of self }
     {
@@ -91,9 +90,9 @@ impl FaultKind {
 #[derive(Clone, Copy, Debug, PartialEq, Eq, Error)]
 #[error("{kind} at {at}")]
 pub struct ConfigFault {
-    /// What is wrong.
+    /// The kind of fault.
     pub kind: FaultKind,
-    /// Where: a number of bytes from the start of the text; 0 for `NoMemory`.
+    /// Its offset, in bytes from the start of the text; 0 for `NoMemory`.
     pub at: usize,
 }
 

@@ -1,10 +1,10 @@
-//! The tokens of the configuration text, and what can be wrong with such a text.
+//! The tokens of a configuration text, and the faults that such a text can have.
 //!
-//! A configuration is a term of Erlang in the form of a `sys.config` file. This crate reads its bytes as a list of
-//! tokens, each with the offset of its first byte. It skips blanks and comments, and stops where no token begins. For
-//! whoever reads the tokens it keeps this promise. A text is read without fault exactly as the grammar of tokens
-//! spells it. It is read with a fault exactly where the table of their faults has one. Both are clauses of
-//! [`Tokens::new`]. Which tokens make a configuration is for the crate above.
+//! A configuration is an Erlang term in the form of a `sys.config` file. This crate reads its bytes as a list of
+//! tokens, each with the offset of its first byte. It skips blanks and comments, and stops if no token begins. A text
+//! is read without fault exactly as the grammar of tokens spells it, and with a fault exactly as the table of token
+//! faults states it (clauses of [`Tokens::new`]). `dac_shapes` determines which tokens form a configuration. Nothing
+//! here allocates.
 #![tactic(auto)]
 
 mod fault;

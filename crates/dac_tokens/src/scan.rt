@@ -1,4 +1,4 @@
-//! One token, from the bytes that begin with it.
+//! Scans one token, given the bytes that begin with it.
 
 ghost use Rattle.std.specs.Prelude.{◌≡◌, ◌+◌, ◌^◌, ◌<◌, ◌≤◌, false, length};
 ghost use Rattle.dac_tokens.specs.Gives.{Reads};
@@ -27,7 +27,7 @@ fn bad_token(at: usize) -> ConfigFault
     }
 }
 
-/// The bytes from the first that is neither blank nor in a comment.
+/// The bytes from the first one that is neither blank nor part of a comment.
 pub fn after_gap(bytes: &[u8]) -> &[u8]
     ensures rest { result.now ≡ after_gap false bytes.now }
     ensures within { length result.now ≤ length bytes.now }
@@ -47,7 +47,7 @@ pub fn after_gap(bytes: &[u8]) -> &[u8]
     rest
 }
 
-/// What may begin with a byte.
+/// The class of tokens that can begin with a byte.
 fn class_of(b: u8) -> Class
     ensures { result ≡ class_of b }
 {
@@ -68,7 +68,7 @@ fn class_of(b: u8) -> Class
     }
 }
 
-/// Whether the byte may stand in such a stretch.
+/// Whether a byte can be part of such a stretch.
 fn goes_on(stretch: Stretch, b: u8) -> bool
     ensures { result ≡ goes_on stretch b }
 {
@@ -79,7 +79,7 @@ fn goes_on(stretch: Stretch, b: u8) -> bool
     }
 }
 
-/// How many bytes at the front are such a stretch.
+/// The length in bytes of the stretch at the front.
 fn run_len(kind: Stretch, bytes: &[u8]) -> usize
     ensures length { result ≡ stretch (goes_on kind) bytes.now }
     ensures within { result ≤ length bytes.now }
@@ -87,7 +87,7 @@ fn run_len(kind: Stretch, bytes: &[u8]) -> usize
     bytes.iter().take_while(|b| goes_on(kind, **b)).count()
 }
 
-/// Whether a dot with these bytes behind it is a full stop.
+/// Whether a dot followed by these bytes is a full stop.
 fn ends_stop(bytes: &[u8]) -> bool
     ensures { result ≡ ends_stop bytes.now }
 {
@@ -97,7 +97,7 @@ fn ends_stop(bytes: &[u8]) -> bool
     }
 }
 
-/// Whether digits with these bytes behind them would go on as a fraction, in a base or after an underscore.
+/// Whether digits followed by these bytes continue as a fraction, a base or an underscore.
 fn breaks_number(bytes: &[u8]) -> bool
     ensures { result ≡ breaks_number bytes.now }
 {
@@ -118,7 +118,7 @@ fn atom_at(at: usize, bytes: &[u8]) -> Result<(Token<'_>, &[u8]), ConfigFault>
     Ok((Token::Atom(name), rest))
 }
 
-/// The quoted atom at `at` whose opening quote stands before the bytes.
+/// The quoted atom at `at`; `bytes` follow its opening quote.
 fn quoted_at(at: usize, bytes: &[u8]) -> Result<(Token<'_>, &[u8]), ConfigFault>
     requires { at + 1 + length bytes.now < 2 ^ 64 }
     ensures { Reads (λ x. (word_of x.0, x.1.now)) result (quoted_at at bytes.now) }
@@ -141,7 +141,7 @@ fn number_at(at: usize, negative: bool, bytes: &[u8]) -> Result<(Token<'_>, &[u8
     Ok((Token::Number { negative, digits }, rest))
 }
 
-/// The number at `at` whose minus stands before the bytes.
+/// The negative number at `at`; `bytes` follow its minus.
 fn negative_at(at: usize, bytes: &[u8]) -> Result<(Token<'_>, &[u8]), ConfigFault>
     ensures { Reads (λ x. (word_of x.0, x.1.now)) result (negative_at at bytes.now) }
 {
@@ -151,17 +151,17 @@ fn negative_at(at: usize, bytes: &[u8]) -> Result<(Token<'_>, &[u8]), ConfigFaul
     number_at(at, true, bytes)
 }
 
-/// The string at `at` whose opening quote stands before the bytes.
+/// The string at `at`; `bytes` follow its opening quote.
 fn string_at(at: usize, bytes: &[u8]) -> Result<(Token<'_>, &[u8]), ConfigFault>
     requires { at + 1 + length bytes.now < 2 ^ 64 }
     ensures { Reads (λ x. (word_of x.0, x.1.now)) result (string_at at bytes.now) }
 {
-    // with the opening quote, three in a row
+    // together with the opening quote, three in a row
     if bytes.starts_with(b"\"\"".as_slice()) {
         return Err(unsupported(at));
     }
     let mut rest = bytes;
-    // where the byte before the rest stands
+    // the offset of the byte before `rest`
     let mut before = at;
     let mut escaped = false;
     while let Some((b, tail)) = rest.split_first() {
@@ -176,7 +176,7 @@ fn string_at(at: usize, bytes: &[u8]) -> Result<(Token<'_>, &[u8]), ConfigFault>
     Err(bad_token(at))
 }
 
-/// The token at the front of bytes that begin at `at` with no gap before it, and the bytes behind it.
+/// The token at the front of bytes that begin at `at` without a gap, and the bytes after it.
 #[tactic(auto, unfolding(crate::specs::Scan::word_at))]
 pub fn token_at(at: usize, bytes: &[u8]) -> Result<(Token<'_>, &[u8]), ConfigFault>
     requires { at + length bytes.now < 2 ^ 64 }

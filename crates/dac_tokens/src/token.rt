@@ -1,9 +1,9 @@
 //! The tokens of a text.
 
-/// How many brackets may be open at once.
+/// The maximum number of brackets that are open at once.
 pub const MAX_DEPTH: usize = 64;
 
-/// A token that is one byte.
+/// A token of one byte.
 #[derive(Clone, Copy, Debug, PartialEq, Eq)]
 pub enum Symbol {
     /// `[`
@@ -16,40 +16,40 @@ pub enum Symbol {
     CloseTuple,
     /// `,`
     Comma,
-    /// `.` with a blank, a comment or the end of the text behind it, which ends a term.
+    /// `.` followed by a blank, a comment or the end of the text; it ends a term.
     FullStop,
 }
 
-/// A token, by the bytes of the text that it was read from.
+/// A token, with bytes borrowed from the text.
 #[derive(Clone, Copy, Debug, PartialEq, Eq)]
 pub enum Token<'a> {
     /// A bracket, a comma or the full stop.
     Symbol(Symbol),
-    /// An atom, by its name: its bytes, or those between its quotes, of which there may be none.
+    /// An atom by its name: its bytes, or those between its quotes, which can be none.
     Atom(&'a [u8]),
-    /// A whole number, as it is written: its value is for whoever needs it, with a bound of their own.
+    /// An integer as it is written, so that each reader can apply its own bound.
     Number {
-        /// Whether a minus stands before the digits.
+        /// Whether a minus precedes the digits.
         negative: bool,
-        /// The decimal digits as ASCII, the most significant first, at least one; leading zeros stay.
+        /// The decimal digits as ASCII, most significant first, at least one, with any leading zeros.
         digits: &'a [u8],
     },
-    /// A string. What it holds isn't kept, and several in a row are for the reader of shapes to take as one.
+    /// A string, without its contents. The parser treats several in a row as one string.
     Text,
     /// The end of the text.
     End,
 }
 
-/// A token, and where it stands.
+/// A token with its offset.
 #[derive(Clone, Copy, Debug, PartialEq, Eq)]
 pub struct Located<'a> {
-    /// The token.
+    /// The kind of token, with its bytes.
     pub token: Token<'a>,
-    /// The number of bytes before it; at the end of the text the text's length.
+    /// The number of bytes before it; for `End`, the length of the text.
     pub at: usize,
 }
 
-/// What may begin with a byte behind a gap.
+/// The class of tokens that can begin with a byte after a gap.
 #[derive(Clone, Copy)]
 pub enum Class {
     Bracket(Symbol),
@@ -64,13 +64,13 @@ pub enum Class {
     Unknown,
 }
 
-/// Bytes in a row of which a token is made.
+/// The kinds of consecutive bytes that make up a token.
 #[derive(Clone, Copy)]
 pub enum Stretch {
     /// The digits of a number.
     Digits,
-    /// A bare atom.
+    /// An atom without quotes.
     Name,
-    /// What stands between the quotes of an atom.
+    /// The bytes between the quotes of an atom.
     Quoted,
 }

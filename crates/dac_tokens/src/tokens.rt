@@ -1,4 +1,4 @@
-//! The tokens of a text, one after another.
+//! The stream of a text's tokens.
 
 ghost use Rattle.std.specs.Prelude.{◌≡◌, ◌↔◌, ◌≤◌, List, length, false, ◌<◌, IfOk, IfErr, OnErr};
 ghost use Rattle.dac_tokens.specs.Gives.{Reads};
@@ -13,7 +13,7 @@ use crate::scan::{after_gap, token_at, unsupported};
 use crate::token::{Located, MAX_DEPTH, Symbol, Token};
 use std::marker::Model;
 
-/// How many brackets are open behind a token at `at`, with `depth` open before it.
+/// The number of brackets open after a token at `at`, given `depth` before it.
 fn depth_after(at: usize, depth: usize, token: Token<'_>) -> Result<usize, ConfigFault>
     requires { depth ≤ MAX_DEPTH }
     ensures after { Reads (λ x. x) result (depth_after at depth (word_of token.entry)) }
@@ -32,8 +32,8 @@ fn depth_after(at: usize, depth: usize, token: Token<'_>) -> Result<usize, Confi
     }
 }
 
-/// The tokens that are left of a text, after Erlang's scanner of terms. Contracts see their list, up to the end or
-/// the first fault, and what stands there.
+/// The remaining tokens of a text, as Erlang's scanner of terms defines them. Contracts see them as a list up to the
+/// end or the first fault, together with that end or fault.
 #[derive(Drop)]
 pub struct Tokens<'a> {
     rest: &'a [u8],
@@ -54,15 +54,15 @@ impl<'a> Model for Tokens<'a> {
 }
 
 impl<'a> Tokens<'a> {
-    /// The tokens of a text, whatever its length.
+    /// The tokens of a text of any length, because the parser enforces the limit.
     pub fn new(text: &'a [u8]) -> Self
         ensures read { result ≡ tokens_of (length text.now) 0 text.now }
-        // where no fault comes, the end of the text does
+        // without a fault, the last token is the end of the text
         ensures end { IfOk result.last (λ t. t ≡ end_at (length text.now)) }
         // a text is read without fault exactly as the grammar of tokens spells it
         ensures spelled { (ts : List LocatedWord) →
             (AreTokensOf text.now ts ↔ (result ≡ ended (length text.now) ts)) }
-        // and with a fault exactly where, behind tokens, by the table of faults no token begins
+        // a text is read with a fault exactly if, after these tokens, no token begins by the table of faults
         ensures stopped { (ts : List LocatedWord) (e : ConfigFault) →
             (StopAt 0 0 text.now ts e ↔ (result ≡ stopped ts e)) }
     {
@@ -73,20 +73,20 @@ impl<'a> Tokens<'a> {
         }
     }
 
-    /// The next token; behind the end stands the end again.
+    /// Returns the next token; after the end of the text, the end again.
     ///
     /// # Errors
     ///
-    /// Where no token begins, mostly at the first byte of what stands there. `Unsupported` is what Erlang has and this
-    /// doesn't read:
+    /// If no token begins, mostly at the first byte after the gap. `Unsupported` stands for Erlang syntax that isn't
+    /// read here:
     ///
-    /// - `<`, `#`, `$`, `+`, `~`, `|`, a byte from 80 hexadecimal on, and the word `fun`;
+    /// - `<`, `#`, `$`, `+`, `~`, `|`, a byte of 80 hexadecimal or more, and the word `fun`;
     /// - a number with a fraction, a base or underscores, three double quotes in a row, and a 65th open bracket;
-    /// - a backslash or control character (below a space, or 7F hexadecimal) in a quoted atom, and a backslash before `^`
-    ///   in a string. These are at their own offset, and come before a missing quote.
+    /// - a backslash or control character (below a space, or 7F hexadecimal) in a quoted atom, and a backslash before
+    ///   `^` in a string. These are reported at their own offset, and before a missing quote.
     ///
-    /// `BadToken` is anything else, as a dot that ends no term, or an atom or string whose quote is never closed. Then
-    /// nothing is taken: the next call answers the same.
+    /// `BadToken` is anything else, for example a dot that ends no term, or an atom or string whose quote is never
+    /// closed. A fault consumes nothing, so that the next call returns it again.
     pub fn next(&mut self) -> Result<Located<'a>, ConfigFault>
         ensures taken { Reads (λ x. (located_of x, self.new)) result (taken self.old) }
         ensures fault { IfErr result (λ e. IsTokenFault e.kind) }

@@ -1,4 +1,4 @@
--- Numbers filed under labels, and what is found by them.
+-- The hash table finds every item that was put.
 use Rattle.std.proofs.Common.{◌≡◌, ◌≢◌, ℕ, zero, suc, ◌+◌, ◌-◌, ◌<◌, ◌≤◌, ◌%◌, true, false, cond, inl, inr, ◌⊎◌, List, [], ◌∷◌, ◌++◌, Some, None, length, nat_eq, refl, sym, ap, subst, ◌∙◌, arith, below_more}
 use Rattle.std.specs.List.{slice_get, slice_set, slice_index_or}
 use Rattle.std.specs.Global.{Vec}
@@ -12,9 +12,9 @@ use Rattle.std.proofs.lemmas.Option.{slice_get-map}
 use Rattle.std.specs.Option.{option_map}
 use Rattle.dac_journal.specs.ModelWorld.{counted}
 use Rattle.dac_weave.specs.Labels.{lent}
-use Rattle.dac_weave.specs.Filing.{numbers_of, bucket_of, IsFiledIn, Files, IsKept, Finds}
+use Rattle.dac_weave.specs.Indexing.{numbers_of, bucket_of, IsFiledIn, Files, IsKept, Finds}
 
--- what holds anyway holds of an error
+-- a fact that holds anyway holds on an error
 pub on_err : {A E P : Type 0} (r : Result A E) → P → OnErr r P
 on_err (Ok x) p = tt
 on_err (Err e) p = p
@@ -92,7 +92,7 @@ pub files : (lists : List (Vec ℕ)) (label n number : ℕ) (u v : Vec ℕ) → 
 files lists label n number u v long there is =
     files-at lists (label % n) number u v there is label (ap (λ k. label % k) (sym long))
 
--- no more where memory is refused
+-- a refused allocation changes no bucket
 pub keeps : (lists : List (Vec ℕ)) (label n : ℕ) (u v : Vec ℕ) → n ≡ length lists → slice_get lists (label % n) ≡ Some u → v.items ≡ u.items → IsKept lists (slice_set lists (label % n) v)
 keeps lists label n u v long there is q =
     let p = label % n in
@@ -123,18 +123,18 @@ none-in lists h label k is = elim (slice_get lists (label % length lists)) as (�
     nothing : slice_get {X = ℕ} [] is.0 ≡ Some k → ⊥
     nothing e = cc
 
--- ---- what is found
+-- ---- lookup
 module _ {X : Type 0} (label_of : X → ℕ) where
   pub finds-new : (lists : List (Vec ℕ)) → ((label k : ℕ) → IsFiledIn lists label k → ⊥) → Finds label_of [] lists
   finds-new lists none = record { within = λ q k h. absurd (none q k h); found = λ i x h. cc }
 
-  -- where no place of its bucket has it, no place has
+  -- an item that its bucket lacks is nowhere
   pub found-none : (xs : List X) (lists : List (Vec ℕ)) (x : X) → Finds label_of xs lists → ((i k : ℕ) → slice_get (bucket_of lists (label_of x)) i ≡ Some k → slice_get xs k ≡ Some x → ⊥) → (k : ℕ) → slice_get xs k ≡ Some x → ⊥
   found-none xs lists x finds none k at =
       let f = finds.found k x at in
       none f.1.0.0 f.0 f.1.0.1 f.1.1
 
-  -- one more, of which there is an equal one
+  -- appending an item that has an equal one keeps the index
   pub finds-again : (xs : List X) (lists : List (Vec ℕ)) (x : X) (k : ℕ) → slice_get xs k ≡ Some x → Finds label_of xs lists → Finds label_of (xs ++ x ∷ []) lists
   finds-again xs lists x k there finds = record {
     within = λ q i h. let w = finds.within q i h in (w.0, at-left xs (x ∷ []) i w.0 w.1);
@@ -147,7 +147,7 @@ module _ {X : Type 0} (label_of : X → ℕ) where
       more : (y : X) → ((m : ℕ) × (IsFiledIn lists (label_of y) m × (slice_get xs m ≡ Some y))) → (m : ℕ) × (IsFiledIn lists (label_of y) m × (slice_get (xs ++ x ∷ []) m ≡ Some y))
       more y f = (f.0, (f.1.0, at-left xs (x ∷ []) f.0 y f.1.1))
 
-  -- one more, filed under its label
+  -- appending an item and filing it keeps the index
   pub finds-filed : (xs : List X) (lists new : List (Vec ℕ)) (x : X) (n : ℕ) → n ≡ length xs → Files lists (label_of x) n new → Finds label_of xs lists → Finds label_of (xs ++ x ∷ []) new
   finds-filed xs lists new x n long filed finds = record {
     within = λ q i h. elim (filed.only q i h) [
@@ -173,7 +173,7 @@ module _ {X : Type 0} (label_of : X → ℕ) where
   pub filed-there : (xs : List X) (lists : List (Vec ℕ)) (q i p : ℕ) (bucket : List ℕ) → Finds label_of xs lists → bucket ≡ bucket_of lists q → slice_get bucket i ≡ Some p → (x : X) × (slice_get xs p ≡ Some x)
   filed-there xs lists q i p bucket finds is at = finds.within q p (i, subst (λ ns. slice_get ns i ≡ Some p) is at)
 
-  -- ---- where the items are lent
+  -- ---- lists of references
   pub finds-empty : (items : List (Bor X)) (lists : List (Vec ℕ)) → items ≡ [] → ((label k : ℕ) → IsFiledIn lists label k → ⊥) → Finds label_of (lent items) lists
   finds-empty items lists e none = subst (λ (bs : List (Bor X)). Finds label_of (lent bs) lists) (sym e) (finds-new lists none)
 
@@ -182,14 +182,14 @@ module _ {X : Type 0} (label_of : X → ℕ) where
       let there = filed-there (lent items) lists q i p bucket finds is at in
       subst (λ n. p < n) (length-map items (λ (x : Bor X). x.now)) (slice_get_within (lent items) p there.0 there.1)
 
-  -- what is read of lent items
+  -- reading a referenced item
   pub lent-at : (items : List (Bor X)) (p : ℕ) (b : Bor X) → p < length items → b ≡ slice_index_or items p b → slice_get (lent items) p ≡ Some b.now
   lent-at items p b lt read = slice_get-map (λ (x : Bor X). x.now) items p ∙ ap (option_map (λ (x : Bor X). x.now)) (slice_get_read items (length items) p b refl lt read)
 
   same_some : (x y : X) → Some x ≡ Some y → x ≡ y
   same_some x y e = cc
 
-  -- the bucket's places so far have no equal item, and this one's neither
+  -- the search goes on past an item that differs
   pub none-more : (xs : List X) (bucket : List ℕ) (n p : ℕ) (x y : X) → ((i : ℕ) → i < n → (k : ℕ) → slice_get bucket i ≡ Some k → slice_get xs k ≡ Some x → ⊥) → slice_get bucket n ≡ Some p → slice_get xs p ≡ Some y → (y ≡ x → ⊥) → (i : ℕ) → i < n + 1 → (k : ℕ) → slice_get bucket i ≡ Some k → slice_get xs k ≡ Some x → ⊥
   none-more xs bucket n p x y before here there ne =
       below_more (λ i. (k : ℕ) → slice_get bucket i ≡ Some k → slice_get xs k ≡ Some x → ⊥) n before
@@ -198,7 +198,7 @@ module _ {X : Type 0} (label_of : X → ℕ) where
       number : {p k : ℕ} → Some p ≡ Some k → p ≡ k
       number e = cc
 
-  -- all of the bucket is seen
+  -- the search has seen the whole bucket
   pub nowhere : (xs : List X) (lists : List (Vec ℕ)) (x : X) (q : ℕ) (bucket : List ℕ) (n : ℕ) → Finds label_of xs lists → q ≡ label_of x → bucket ≡ bucket_of lists q → length bucket ≤ n → ((i : ℕ) → i < n → (k : ℕ) → slice_get bucket i ≡ Some k → slice_get xs k ≡ Some x → ⊥) → (k : ℕ) → counted xs k ≡ Some x → ⊥
   nowhere xs lists x q bucket n finds label is long none k at =
       found-none xs lists x finds
@@ -208,7 +208,7 @@ module _ {X : Type 0} (label_of : X → ℕ) where
       within : (i : ℕ) → i < length bucket → i < n
       within i lt = omega arith
 
-  -- ---- one more that is lent
+  -- ---- appending a reference
   lent-push : (items : List (Bor X)) (b : Bor X) → lent (items ++ b ∷ []) ≡ lent items ++ b.now ∷ []
   lent-push [] b = refl
   lent-push (x ∷ items) b = ap (λ xs. x.now ∷ xs) (lent-push items b)

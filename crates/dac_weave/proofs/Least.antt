@@ -1,4 +1,4 @@
--- The first by name of some journals, sought one after another.
+-- The journal of the least node, found by a linear search.
 use Rattle.std.proofs.Common.{◌≡◌, ℕ, zero, suc, ◌+◌, ◌<◌, ◌≤◌, Bool, true, false, true≢false, inl, inr, List, [], ◌∷◌, Option, Some, None, length, refl, sym, ap, subst, ◌∙◌, arith, below_more}
 use Rattle.std.specs.Prelude.{MatchOption, IsTrue, ◌↔◌}
 use Rattle.std.proofs.lemmas.Option.{slice_get_within}
@@ -13,7 +13,7 @@ pub one_at : (js : List JournalValue) (i : ℕ) (a b : JournalValue) → At js i
 one_at js i a b p q = same_journal a b (sym p ∙ q)
 
 module _ (js : List JournalValue) (among : ℕ → JournalValue → Type 0) where
-  -- of those before i the first by name, if there is one
+  -- k is the journal of the least node among those before i
   pub record FirstBefore (i k : ℕ) : Type 0 where
     pub journal : JournalValue
     pub there : At js k journal
@@ -92,7 +92,7 @@ journal_there (j ∷ js) (suc i) lt = journal_there js i (less lt)
     less : suc i < suc (length js) → i < length js
     less lt = omega arith
 
--- ---- a test of each
+-- ---- testing each journal
 module _ (js : List JournalValue) (among : ℕ → JournalValue → Type 0) (i : ℕ) (least : Option ℕ) (lt : i < length js) (h : SoFar js among i least) (test : Bool) (tests : (j : JournalValue) → At js i j → IsTrue test ↔ among i j) where
   pub passed : test ≡ true → (r : ℕ) → MatchOption least (r ≡ i) (λ k. IsLesser js k i r) → SoFar js among (i + 1) (Some r)
   passed e r lesser = let j = journal_there js i lt in found js among i least r j.0 j.1 ((tests j.0 j.1).0 e) h lesser

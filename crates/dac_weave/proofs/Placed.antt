@@ -1,4 +1,4 @@
--- What the merge keeps.
+-- The merge keeps its invariant.
 use Rattle.std.proofs.Common.{◌≡◌, ◌≢◌, ℕ, zero, suc, ◌+◌, ◌-◌, ◌<◌, ◌≤◌, cond, inl, inr, ◌⊎◌, List, [], ◌∷◌, ◌++◌, Option, Some, None, Result, Ok, Err, length, take, drop, get_or, nat_eq, refl, sym, ap, subst, ◌∙◌, append-nil, arith, below_more}
 use Rattle.std.specs.Prelude.{MatchOption}
 use Rattle.std.specs.List.{slice_get, AllZip}
@@ -20,11 +20,11 @@ use Rattle.dac_journal.specs.ModelWorld.{ModelWorld, start, event_of}
 use Rattle.dac_weave.specs.declared.cursor.Cursor.{Cursor}
 use Rattle.dac_weave.specs.declared.merge.Merge.{Merge}
 use Rattle.dac_journal.specs.Journals.{JournalValue}
-use Rattle.dac_weave.specs.Woven.{Seen, seen_of, seen_in, as_seen, journal_seen, worldly, At, IsFrontOf, AllFit, Gives, GivesFronts, IsFirst, IsStuckAt, IsUnwoven}
+use Rattle.dac_weave.specs.Woven.{Seen, seen_of, seen_in, as_seen, journal_seen, as_world_result, At, IsPrefixOf, AllFit, Gives, ReproducesPrefixes, IsFirst, IsStuckAt, IsUnwoven}
 use Rattle.dac_weave.specs.Replay.{node_step, replayed, AreAnswered}
 use Rattle.dac_journal.specs.EveryList.{run_from}
 use Rattle.dac_weave.specs.Names.{Begins, issued_in, shipped_in}
-use Rattle.dac_weave.specs.Placing.{IsCursor, HaveCursors, Weaves, CanBePlaced, IsStill, StillBetween, AllStill, Places, PlacesRecord, longer, IsLeft, IsLeftAt, AllWhole}
+use Rattle.dac_weave.specs.Placing.{IsCursor, HaveCursors, Weaves, CanBePlaced, IsBlocked, BlockedBetween, AllBlocked, Places, PlacesRecord, longer, IsLeft, IsLeftAt, AllWhole}
 use Rattle.dac_weave.specs.laws.Members.{not_true}
 use Rattle.dac_weave.specs.laws.Runs.{eq_self, node-after, count-after, seen-append, run-append, steps_node, grows, shipped_of, issued_of}
 use Rattle.dac_weave.proofs.Replays.{take-push, journal_seen-at, so_far}
@@ -88,7 +88,7 @@ zero_least n m e = omega arith
 pub weaves-new : (t : Table) (js : List JournalValue) (l : Merge) → AllZip (Begins t) js l.cursors.items → IsEmpty l → Weaves t js l
 weaves-new t js l zip empty = record {
   count = AllZip-length (Begins t) js l.cursors.items zip;
-  cursors = λ i j s at sat. let b = AllZip-at (Begins t) js l.cursors.items i j s zip at sat in record { placed = zero_least s.placed s.good b.placed; longest = b.longest };
+  cursors = λ i j s at sat. let b = AllZip-at (Begins t) js l.cursors.items i j s zip at sat in record { placed = zero_least s.placed s.valid b.placed; longest = b.longest };
   seen = λ i j s at sat. let b = AllZip-at (Begins t) js l.cursors.items i j s zip at sat in ap (λ es. seen_in t es j.beginning.node) empty.events ∙ ap (λ k. take k (journal_seen j)) (sym b.placed);
   others = λ n none. ap (λ es. seen_in t es n) empty.events;
   operations = empty.operations ∙ ap (λ es. (run_from t (start t) es).operations) (sym empty.events);
@@ -99,7 +99,7 @@ pub fits-weaves : (t : Table) (js : List JournalValue) (l : Merge) → Weaves t 
 fits-weaves t js l w = record { count = w.count; within = λ i j s at sat. (w.cursors i j s at sat).longest.within }
 
 -- ---- placing one
--- an answer of a history is the step's after what comes before it
+-- a result within the replayed prefix is the step's after the records before it
 history-at : (t : Table) (n : NodeId) (d : ModelNode) (xs : List Seen) (g k : ℕ) (x : Seen) → AreAnswered t n d (take g xs) → k < g → At xs k x → x.answer ≡ (node_step t n (replayed t n d (take k xs)) x.event).answer
 history-at t n d [] g k x h lt at = cc
 history-at t n d (y ∷ xs) zero k x h lt at = absurd (omega arith)
@@ -112,13 +112,13 @@ history-at t n d (y ∷ xs) (suc g) (suc k) x h lt at = history-at t n (node_ste
     less : suc k < suc g → k < g
     less p = omega arith
 
-issued-worldly : (a : Result Reply Refusal) → issued_of (worldly a) ≡ issued_in a
-issued-worldly (Ok x) = refl
-issued-worldly (Err x) = refl
+issued-as_world_result : (a : Result Reply Refusal) → issued_of (as_world_result a) ≡ issued_in a
+issued-as_world_result (Ok x) = refl
+issued-as_world_result (Err x) = refl
 
-shipped-worldly : (a : Result Reply Refusal) → shipped_of (worldly a) ≡ shipped_in a
-shipped-worldly (Ok x) = refl
-shipped-worldly (Err x) = refl
+shipped-as_world_result : (a : Result Reply Refusal) → shipped_of (as_world_result a) ≡ shipped_in a
+shipped-as_world_result (Ok x) = refl
+shipped-as_world_result (Err x) = refl
 
 module _ (t : Table) (js : List JournalValue) (old : Merge) (i : ℕ) (what : What) (w : Weaves t js old) (fit : AllFit js) (ready : CanBePlaced js old i what) where
   abbrev world : ModelWorld
@@ -137,8 +137,8 @@ module _ (t : Table) (js : List JournalValue) (old : Merge) (i : ℕ) (what : Wh
   placed_seen =
       let j = ready.journal in
       let steps = steps_node t j.beginning.node world event (count-after t (start t) old.events.items refl) (eq_self j.beginning.node.0) in
-      let history = history-at t j.beginning.node (off_after 0) (journal_seen j) ready.cursor.good ready.cursor.placed (as_seen ready.next) (w.cursors i j ready.cursor ready.at ready.cursor_at).longest.answered ready.left (journal_seen-at j ready.cursor.placed ready.next ready.next_at) in
-      let answer : (seen_of t world event).answer ≡ worldly ready.next.answer =
+      let history = history-at t j.beginning.node (off_after 0) (journal_seen j) ready.cursor.valid ready.cursor.placed (as_seen ready.next) (w.cursors i j ready.cursor ready.at ready.cursor_at).longest.answered ready.left (journal_seen-at j ready.cursor.placed ready.next ready.next_at) in
+      let answer : (seen_of t world event).answer ≡ as_world_result ready.next.answer =
       steps.answer
       ∙ (ap (λ d. (node_step t j.beginning.node d (seen_of t world event).event).answer) (node-after t j.beginning.node (start t) old.events.items refl ∙ ap (replayed t j.beginning.node (off_after 0)) here_seen)
       ∙ (ap (λ e. (node_step t j.beginning.node (so_far t j ready.cursor.placed) e).answer) placed_event ∙ sym history)) in
@@ -163,7 +163,7 @@ module _ (t : Table) (js : List JournalValue) (old : Merge) (i : ℕ) (what : Wh
     abbrev does : PlacesRecord old i what new ready.journal ready.cursor ready.next
     does = placed.each ready.journal ready.cursor ready.next ready.at ready.cursor_at ready.next_at
 
-    -- another journal is another node's
+    -- another journal belongs to another node
     apart : (k : ℕ) (b : JournalValue) → At js k b → k ≢ i → ready.journal.beginning.node ≢ b.beginning.node
     apart k b at ne same = fit k b at (inr (i, (ready.journal, (ready.at, ((λ e. ne (sym e)), same)))))
 
@@ -173,7 +173,7 @@ module _ (t : Table) (js : List JournalValue) (old : Merge) (i : ℕ) (what : Wh
     own_journal : (k : ℕ) (b : JournalValue) → At js k b → k ≡ i → ready.journal ≡ b
     own_journal k b at e = one_at js i ready.journal b ready.at (subst (λ m. At js m b) e at)
 
-    up_to : ready.cursor.placed + 1 ≤ ready.cursor.good
+    up_to : ready.cursor.placed + 1 ≤ ready.cursor.valid
     up_to = let lt = ready.left in omega arith
 
     pub weaves-place : Weaves t js new
@@ -189,28 +189,28 @@ module _ (t : Table) (js : List JournalValue) (old : Merge) (i : ℕ) (what : Wh
       ];
       others = λ n none. ap (λ es. seen_in t es n) does.events ∙ (more_else n (none i ready.journal ready.at) ∙ w.others n none);
       operations = does.operations ∙ (ap (λ (os : List Operation). os ++ issued_in ready.next.answer) w.operations
-          ∙ (ap (λ (os : List Operation). world.operations ++ os) (sym (issued-worldly ready.next.answer) ∙ ap (λ (x : Seen). issued_of x.answer) (sym placed_seen))
+          ∙ (ap (λ (os : List Operation). world.operations ++ os) (sym (issued-as_world_result ready.next.answer) ∙ ap (λ (x : Seen). issued_of x.answer) (sym placed_seen))
           ∙ (sym (grows t world event).operations ∙ (ap (λ (v : ModelWorld). v.operations) (sym (run-append t (start t) old.events.items (event ∷ []))) ∙ ap (λ es. (run_from t (start t) es).operations) (sym does.events)))));
       messages = does.messages ∙ (ap (λ (ms : List Message). ms ++ shipped_in ready.next.answer) w.messages
-          ∙ (ap (λ (ms : List Message). world.messages ++ ms) (sym (shipped-worldly ready.next.answer) ∙ ap (λ (x : Seen). shipped_of x.answer) (sym placed_seen))
+          ∙ (ap (λ (ms : List Message). world.messages ++ ms) (sym (shipped-as_world_result ready.next.answer) ∙ ap (λ (x : Seen). shipped_of x.answer) (sym placed_seen))
           ∙ (sym (grows t world event).messages ∙ (ap (λ (v : ModelWorld). v.messages) (sym (run-append t (start t) old.events.items (event ∷ []))) ∙ ap (λ es. (run_from t (start t) es).messages) (sym does.events)))));
     }
 
 -- ---- seeking
-pub still-more : (js : List JournalValue) (l : Merge) (low i : ℕ) → StillBetween js l low i → IsStill js l i → StillBetween js l low (i + 1)
-still-more js l low i before here k le lt = below_more (λ m. low ≤ m → IsStill js l m) i (λ m less from. before m from less) (λ _. here) k lt le
+pub still-more : (js : List JournalValue) (l : Merge) (low i : ℕ) → BlockedBetween js l low i → IsBlocked js l i → BlockedBetween js l low (i + 1)
+still-more js l low i before here k le lt = below_more (λ m. low ≤ m → IsBlocked js l m) i (λ m less from. before m from less) (λ _. here) k lt le
 
-pub still-all : (js : List JournalValue) (l : Merge) (from high : ℕ) → high ≡ length js → StillBetween js l from high → StillBetween js l 0 from → AllStill js l
+pub still-all : (js : List JournalValue) (l : Merge) (from high : ℕ) → high ≡ length js → BlockedBetween js l from high → BlockedBetween js l 0 from → AllBlocked js l
 still-all js l from high long above below i lt = elim (cases_lt i from) [
   | inl less ↦ below i (omega arith) less
   | inr more ↦ above i more (omega arith)
 ]
 
-pub still-found : (js : List JournalValue) (l : Merge) (from high : ℕ) → high ≡ length js → StillBetween js l from high → {X : Type 0} (Q : X → Type 0) (o : Option X) → MatchOption o (StillBetween js l 0 from) Q → MatchOption o (AllStill js l) Q
+pub still-found : (js : List JournalValue) (l : Merge) (from high : ℕ) → high ≡ length js → BlockedBetween js l from high → {X : Type 0} (Q : X → Type 0) (o : Option X) → MatchOption o (BlockedBetween js l 0 from) Q → MatchOption o (AllBlocked js l) Q
 still-found js l from high long above Q None h = still-all js l from high long above h
 still-found js l from high long above Q (Some x) h = h
 
--- ---- the cursors, one after another
+-- ---- the list of cursors
 both_push : {A B : Type 0} (R : A → B → Type 0) (xs : List A) (ys : List B) (x : A) (y : B) → AllZip R xs ys → R x y → AllZip R (xs ++ x ∷ []) (ys ++ y ∷ [])
 both_push R [] [] x y h r = (r, tt)
 both_push R [] (v ∷ ys) x y h r = elim h [ ]
@@ -223,7 +223,7 @@ begun_more t js i j ss more s lt read zip begins is =
     (subst (λ (xs : List JournalValue). AllZip (Begins t) xs (ss ++ s ∷ [])) (sym (take_more js i j lt ∙ ap (λ x. take i js ++ x ∷ []) (sym read)))
     (both_push (Begins t) (take i js) ss j s zip begins))
 
--- ---- what is left to place
+-- ---- the number of unplaced records, which decreases
 pub unplaced : List JournalValue → List Cursor → ℕ
 unplaced [] ss = 0
 unplaced (j ∷ js) [] = 0
@@ -253,7 +253,7 @@ unplaced-place t js old i what new w ready placed =
     within : ready.cursor.placed < length ready.journal.records
     within = let a = ready.left in let b = (w.cursors i ready.journal ready.cursor ready.at ready.cursor_at).longest.within in omega arith
 
--- ---- where nothing can be placed
+-- ---- no record can be placed
 at_end : (xs : List Seen) (x : Seen) (rest : List Seen) → slice_get ((xs ++ x ∷ []) ++ rest) (length xs) ≡ Some x
 at_end [] x rest = refl
 at_end (y ∷ xs) x rest = at_end xs x rest
@@ -265,7 +265,7 @@ at_front all k x rest le e =
 journal_seen-long : (t : Table) (j : JournalValue) (s : Cursor) → IsCursor t j s → s.placed ≤ length (journal_seen j)
 journal_seen-long t j s k = let a = k.placed in let b = k.longest.within in rw length-map (omega arith)
 
-pub stands : (t : Table) (js : List JournalValue) (l : Merge) → Weaves t js l → AllStill js l → Stands t js l.events.items
+pub stands : (t : Table) (js : List JournalValue) (l : Merge) → Weaves t js l → AllBlocked js l → Stands t js l.events.items
 stands t js l w still i j at x front answer what named =
     let k = still i (slice_get_within js i j at) in
     let same : k.journal ≡ j = one_at js i k.journal j k.at at in
@@ -274,7 +274,7 @@ stands t js l w still i j at x front answer what named =
     let there : At (journal_seen j) k.cursor.placed x = at_front (journal_seen j) k.cursor.placed x front.0 (journal_seen-long t j k.cursor cursor) (front.1 ∙ ap (λ xs. (xs ++ x ∷ []) ++ front.0) seen) in
     elim k.cause [
       | inl used ↦
-          let whole : k.cursor.placed ≡ k.cursor.good = (let a = cursor.placed in omega arith) in
+          let whole : k.cursor.placed ≡ k.cursor.valid = (let a = cursor.placed in omega arith) in
           cursor.longest.ends x (subst (λ n. At (journal_seen j) n x) whole there)
           (answer ∙ ap (λ d. (node_step t j.beginning.node d x.event).answer) (node-after t j.beginning.node (start t) l.events.items refl ∙ ap (replayed t j.beginning.node (off_after 0)) (seen ∙ ap (λ n. take n (journal_seen j)) whole)))
       | inr next ↦
@@ -304,7 +304,7 @@ cursor_there (k ∷ js) (r ∷ ss) (suc i) j e at = cursor_there js ss i j (less
     less e = omega arith
 
 module _ (t : Table) (js : List JournalValue) (l : Merge) (w : Weaves t js l) (fit : AllFit js) where
-  -- a journal of which nothing is left is given whole
+  -- a journal placed whole is reproduced whole
   given_whole : (i : ℕ) (j : JournalValue) → At js i j → (IsLeft l.cursors.items i j → ⊥) → seen_in t l.events.items j.beginning.node ≡ journal_seen j
   given_whole i j at not =
       let s = cursor_there js l.cursors.items i j w.count at in
@@ -313,7 +313,7 @@ module _ (t : Table) (js : List JournalValue) (l : Merge) (w : Weaves t js l) (f
   pub gives : AllWhole js l.cursors.items → Gives t js l.events.items
   gives whole = record { fit = fit; each = λ i j at. given_whole i j at (whole i j at); others = w.others }
 
-  pub gives_fronts : GivesFronts t js l.events.items
+  pub gives_fronts : ReproducesPrefixes t js l.events.items
   gives_fronts = record {
     each = λ i j at.
         let s = cursor_there js l.cursors.items i j w.count at in
@@ -321,10 +321,10 @@ module _ (t : Table) (js : List JournalValue) (l : Merge) (w : Weaves t js l) (f
     others = w.others;
   }
 
-  front_length : (xs ys : List Seen) → IsFrontOf xs ys → length xs ≤ length ys
+  front_length : (xs ys : List Seen) → IsPrefixOf xs ys → length xs ≤ length ys
   front_length xs ys f = let e = ap (λ (zs : List Seen). length zs) f.1 ∙ length-append xs f.0 in omega arith
 
-  pub stuck : AllStill js l → (i : ℕ) (j : JournalValue) (s : Cursor) → IsFirst js (IsLeft l.cursors.items) i j → At l.cursors.items i s → IsStuckAt t js i j (s.placed + 1)
+  pub stuck : AllBlocked js l → (i : ℕ) (j : JournalValue) (s : Cursor) → IsFirst js (IsLeft l.cursors.items) i j → At l.cursors.items i s → IsStuckAt t js i j (s.placed + 1)
   stuck still i j s first sat =
       let at = first.there in
       let left = first.is in
@@ -348,9 +348,9 @@ module _ (t : Table) (js : List JournalValue) (l : Merge) (w : Weaves t js l) (f
       below : {a b c : ℕ} → a ≤ b → b ≡ c → a < c + 1
       below h k = omega arith
 
--- ---- what the fault says
--- of journals that a fault names no run gives all
-pub gives_fronts-of : (t : Table) (js : List JournalValue) (es : List WorldEvent) → Gives t js es → GivesFronts t js es
+-- ---- the fault
+-- no run reproduces journals that a fault names
+pub gives_fronts-of : (t : Table) (js : List JournalValue) (es : List WorldEvent) → Gives t js es → ReproducesPrefixes t js es
 gives_fronts-of t js es g = record {
   each = λ i j at. ([], sym (g.each i j at) ∙ sym (append-nil (seen_in t es j.beginning.node)));
   others = g.others;
@@ -365,12 +365,12 @@ none_gives t js node place u es g = elim u.cause [
     short : {a b c : ℕ} → a < b → a ≡ c → b ≤ c → ⊥
     short h k m = omega arith
 
--- nor does any record all
+-- no run records them
 pub none_recorded : (t : Table) (js : List JournalValue) (node : NodeId) (place : ℕ) → IsUnwoven t js node place → (es : List WorldEvent) → IsRecorded t js es → ⊥
 none_recorded t js node place u es recorded = none_gives t js node place u (kept t (start t) es) (recorded-gives t js es recorded)
 
--- ---- as the code comes to an end
-module _ (t : Table) (js : List JournalValue) (l : Merge) (w : Weaves t js l) (fit : AllFit js) (still : AllStill js l) (node : NodeId) (place : ℕ) (left : IsLeftAt js l.cursors.items node place) where
+-- ---- the code's final test
+module _ (t : Table) (js : List JournalValue) (l : Merge) (w : Weaves t js l) (fit : AllFit js) (still : AllBlocked js l) (node : NodeId) (place : ℕ) (left : IsLeftAt js l.cursors.items node place) where
   pub unwoven : IsUnwoven t js node place
   unwoven = record {
     journal = left.journal;

@@ -20,7 +20,7 @@ use Rattle.dac_journal.specs.Histories.{off_after}
 use Rattle.dac_journal.specs.NodeValue.{off}
 use Rattle.dac_journal.specs.declared.record.Record.{Record}
 use Rattle.dac_journal.specs.Journals.{JournalValue}
-use Rattle.dac_weave.specs.Woven.{Seen, as_seen, journal_seen, worldly, At}
+use Rattle.dac_weave.specs.Woven.{Seen, as_seen, journal_seen, as_world_result, At}
 use Rattle.dac_weave.specs.Replay.{NodeStepped, moved, node_step, node_step_by, replayed, AreAnswered, IsLongest, Repeats}
 use Rattle.dac_weave.specs.laws.Runs.{replayed-append, AreAnswered-push}
 
@@ -32,17 +32,17 @@ pub journal_seen-at : (j : JournalValue) (i : ℕ) (r : Record) → At j.records
 journal_seen-at j i r h = slice_get-map as_seen j.records i ∙ ap (option_map as_seen) h
 
 -- ---- one step
-pub worldly-same : (a b : Result Reply Refusal) → worldly a ≡ worldly b → a ≡ b
-worldly-same (Ok x) (Ok y) e = cc
-worldly-same (Ok x) (Err y) e = cc
-worldly-same (Err x) (Ok y) e = cc
-worldly-same (Err x) (Err y) e = cc
+pub as_world_result-same : (a b : Result Reply Refusal) → as_world_result a ≡ as_world_result b → a ≡ b
+as_world_result-same (Ok x) (Ok y) e = cc
+as_world_result-same (Ok x) (Err y) e = cc
+as_world_result-same (Err x) (Ok y) e = cc
+as_world_result-same (Err x) (Err y) e = cc
 
-moved-answer : (d m : ModelNode) (a : Result Reply Refusal) → (moved d m a).answer ≡ worldly a
+moved-answer : (d m : ModelNode) (a : Result Reply Refusal) → (moved d m a).answer ≡ as_world_result a
 moved-answer d m (Ok x) = refl
 moved-answer d m (Err x) = refl
 
--- a refused event leaves the node as it was
+-- a refused event doesn't change the node
 moved-node : (t : Table) (n : NodeId) (d : ModelNode) (e : Event) → (moved d (model_step t n d e).node (model_step t n d e).answer).node ≡ (model_step t n d e).node
 moved-node t n d e = elim (model_step t n d e).answer as (λ r. (model_step t n d e).answer ≡ r → (moved d (model_step t n d e).node r).node ≡ (model_step t n d e).node) [
   | Ok reply ↦ λ is. refl
@@ -53,13 +53,13 @@ module _ (t : Table) (n : NodeId) (inside : nat_lt n.0 (node_count t) ≡ true) 
   node_step-is : node_step t n d (Ok e) ≡ moved d (model_step t n d e).node (model_step t n d e).answer
   node_step-is = ap (λ b. cond b (moved d (model_step t n d e).node (model_step t n d e).answer) (record { node = d; answer = Err NoSuchNode })) inside
 
-  pub node_step-answer : (node_step t n d (Ok e)).answer ≡ worldly (model_step t n d e).answer
+  pub node_step-answer : (node_step t n d (Ok e)).answer ≡ as_world_result (model_step t n d e).answer
   node_step-answer = ap (λ (s : NodeStepped). s.answer) node_step-is ∙ moved-answer d (model_step t n d e).node (model_step t n d e).answer
 
   pub node_step-node : (node_step t n d (Ok e)).node ≡ (model_step t n d e).node
   node_step-node = ap (λ (s : NodeStepped). s.node) node_step-is ∙ moved-node t n d e
 
--- ---- as far as the replay has come
+-- ---- the replayed prefix
 abbrev pub so_far : Table → JournalValue → ℕ → ModelNode
 so_far t j i = replayed t j.beginning.node (off_after 0) (take i (journal_seen j))
 
@@ -75,7 +75,7 @@ replay_turn t j i old new r p at rep =
     record {
       inside = p.inside;
       answered = subst (AreAnswered t j.beginning.node (off_after 0)) (sym more)
-          (AreAnswered-push t j.beginning.node (off_after 0) (take i (journal_seen j)) (as_seen r) p.answered (sym (node_step-answer t j.beginning.node p.inside (so_far t j i) r.event ∙ ap worldly (step.1.0 refl))));
+          (AreAnswered-push t j.beginning.node (off_after 0) (take i (journal_seen j)) (as_seen r) p.answered (sym (node_step-answer t j.beginning.node p.inside (so_far t j i) r.event ∙ ap as_world_result (step.1.0 refl))));
       shows = ap (λ xs. shown t (replayed t j.beginning.node (off_after 0) xs)) more
           ∙ (ap (shown t) (replayed-append t j.beginning.node (off_after 0) (take i (journal_seen j)) (as_seen r ∷ []))
           ∙ (ap (shown t) (node_step-node t j.beginning.node p.inside (so_far t j i) r.event) ∙ step.0));
@@ -91,9 +91,9 @@ replay_stop t j i old new r p at rep = record {
   ends = λ x there is.
       let e : x ≡ as_seen r = same_seen x (as_seen r) (sym there ∙ journal_seen-at j i r at) in
       let step = rep.by (so_far t j i) p.shows in
-      let answer : worldly r.answer ≡ worldly (model_step t j.beginning.node (so_far t j i) r.event).answer =
+      let answer : as_world_result r.answer ≡ as_world_result (model_step t j.beginning.node (so_far t j i) r.event).answer =
       subst (λ (y : Seen). y.answer ≡ (node_step t j.beginning.node (so_far t j i) y.event).answer) e is ∙ node_step-answer t j.beginning.node p.inside (so_far t j i) r.event in
-      true≢false (sym (step.1.1 (sym (worldly-same r.answer (model_step t j.beginning.node (so_far t j i) r.event).answer answer))));
+      true≢false (sym (step.1.1 (sym (as_world_result-same r.answer (model_step t j.beginning.node (so_far t j i) r.event).answer answer))));
 }
   where
     before : i < length j.records → i ≤ length j.records
@@ -115,30 +115,30 @@ replay_end t j i node e p = record {
     past : (x : Seen) → Some x ≡ None → ⊥
     past x e = cc
 
--- what a journal's node saw is of a record
+-- an event seen at a journal's node is a record
 recorded : (rs : List Record) (i : ℕ) (x : Seen) → slice_get (map as_seen rs) i ≡ Some x → (r : Record) × (x ≡ as_seen r)
 recorded [] i x h = cc
 recorded (r ∷ rs) zero x h = (r, cc)
 recorded (r ∷ rs) (suc i) x h = recorded rs i x h
 
-pub worldly-there : (a : Result Reply Refusal) → worldly a ≡ Err NoSuchNode → ⊥
-worldly-there (Ok x) e = cc
-worldly-there (Err x) e = cc
+pub as_world_result-there : (a : Result Reply Refusal) → as_world_result a ≡ Err NoSuchNode → ⊥
+as_world_result-there (Ok x) e = cc
+as_world_result-there (Err x) e = cc
 
--- no record of a node that isn't there
+-- a node outside the configuration has no valid record
 pub replay_nowhere : (t : Table) (j : JournalValue) → nat_lt j.beginning.node.0 (node_count t) ≡ false → IsLongest t j 0
 replay_nowhere t j outside = record {
   within = omega arith;
   answered = tt;
   ends = λ x there is.
       let r = recorded j.records 0 x there in
-      worldly-there r.0.answer (sym (ap (λ (y : Seen). y.answer) r.1) ∙ (is ∙ ap (λ b. (cond b (node_step_by t j.beginning.node (off_after 0) x.event) (record { node = off_after 0; answer = Err NoSuchNode })).answer) outside));
+      as_world_result-there r.0.answer (sym (ap (λ (y : Seen). y.answer) r.1) ∙ (is ∙ ap (λ b. (cond b (node_step_by t j.beginning.node (off_after 0) x.event) (record { node = off_after 0; answer = Err NoSuchNode })).answer) outside));
 }
 
 pub outside : (n c : ℕ) → c ≤ n → nat_lt n c ≡ false
 outside n c h = grind (arith, nat_tests)
 
--- ---- as the code reads them
+-- ---- the code's reads
 module _ (t : Table) (j : JournalValue) (i : ℕ) (old new : NodeValue) (rs : List Record) (r : Record) (read : r ≡ get_or rs i r) (n : NodeId) (n_is : n ≡ j.beginning.node) (rs_is : rs ≡ j.records) (same : Bool) where
   read_at : i < length rs → At j.records i r
   read_at lt = subst (λ xs. slice_get xs i ≡ Some r) rs_is (slice_get_read rs (length rs) i r refl lt read)
@@ -152,7 +152,7 @@ module _ (t : Table) (j : JournalValue) (i : ℕ) (old new : NodeValue) (rs : Li
   pub read_stop : i < length rs → same ≡ false → Replaying t j i old → Repeats t n old r new same → IsLongest t j i
   read_stop lt e p rep = replay_stop t j i old new r p (read_at lt) (own_node rep false e)
 
--- the step, joined with a test of its answer
+-- the step with the test of its result
 pub repeated : (t : Table) (me : NodeId) (old new : NodeValue) (r : Record) (test : Bool) (a : Result Reply Refusal) → Steps t me old r.event new a → (IsTrue test ↔ (r.answer ≡ a)) → Repeats t me old r new test
 repeated t me old new r test a steps tests = record {
   by = λ d shows. let s = steps.by d shows in (s.0, (λ h. s.1 ∙ sym (tests.0 h), λ h. tests.1 (sym h ∙ s.1)));

@@ -1,4 +1,4 @@
--- What the run of the woven events leaves.
+-- Guarantees of the run of the woven events.
 use Rattle.std.specs.Prelude.{ℕ, List, map}
 use Rattle.dac_config.specs.Table.{Table}
 use Rattle.dac_events.specs.declared.WorldEvent.{WorldEvent}
@@ -9,8 +9,8 @@ use Rattle.dac_journal.specs.Converges.{Converges}
 use Rattle.dac_journal.specs.Journals.{JournalValue, entry_of}
 use Rattle.dac_weave.specs.Woven.{At}
 
--- All that every run leaves holds of the run of these events. Each journal is a history of its node, from never booted
--- to where the run leaves it.
+-- The guarantees of every run hold for the run of es, and each journal is a history of its node, from never booted to
+-- the state in which the run leaves it.
 pub record IsConverged (t : Table) (js : List JournalValue) (es : List WorldEvent) : Type 0 where
   pub converges : Converges t es (answers_of t (start t) es) (shown_world t (model_run t es))
   pub ends : (i : ℕ) (j : JournalValue) → At js i j

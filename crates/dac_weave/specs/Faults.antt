@@ -1,4 +1,4 @@
--- What a fault of the weave says.
+-- The meaning of the weave's faults.
 use Rattle.std.specs.Prelude.{List}
 use Rattle.dac_config.specs.Table.{Table}
 use Rattle.dac_events.specs.declared.WorldEvent.{WorldEvent}
@@ -8,7 +8,7 @@ use Rattle.dac_journal.specs.Journals.{JournalValue}
 use Rattle.dac_weave.specs.Woven.{IsUnwoven}
 use Rattle.dac_weave.specs.Recording.{IsRecorded}
 
--- the node and the place are those where all runs end
+-- every run stops at this node and record
 abbrev pub IsTrueFault : Table → List JournalValue → WeaveFault → Type 0
 IsTrueFault t js (Unwoven node place) = IsUnwoven t js node place
 IsTrueFault t js NoMemory = Unit {0}

@@ -1,11 +1,11 @@
--- The labels under which messages and operations are filed. They spread what is filed, and nothing else rests on them.
+-- Hash labels of messages and operations. They affect only speed.
 use Rattle.std.specs.Prelude.{ℕ, ◌+◌, ◌*◌, ◌%◌, List, map, Option, Some, None}
 use Rattle.std.specs.Borrow.{Bor}
 use Rattle.dac_origins.specs.declared.dot.Origin.{Origin}
 use Rattle.dac_messages.specs.declared.message.Message.{Message}
 use Rattle.dac_operations.specs.Operations.{Operation}
 
--- three numbers as one label
+-- three numbers combined into one label
 abbrev pub label : ℕ → ℕ → ℕ → ℕ
 label most next least = most % 1099511627776 * 1000003 + (next % 1099511627776 * 10007 + least)
 
@@ -19,6 +19,6 @@ message_label m = label m.up_to (acked_in m.ack) (m.from.node.0 * 256 + m.to.0)
 abbrev pub operation_label : Operation → ℕ
 operation_label o = label o.dot.n o.dot.origin.inc o.dot.origin.node.0
 
--- what these refer to
+-- the values that the references point to
 abbrev pub lent : {X : Type 0} → List (Bor X) → List X
 lent {X} xs = map (λ (x : Bor X). x.now) xs

@@ -3,7 +3,7 @@ pub mod Recording
 pub mod Faults
 pub mod Converging
 pub mod Replay
-pub mod Filing
+pub mod Indexing
 pub mod Labels
 pub mod Names
 pub mod Placing

@@ -1,4 +1,4 @@
--- How the weave stands: what it has placed of each journal.
+-- The invariant of the merge, and its steps.
 use Rattle.std.specs.Prelude.{◌≡◌, ℕ, ◌+◌, ◌<◌, ◌≤◌, ◌⊎◌, List, [], ◌∷◌, ◌++◌, length, take, set, Ok}
 use Rattle.dac_base.specs.declared.NodeId.{NodeId}
 use Rattle.dac_config.specs.Table.{Table}
@@ -13,17 +13,18 @@ use Rattle.dac_journal.specs.EveryList.{run_from}
 use Rattle.dac_weave.specs.Replay.{IsLongest}
 use Rattle.dac_weave.specs.Names.{IsUnnamed, issued_in, shipped_in}
 
--- no more of a journal is placed than is its node's history
+-- every placed record agrees with the replay of its node
 pub record IsCursor (t : Table) (j : JournalValue) (s : Cursor) : Type 0 where
-  pub placed : s.placed ≤ s.good
-  pub longest : IsLongest t j s.good
+  pub placed : s.placed ≤ s.valid
+  pub longest : IsLongest t j s.valid
 
--- there is a cursor for each journal, and no cursor is longer than its journal
+-- there is a cursor for each journal, within its records
 pub record HaveCursors (js : List JournalValue) (ss : List Cursor) : Type 0 where
   pub count : length ss ≡ length js
-  pub within : (i : ℕ) (j : JournalValue) (s : Cursor) → At js i j → At ss i s → s.good ≤ length j.records
+  pub within : (i : ℕ) (j : JournalValue) (s : Cursor) → At js i j → At ss i s → s.valid ≤ length j.records
 
--- the run of the merge's events gives what is placed of each journal
+-- The invariant: the run of the events placed so far reproduces exactly the placed records, and issues the operations
+-- and messages of the merge.
 pub record Weaves (t : Table) (js : List JournalValue) (l : Merge) : Type 0 where
   pub count : length l.cursors.items ≡ length js
   pub cursors : (i : ℕ) (j : JournalValue) (s : Cursor) → At js i j → At l.cursors.items i s → IsCursor t j s
@@ -33,38 +34,38 @@ pub record Weaves (t : Table) (js : List JournalValue) (l : Merge) : Type 0 wher
   pub operations : l.operations ≡ (run_from t (start t) l.events.items).operations
   pub messages : l.messages ≡ (run_from t (start t) l.events.items).messages
 
--- the next record of the i-th journal can be placed, by this event of the world
+-- the world event `what` can place the next record of the i-th journal
 pub record CanBePlaced (js : List JournalValue) (l : Merge) (i : ℕ) (what : What) : Type 0 where
   pub journal : JournalValue
   pub cursor : Cursor
   pub next : Record
   pub at : At js i journal
   pub cursor_at : At l.cursors.items i cursor
-  pub left : cursor.placed < cursor.good
+  pub left : cursor.placed < cursor.valid
   pub next_at : At journal.records cursor.placed next
   pub named : event_of l.operations l.messages what ≡ Ok next.event
 
--- it can't be placed
-pub record IsStill (js : List JournalValue) (l : Merge) (i : ℕ) : Type 0 where
+-- the next record of the i-th journal can't be placed
+pub record IsBlocked (js : List JournalValue) (l : Merge) (i : ℕ) : Type 0 where
   pub journal : JournalValue
   pub cursor : Cursor
   pub at : At js i journal
   pub cursor_at : At l.cursors.items i cursor
-  pub cause : (cursor.good ≤ cursor.placed)
+  pub cause : (cursor.valid ≤ cursor.placed)
       ⊎ ((r : Record) × (At journal.records cursor.placed r × IsUnnamed l.operations l.messages r.event))
 
-abbrev pub AllStill : List JournalValue → Merge → Type 0
-AllStill js l = (i : ℕ) → i < length js → IsStill js l i
+abbrev pub AllBlocked : List JournalValue → Merge → Type 0
+AllBlocked js l = (i : ℕ) → i < length js → IsBlocked js l i
 
--- the same of the journals between two places
-abbrev pub StillBetween : List JournalValue → Merge → ℕ → ℕ → Type 0
-StillBetween js l low high = (i : ℕ) → low ≤ i → i < high → IsStill js l i
+-- no journal from low up to high can place its next record
+abbrev pub BlockedBetween : List JournalValue → Merge → ℕ → ℕ → Type 0
+BlockedBetween js l low high = (i : ℕ) → low ≤ i → i < high → IsBlocked js l i
 
--- one more of a journal is placed
+-- the cursor after one more record
 abbrev pub longer : Cursor → Cursor
-longer s = record { placed = s.placed + 1; good = s.good }
+longer s = record { placed = s.placed + 1; valid = s.valid }
 
--- this record of the i-th journal is placed
+-- record r of the i-th journal is placed as the world event `what`
 pub record PlacesRecord (old : Merge) (i : ℕ) (what : What) (new : Merge) (j : JournalValue) (s : Cursor)
     (r : Record) : Type 0 where
   pub cursors : new.cursors.items ≡ set old.cursors.items i (longer s)
@@ -72,17 +73,16 @@ pub record PlacesRecord (old : Merge) (i : ℕ) (what : What) (new : Merge) (j :
   pub operations : new.operations ≡ old.operations ++ issued_in r.answer
   pub messages : new.messages ≡ old.messages ++ shipped_in r.answer
 
--- the next record of the i-th journal is placed
+-- the next record of the i-th journal is placed as the world event `what`
 pub record Places (js : List JournalValue) (old : Merge) (i : ℕ) (what : What) (new : Merge) : Type 0 where
   pub each : (j : JournalValue) (s : Cursor) (r : Record) → At js i j → At old.cursors.items i s
       → At j.records s.placed r → PlacesRecord old i what new j s r
 
--- the i-th journal isn't placed whole
+-- some record of the i-th journal isn't placed
 abbrev pub IsLeft : List Cursor → ℕ → JournalValue → Type 0
 IsLeft ss i j = (s : Cursor) × (At ss i s × (s.placed < length j.records))
 
--- of the journals that aren't placed whole the first by name is this node's, and this is the place of its first
--- record that isn't placed
+-- node is the least one whose journal isn't placed whole, and place the position of its first unplaced record, from 1
 pub record IsLeftAt (js : List JournalValue) (ss : List Cursor) (node : NodeId) (place : ℕ) : Type 0 where
   pub index : ℕ
   pub journal : JournalValue

@@ -1,4 +1,4 @@
--- Whether a run records these journals, in the words of what each node records of a run.
+-- Whether a run records these journals, by the records that each node keeps of a run.
 use Rattle.std.specs.Prelude.{◌≡◌, ℕ, List, [], map}
 use Rattle.dac_base.specs.declared.NodeId.{NodeId}
 use Rattle.dac_config.specs.Table.{Table}
@@ -10,12 +10,12 @@ use Rattle.dac_journal.specs.EveryList.{answers_of}
 use Rattle.dac_journal.specs.Journals.{JournalValue, entry_of}
 use Rattle.dac_weave.specs.Woven.{At, HasNone, AllFit}
 
--- what node n records of the model's run of these events
+-- the records of node n in the model's run of es
 abbrev pub records_in : Table → List WorldEvent → NodeId → List Entry
 records_in t es n = records_at t n (start t) es (answers_of t (start t) es)
 
--- Each journal's node records exactly the journal, and no other node records anything. The list may have events that
--- name no node, no message or no operation: nothing is recorded of them, and they change nothing.
+-- Each journal's node records exactly the journal, and no other node records anything. Events in es that name no node,
+-- message or operation change nothing and aren't recorded.
 pub record IsRecorded (t : Table) (js : List JournalValue) (es : List WorldEvent) : Type 0 where
   pub fit : AllFit js
   pub each : (i : ℕ) (j : JournalValue) → At js i j → records_in t es j.beginning.node ≡ map entry_of j.records

@@ -1,4 +1,4 @@
--- One node alone: what a list of its events leaves, whether each answer is the step's, and how far a journal's are.
+-- One node replayed alone, and the longest prefix of a journal that agrees with the replay.
 use Rattle.std.specs.Prelude.{◌≡◌, ◌↔◌, Bool, IsTrue, ℕ, ◌≤◌, cond, nat_lt, List, [], ◌∷◌, length, take, Result, Ok, Err}
 use Rattle.dac_base.specs.declared.NodeId.{NodeId}
 use Rattle.dac_config.specs.Table.{Table, node_count}
@@ -27,23 +27,23 @@ abbrev pub node_step_by : Table → NodeId → ModelNode → Result Event WorldF
 node_step_by t n d (Err fault) = record { node = d; answer = Err fault }
 node_step_by t n d (Ok e) = moved d (model_step t n d e).node (model_step t n d e).answer
 
--- what an event of the world does at its node alone
+-- the step of a world event at its node, without the rest of the world
 abbrev pub node_step : Table → NodeId → ModelNode → Result Event WorldFault → NodeStepped
 node_step t n d e =
     cond (nat_lt n.0 (node_count t)) (node_step_by t n d e) (record { node = d; answer = Err NoSuchNode })
 
--- what these events leave
+-- the node after these events
 abbrev pub replayed : Table → NodeId → ModelNode → List Seen → ModelNode
 replayed t n d [] = d
 replayed t n d (x ∷ xs) = replayed t n (node_step t n d x.event).node xs
 
--- each answer is the step's
+-- each result is the one that the step returns
 abbrev pub AreAnswered : Table → NodeId → ModelNode → List Seen → Type 0
 AreAnswered t n d [] = Unit {0}
 AreAnswered t n d (x ∷ xs) =
     (x.answer ≡ (node_step t n d x.event).answer) × AreAnswered t n (node_step t n d x.event).node xs
 
--- so many records, from the first on, have the step's answers, and no more
+-- k is the length of the longest prefix of the journal with the step's results
 pub record IsLongest (t : Table) (j : JournalValue) (k : ℕ) : Type 0 where
   pub within : k ≤ length j.records
   pub answered : AreAnswered t j.beginning.node (off_after 0) (take k (journal_seen j))
@@ -51,8 +51,7 @@ pub record IsLongest (t : Table) (j : JournalValue) (k : ℕ) : Type 0 where
       → x.answer
       ≡ (node_step t j.beginning.node (replayed t j.beginning.node (off_after 0) (take k (journal_seen j))) x.event).answer → ⊥
 
--- From old, the program's node goes on to new as by the record's event, and same tells whether it answers
--- as the record says.
+-- The program's node goes from old to new by the record's event, and same is whether its result is the record's.
 pub record Repeats (t : Table) (me : NodeId) (old : NodeValue) (r : Record) (new : NodeValue)
     (same : Bool) : Type 0 where
   pub by : (d : ModelNode) → shown t d ≡ old

@@ -1,13 +1,13 @@
-//! Numbers filed under labels.
+//! Hash buckets of numbers.
 
 ghost use Rattle.std.specs.Prelude.{◌≡◌, ℕ, ◌<◌, IfOk, OnOk, OnErr, length};
-ghost use Rattle.dac_weave.specs.Filing.{bucket_of, IsFiledIn, Files, IsKept};
+ghost use Rattle.dac_weave.specs.Indexing.{bucket_of, IsFiledIn, Files, IsKept};
 
 use dac_base::NoMemory;
 use std::alloc::Global;
 
-/// Numbers filed under labels. Labels share a bucket where they leave the same remainder by the number of buckets, so a
-/// bucket has all numbers of a label, and may have others.
+/// Hash buckets of numbers. A bucket holds every number filed under a label, and others if their labels leave the same
+/// remainder.
 #[derive(Drop)]
 pub(crate) struct Buckets {
     pub(crate) lists: Vec<Vec<usize>>,
@@ -15,7 +15,7 @@ pub(crate) struct Buckets {
 }
 
 impl Buckets {
-    /// No numbers. There are at most so many buckets, and one at least.
+    /// An empty table of `count` buckets, but at least one.
     pub(crate) fn new(alloc: Global, count: usize) -> Result<Self, NoMemory>
         ensures { IfOk result (λ made. (label k : ℕ) → IsFiledIn made.lists.items label k → ⊥) }
     {
@@ -27,7 +27,6 @@ impl Buckets {
         Ok(Buckets { lists })
     }
 
-    /// The numbers in the bucket of a label.
     pub(crate) fn bucket(&self, label: u64) -> &[usize]
         ensures { result.now ≡ bucket_of self.now.lists.items label }
     {
@@ -35,7 +34,7 @@ impl Buckets {
         self.lists[place as usize].as_slice()
     }
 
-    /// Files one more number under a label.
+    /// Files `number` under `label`.
     pub(crate) fn file(&mut self, label: u64, number: usize) -> Result<(), NoMemory>
         ensures files { OnOk result (Files self.old.lists.items label number self.new.lists.items) }
         ensures kept { OnErr result (IsKept self.old.lists.items self.new.lists.items) }

@@ -1,23 +1,23 @@
-//! How far a journal is placed.
+//! Cursors: how far into each journal the merge is.
 
 ghost use Rattle.std.specs.Prelude.{IfOk};
 ghost use Rattle.std.specs.List.{AllZip};
 ghost use Rattle.dac_weave.specs.Names.{Begins};
 
-use crate::replay::true_records;
+use crate::replay::valid_prefix;
 use dac_base::NoMemory;
 use dac_config::Config;
 use dac_journal::Closed;
 use std::alloc::Global;
 
-/// How many records of a journal are placed, and how many have their node's answers.
+/// How many records of a journal are placed, and how many agree with a replay of its node.
 #[derive(Drop)]
 pub(crate) struct Cursor {
     pub(crate) placed: usize,
-    pub(crate) good: usize,
+    pub(crate) valid: usize,
 }
 
-/// A cursor for each journal, of which nothing is placed.
+/// A cursor at the start of each journal.
 pub(crate) fn cursors_of(
     alloc: Global,
     config: &Config,
@@ -27,8 +27,8 @@ pub(crate) fn cursors_of(
 {
     let mut cursors = Vec::new(alloc);
     for journal in journals {
-        let good = true_records(alloc, config, journal)?;
-        cursors.push(Cursor { placed: 0, good })?;
+        let valid = valid_prefix(alloc, config, journal)?;
+        cursors.push(Cursor { placed: 0, valid })?;
     }
     Ok(cursors)
 }

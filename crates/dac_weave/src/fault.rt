@@ -1,21 +1,21 @@
-//! Why journals aren't woven.
+//! Errors of the weave.
 
 use dac_base::{NoMemory, NodeId};
 use thiserror::Error;
 
-/// Why journals aren't woven.
+/// Why journals can't be woven.
 #[derive(Clone, Copy, Debug, PartialEq, Eq, Error)]
 pub enum WeaveFault {
-    /// No run gives the journals.
+    /// No run reproduces the journals.
     #[error("no run gives the journals")]
     Unwoven {
-        /// The node at which each run ends before its journal does.
+        /// The node at which every run stops short of the journal.
         node: NodeId,
-        /// The place of the first record that no run gives, from 1. At place 0 the journal begins after a boot, or
-        /// another one is of the same node.
+        /// The first record that no run reproduces, counted from 1. It's 0 if the journal begins after a boot, or if
+        /// another journal belongs to the same node.
         place: u64,
     },
-    /// Memory was refused.
+    /// An allocation failed.
     #[error("out of memory")]
     NoMemory,
 }

@@ -1,4 +1,4 @@
-//! The labels under which messages and operations are filed.
+//! Hash labels of messages and operations.
 
 ghost use Rattle.std.specs.Prelude.{◌≡◌, ◌↔◌, ℕ, IsTrue};
 ghost use Rattle.dac_weave.specs.Labels.{label as label_by};
@@ -6,21 +6,21 @@ ghost use Rattle.dac_weave.specs.Labels.{label as label_by};
 use dac_messages::Message;
 use dac_operations::Op;
 
-/// What is filed under a label.
+/// An item with a hash label.
 pub(crate) trait Labelled {
-    /// The label.
+    /// The label in the model.
     ghost label_of: { Self → ℕ };
 
-    /// The label. Equal items have the same one.
+    /// The label, the same for equal items.
     fn label(&self) -> u64
         ensures { result ≡ label_of self.now };
 
-    /// Whether the two are one item.
+    /// Returns whether the items are equal.
     fn is_same(&self, other: &Self) -> bool
         ensures { IsTrue result ↔ (self.now ≡ other.now) };
 }
 
-/// Three numbers as one label.
+/// Combines three numbers into one label.
 fn label(most: u64, next: u64, least: u16) -> u64
     ensures { result ≡ label_by most next least }
 {

@@ -1,10 +1,9 @@
-//! Journals of sites woven into one run of the world.
+//! Merges the journals of sites into one run of the world.
 //!
-//! Each journal has what happened at one node. [`weave`] puts the records of all of them into one order, in which each
-//! message comes after it was shipped and each operation after it was issued. It gives the order as a list of events of
-//! the world. The run of that list has at each node exactly the records of its journal. So all that every run leaves
-//! holds of what the journals tell. Where no list does that, a [`WeaveFault`] names the node and the place where each
-//! run ends.
+//! A journal records the events of one node. [`weave`] puts the records of all journals into one order, in which each
+//! message is delivered after it was shipped, and each operation after it was issued. It returns that order as a list
+//! of world events, whose run has at each node exactly the records of its journal, so the guarantees of every run hold
+//! for the journals. If no such list exists, a [`WeaveFault`] names the node and the record at which every run stops.
 #![tactic(auto)]
 
 pub use fault::WeaveFault;
@@ -13,7 +12,7 @@ pub use weaving::weave;
 mod buckets;
 mod cursor;
 mod fault;
-mod filed;
+mod indexed_list;
 mod labels;
 mod merge;
 mod replay;

@@ -1,10 +1,10 @@
-//! What is placed of each journal, and placing more.
+//! The merge: the records placed so far, and the search for the next.
 
 ghost use Rattle.std.specs.Prelude.{◌≡◌, ◌<◌, ◌≤◌, ◌++◌, IfOk, OnOk, MatchOption, length};
 ghost use Rattle.dac_weave.specs.Names.{Names, issued_in, shipped_in};
 
 use crate::cursor::{Cursor, cursors_of};
-use crate::filed::Filed;
+use crate::indexed_list::IndexedList;
 use crate::unfit::lesser;
 use dac_base::{NoMemory, NodeId};
 use dac_config::Config;
@@ -14,19 +14,19 @@ use dac_messages::{Event, Message, OpList, Reply};
 use dac_operations::Op;
 use std::alloc::Global;
 
-/// The events so far, and what they issued and shipped.
+/// The cursors, the events placed so far, and the operations and messages that they issued.
 #[derive(Drop)]
 pub(crate) struct Merge<'a> {
     pub(crate) cursors: Vec<Cursor>,
     pub(crate) events: Vec<WorldEvent>,
-    pub(crate) operations: Filed<'a, Op>,
-    pub(crate) messages: Filed<'a, Message>,
+    pub(crate) operations: IndexedList<'a, Op>,
+    pub(crate) messages: IndexedList<'a, Message>,
 }
 
-/// The event of the world that is this event at its node, if there is one now.
+/// Returns the world event that is `event` at its node. A delivered message or operation has none until it was sent.
 fn name_event(
-    operations: &Filed<'_, Op>,
-    messages: &Filed<'_, Message>,
+    operations: &IndexedList<'_, Op>,
+    messages: &IndexedList<'_, Message>,
     event: &Event,
 ) -> Option<What>
     ensures { Names operations.now messages.now event.now result }
@@ -48,8 +48,11 @@ fn name_event(
     }
 }
 
-/// Notes operations that were issued.
-fn note_all<'a>(operations: &mut Filed<'a, Op>, issued: &'a OpList) -> Result<(), NoMemory>
+/// Appends the issued operations.
+fn append_issued<'a>(
+    operations: &mut IndexedList<'a, Op>,
+    issued: &'a OpList,
+) -> Result<(), NoMemory>
     ensures { OnOk result (operations.new ≡ operations.old ++ issued.now) }
 {
     for operation in issued.as_slice() {
@@ -58,10 +61,10 @@ fn note_all<'a>(operations: &mut Filed<'a, Op>, issued: &'a OpList) -> Result<()
     Ok(())
 }
 
-/// Notes what an answer issues and ships.
-fn note<'a>(
-    operations: &mut Filed<'a, Op>,
-    messages: &mut Filed<'a, Message>,
+/// Appends the operations and messages of a record's result.
+fn append_output<'a>(
+    operations: &mut IndexedList<'a, Op>,
+    messages: &mut IndexedList<'a, Message>,
     answer: &'a Answer,
 ) -> Result<(), NoMemory>
     ensures operations { OnOk result (operations.new ≡ operations.old ++ issued_in answer.now) }
@@ -69,13 +72,13 @@ fn note<'a>(
 {
     match answer {
         Ok(Reply::Booted(operation) | Reply::Issued(operation)) => operations.put(operation),
-        Ok(Reply::Ticked { ops, passed: _ }) => note_all(operations, ops),
+        Ok(Reply::Ticked { ops, passed: _ }) => append_issued(operations, ops),
         Ok(Reply::Shipped(message)) => messages.put(message),
         Ok(Reply::Crashed | Reply::Held | Reply::GaveUp | Reply::Heard(_)) | Err(_) => Ok(()),
     }
 }
 
-/// How many records the journals have together, up to the greatest number.
+/// The total number of records, or the greatest `usize` if there are more.
 fn count_all(journals: &[Closed]) -> usize {
     let mut count = 0usize;
     for journal in journals {
@@ -88,9 +91,9 @@ impl<'a> Merge<'a> {
     ghost use Rattle.std.specs.Prelude.{◌<◌, ◌≤◌, IfOk, OnOk, MatchOption, length};
     ghost use Rattle.dac_journal.specs.Journals.{JournalValue};
     ghost use Rattle.dac_weave.specs.Woven.{AllFit, IsFirst};
-    ghost use Rattle.dac_weave.specs.Placing.{HaveCursors, Weaves, CanBePlaced, IsStill, AllStill, StillBetween, Places, IsLeft, IsLeftAt, AllWhole};
+    ghost use Rattle.dac_weave.specs.Placing.{HaveCursors, Weaves, CanBePlaced, IsBlocked, AllBlocked, BlockedBetween, Places, IsLeft, IsLeftAt, AllWhole};
 
-    /// Nothing placed.
+    /// A merge with no record placed.
     pub(crate) fn new(
         alloc: Global,
         config: &Config,
@@ -100,8 +103,8 @@ impl<'a> Merge<'a> {
     {
         let cursors = cursors_of(alloc, config, journals)?;
         let room = count_all(journals);
-        let operations = Filed::new(alloc, room)?;
-        let messages = Filed::new(alloc, room)?;
+        let operations = IndexedList::new(alloc, room)?;
+        let messages = IndexedList::new(alloc, room)?;
         Ok(Merge {
             cursors,
             events: Vec::new(alloc),
@@ -110,16 +113,16 @@ impl<'a> Merge<'a> {
         })
     }
 
-    /// The event of the world that places the next record of a journal, if it can be placed.
+    /// Returns the world event that places the next record of a journal, if it can be placed.
     fn ready(&self, journals: &[Closed], i: usize) -> Option<What>
         requires fits { HaveCursors journals.now self.now.cursors.items }
         requires within { i < length journals.now }
-        ensures { MatchOption result (IsStill journals.now self.now i)
+        ensures { MatchOption result (IsBlocked journals.now self.now i)
             (CanBePlaced journals.now self.now i) }
     {
         let cursor = &self.cursors[i];
         let records = journals[i].records();
-        if cursor.placed < cursor.good {
+        if cursor.placed < cursor.valid {
             name_event(
                 &self.operations,
                 &self.messages,
@@ -130,11 +133,11 @@ impl<'a> Merge<'a> {
         }
     }
 
-    /// A journal between two places whose next record can be placed, with the event of the world that places it.
+    /// Returns a journal in `low..high` whose next record can be placed, with its world event.
     fn find_between(&self, journals: &[Closed], low: usize, high: usize) -> Option<(usize, What)>
         requires fits { HaveCursors journals.now self.now.cursors.items }
         requires within { high ≤ length journals.now }
-        ensures { MatchOption result (StillBetween journals.now self.now low high)
+        ensures { MatchOption result (BlockedBetween journals.now self.now low high)
             (λ found. (found.0 < length journals.now)
             × CanBePlaced journals.now self.now found.0 found.1) }
     {
@@ -147,12 +150,12 @@ impl<'a> Merge<'a> {
         None
     }
 
-    /// A journal whose next record can be placed, with the event of the world that places it. It is sought from this
-    /// one on, and then from the first one on.
+    /// Returns a journal whose next record can be placed, with its world event. The search starts at `from` and wraps
+    /// around.
     fn find(&self, journals: &[Closed], from: usize) -> Option<(usize, What)>
         requires fits { HaveCursors journals.now self.now.cursors.items }
         requires within { from ≤ length journals.now }
-        ensures { MatchOption result (AllStill journals.now self.now)
+        ensures { MatchOption result (AllBlocked journals.now self.now)
             (λ found. (found.0 < length journals.now)
             × CanBePlaced journals.now self.now found.0 found.1) }
     {
@@ -177,17 +180,17 @@ impl<'a> Merge<'a> {
             node: journal.node(),
             what,
         })?;
-        note(&mut self.operations, &mut self.messages, &record.answer)?;
+        append_output(&mut self.operations, &mut self.messages, &record.answer)?;
         self.cursors[i].placed = placed + 1;
         Ok(())
     }
 
-    /// Places all that can be placed. A journal is gone on with while its next record can be placed.
+    /// Places every record that can be placed. It stays with one journal as long as possible.
     pub(crate) fn weave(&mut self, config: &Config, journals: &'a [Closed]) -> Result<(), NoMemory>
         requires fit { AllFit journals.now }
         requires weaves { Weaves config.now journals.now self.old }
         ensures weaves { OnOk result (Weaves config.now journals.now self.new) }
-        ensures still { OnOk result (AllStill journals.now self.new) }
+        ensures still { OnOk result (AllBlocked journals.now self.new) }
     {
         let mut from = 0;
         while let Some((i, what)) = self.find(journals, from) {
@@ -197,7 +200,7 @@ impl<'a> Merge<'a> {
         Ok(())
     }
 
-    /// The least-named journal that isn't placed whole.
+    /// The journal of the least node that isn't placed whole.
     fn least_left(&self, journals: &[Closed]) -> Option<usize>
         requires { length self.now.cursors.items ≡ length journals.now }
         ensures { MatchOption result (AllWhole journals.now self.now.cursors.items)
@@ -212,7 +215,7 @@ impl<'a> Merge<'a> {
         least
     }
 
-    /// The node of the least-named journal that isn't placed whole, and the place of its first record that isn't.
+    /// The node of [`Merge::least_left`], and the position of its first unplaced record, counted from 1.
     pub(crate) fn first_left(&self, journals: &[Closed]) -> Option<(NodeId, u64)>
         requires { HaveCursors journals.now self.now.cursors.items }
         ensures { MatchOption result (AllWhole journals.now self.now.cursors.items)

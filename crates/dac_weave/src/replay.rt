@@ -1,4 +1,4 @@
-//! One journal replayed alone.
+//! Replays one journal alone.
 
 ghost use Rattle.std.specs.Prelude.{◌≡◌, ◌↔◌, IfOk, IsTrue, Ok, Err};
 ghost use Rattle.dac_weave.specs.Replay.{IsLongest, Repeats};
@@ -10,7 +10,6 @@ use dac_journal::{Answer, Closed, Node, Record, is_no_memory};
 use dac_messages::Reply;
 use std::alloc::Global;
 
-/// Whether the answer is this reply.
 fn is_reply(reply: &Reply, answer: &Answer) -> bool
     ensures { IsTrue result ↔ (answer.now ≡ Ok reply.now) }
 {
@@ -20,7 +19,6 @@ fn is_reply(reply: &Reply, answer: &Answer) -> bool
     }
 }
 
-/// Whether the answer is this refusal.
 fn is_refusal(why: Refusal, answer: &Answer) -> bool
     ensures { IsTrue result ↔ (answer.now ≡ Err why) }
 {
@@ -30,7 +28,7 @@ fn is_refusal(why: Refusal, answer: &Answer) -> bool
     }
 }
 
-/// Does what a record did, and tells whether the answer is the record's.
+/// Repeats a record's event, and returns whether the result is the record's.
 fn repeat(config: &Config, me: NodeId, node: &mut Node, entry: &Record) -> Result<bool, NoMemory>
     ensures { IfOk result (λ same. Repeats config.now me node.old entry.now node.new same) }
 {
@@ -49,8 +47,8 @@ fn repeat(config: &Config, me: NodeId, node: &mut Node, entry: &Record) -> Resul
     }
 }
 
-/// How many records, from the first on, have the answers of a node that was never booted.
-pub(crate) fn true_records(
+/// How many records, from the first on, agree with a replay from a node that was never booted.
+pub(crate) fn valid_prefix(
     alloc: Global,
     config: &Config,
     journal: &Closed,

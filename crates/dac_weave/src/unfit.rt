@@ -1,4 +1,4 @@
-//! Journals that no run can give: one that begins after a boot, and two of one node.
+//! Journals that no run can reproduce: one that begins after a boot, and two of one node.
 
 ghost use Rattle.std.specs.Prelude.{◌≡◌, ◌≢◌, ◌↔◌, ◌<◌, IsTrue, IfSome, MatchOption, length};
 ghost use Rattle.dac_journal.specs.Journals.{JournalValue};
@@ -7,7 +7,7 @@ ghost use Rattle.dac_weave.specs.Names.{IsLesser};
 
 use dac_journal::Closed;
 
-/// The lesser by name of two journals, where there is a first.
+/// Returns whichever of journals `least` and `i` has the lesser node, or `i` if `least` is `None`.
 pub(crate) fn lesser(journals: &[Closed], least: Option<usize>, i: usize) -> usize
     requires within { i < length journals.now }
     requires least { IfSome least (λ k. k < length journals.now) }
@@ -25,7 +25,7 @@ pub(crate) fn lesser(journals: &[Closed], least: Option<usize>, i: usize) -> usi
     }
 }
 
-/// Whether the k-th journal is another one of the i-th one's node.
+/// Returns whether journals `i` and `k` are two journals of one node.
 fn is_other(journals: &[Closed], i: usize, k: usize) -> bool
     requires first { i < length journals.now }
     requires second { k < length journals.now }
@@ -35,7 +35,7 @@ fn is_other(journals: &[Closed], i: usize, k: usize) -> bool
     k != i && journals[k].node() == journals[i].node()
 }
 
-/// Whether another journal is of the same node.
+/// Returns whether another journal belongs to the same node.
 fn is_twice(journals: &[Closed], i: usize) -> bool
     requires { i < length journals.now }
     ensures { (j : JournalValue) → At journals.now i j → IsTrue result ↔ IsTwice journals.now i j }
@@ -48,7 +48,7 @@ fn is_twice(journals: &[Closed], i: usize) -> bool
     false
 }
 
-/// Whether a journal is no whole history, or not the only one.
+/// Returns whether a journal begins after a boot or isn't the only one of its node.
 fn is_unfit(journals: &[Closed], i: usize) -> bool
     requires { i < length journals.now }
     ensures { (j : JournalValue) → At journals.now i j → IsTrue result ↔ IsUnfit journals.now i j }
@@ -56,7 +56,7 @@ fn is_unfit(journals: &[Closed], i: usize) -> bool
     journals[i].last() != 0 || is_twice(journals, i)
 }
 
-/// The least-named journal that is no whole history, or not the only one.
+/// The unfit journal of the least node.
 pub(crate) fn unfit(journals: &[Closed]) -> Option<usize>
     ensures { MatchOption result (AllFit journals.now)
         (λ i. (j : JournalValue) × IsFirst journals.now (IsUnfit journals.now) i j) }

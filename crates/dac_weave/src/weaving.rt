@@ -1,4 +1,4 @@
-//! Journals woven into one run of the world.
+//! The weave.
 
 ghost use Rattle.std.specs.Prelude.{IfOk, IfErr};
 ghost use Rattle.dac_weave.specs.Woven.{Gives};
@@ -14,25 +14,26 @@ use dac_events::WorldEvent;
 use dac_journal::{Closed, every_list_converges};
 use std::alloc::Global;
 
-/// The events of the world whose run gives each journal's records at its node, in order, with their answers, and
-/// nothing at any other node. Where no run does, the place where each run ends.
+/// Returns world events whose run reproduces the journals: at each journal's node its records, in order, with their
+/// results, and nothing at any other node. If there is no such run, fails with the node and the record at which every
+/// run stops.
 ///
-/// Each journal is replayed under the configuration, so journals of another one are woven only as far as their answers
-/// are this one's. `NoMemory` is answered wherever a growth is refused before the other fault is reached.
+/// The journals are replayed under `config`, so journals of another configuration are woven only up to the first result
+/// that differs. Fails with [`WeaveFault::NoMemory`] if an allocation fails before the merge ends.
 pub fn weave(
     alloc: Global,
     config: &Config,
     journals: &[Closed],
 ) -> Result<Vec<WorldEvent>, WeaveFault>
-    // The run has at each journal's node exactly its records, in order, with their answers, and no event at another node.
+    // The run reproduces each journal, in order, with its results, and has no event at another node.
     ensures woven { IfOk result (λ events. Gives config.now journals.now events.items) }
-    // So each journal is what its node records of the run.
+    // Therefore each journal is what its node records in the run.
     ensures recorded { IfOk result (λ events. IsRecorded config.now journals.now events.items) }
-    // All that every run leaves holds of the run, and each journal's history ends where the run leaves its node.
+    // The guarantees of every run hold, and each journal's history ends in the state in which the run leaves its node.
     ensures converges { IfOk result (λ events. IsConverged config.now journals.now events.items) }
-    // The node and the place of a fault are those where all runs end.
+    // Every run stops at the node and the record that the fault names.
     ensures unwoven { IfErr result (IsTrueFault config.now journals.now) }
-    // No run records journals that aren't woven, also not one with events that name no node, no message or no operation.
+    // No run records these journals, not even one with events that name no node, message or operation.
     ensures complete { IfErr result (IsRefusal config.now journals.now) }
 {
     every_list_converges();

@@ -1,4 +1,4 @@
--- The codes that stand for what a packet and an act are.
+-- The codes of packets and acts.
 use Rattle.std.specs.Prelude.{ℕ, zero, suc, ◌≤◌, Bool, true, false, Option, None, Some}
 use Rattle.dac_bytes.specs.declared.version.Version.{Version}
 use Rattle.dac_bytes.specs.declared.version.Version.TheVariants.{One, Two}
@@ -15,7 +15,7 @@ use Rattle.dac_wire.specs.declared.packet.Packet.TheVariants as packet
 
 -- ---- packets
 
--- What a packet is: 1 for a whole state, 2 for an interval, 3 for a message that brings nothing. It is 4 for a single
+-- the code of a packet's kind: 1 for a whole state, 2 for an interval, 3 for a message without a state, 4 for a single
 -- operation
 abbrev pub packet_code : PacketKind → ℕ
 packet_code Whole = 1
@@ -23,7 +23,7 @@ packet_code Interval = 2
 packet_code Nothing = 3
 packet_code Single = 4
 
--- the kind of a code; reading refuses 0 and those above 4 before
+-- the packet kind of a code; reading rejects 0 and those above 4 first
 abbrev pub packet_of_code : ℕ → PacketKind
 packet_of_code zero = Whole
 packet_of_code (suc zero) = Whole
@@ -42,7 +42,7 @@ kind_of_packet (packet.Single o) = Single
 
 -- ---- acts
 
--- what an act is: its place among the acts, from 1
+-- the code of an act's kind: its position among the kinds, from 1
 abbrev pub act_code : ActKind → ℕ
 act_code Up = 1
 act_code Down = 2
@@ -52,7 +52,7 @@ act_code Stop = 5
 act_code Claim = 6
 act_code Drain = 7
 
--- the kind of a code; reading refuses 0 and those above 7 before
+-- the act kind of a code; reading rejects 0 and those above 7 first
 abbrev pub act_of_code : ℕ → ActKind
 act_of_code zero = Up
 act_of_code (suc zero) = Up
@@ -72,18 +72,18 @@ kind_of_act (StopAct key over) = Stop
 kind_of_act (DrainAct node inc value over) = Drain
 kind_of_act (ClaimAct app term how from) = Claim
 
--- the highest code of an act; version one has no drains
+-- the greatest code of an act; version one has no drains
 abbrev pub highest_act : Version → ℕ
 highest_act One = 6
 highest_act Two = 7
 
--- the version has such acts
+-- the version has acts of this kind
 abbrev pub IsKindIn : Version → ActKind → Type 0
 IsKindIn version kind = act_code kind ≤ highest_act version
 
 -- ---- values
 
--- what a permit or a drain says: 0 for false, 1 for true
+-- the code of the value of a permit or a drain: 0 for false, 1 for true
 abbrev pub value_code : Bool → ℕ
 value_code false = 0
 value_code true = 1
@@ -92,7 +92,7 @@ abbrev pub value_of_code : ℕ → Bool
 value_of_code zero = false
 value_of_code (suc n) = true
 
--- the incarnation that a message is for, 0 where it is for any
+-- the code of the incarnation that a message is for: 0 if it is for any
 abbrev pub only_code : Option ℕ → ℕ
 only_code None = 0
 only_code (Some inc) = inc
@@ -101,7 +101,7 @@ abbrev pub only_of_code : ℕ → Option ℕ
 only_of_code zero = None
 only_of_code (suc n) = Some (suc n)
 
--- whether something was got, 1, or nothing, 0
+-- whether there is an acknowledgement (1) or none (0)
 abbrev pub ack_code : {X : Type 0} → Option X → ℕ
 ack_code None = 0
 ack_code (Some x) = 1

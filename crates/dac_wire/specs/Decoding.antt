@@ -1,4 +1,4 @@
--- What the bytes of a packet give: what is wrong with their front, and else what their fields give.
+-- Decoding a packet: the fault in its front, if any, otherwise the result of reading its fields.
 use Rattle.std.specs.Prelude.{ℕ, List, length, not, nat_lt, nat_eq, Option, None, Some, Result, Err, if◌then◌else◌}
 use Rattle.std.specs.List.{starts_with}
 use Rattle.dac_config.specs.Table.{Table}
@@ -15,14 +15,14 @@ use Rattle.dac_wire.specs.Faults.{in_packet}
 use Rattle.dac_wire.specs.Reading.{fields_at}
 use Rattle.dac_wire.specs.Spelling.{magic, name_bytes, preamble_bytes}
 
--- a fault at a byte
+-- a fault of this kind at this offset
 abbrev pub wrong : WireFaultKind → ℕ → Option WireFault
 wrong kind at = Some (record { kind = kind; at = at })
 
--- What is wrong with the front of bytes of a version, the first that holds. They are too many. They don't begin with
--- the name of the format, or not with the version after it. The mark isn't whole, or it is another.
-unfoldable pub front_fault : Version → Table → List ℕ → Option WireFault
-front_fault version t bytes =
+-- The first fault in the front of bytes of a version, if any: too many bytes, another format's name, another version,
+-- an incomplete mark, or another mark.
+unfoldable pub preamble_fault : Version → Table → List ℕ → Option WireFault
+preamble_fault version t bytes =
     if nat_lt MAX_MESSAGE (length bytes) then wrong TooLong MAX_MESSAGE
     else if not (starts_with nat_eq bytes magic) then wrong BadMagic 0
     else if not (starts_with nat_eq bytes (name_bytes version)) then wrong BadVersion 3
@@ -30,7 +30,7 @@ front_fault version t bytes =
     else if not (starts_with nat_eq bytes (preamble_bytes version t)) then wrong OtherConfig 4
     else None
 
--- a fault, if there is one, and else what is read
+-- the fault, if any, otherwise the result of reading
 abbrev pub unless : {X : Type 0} → Option WireFault → Result X WireFault → Result X WireFault
 unless None read = read
 unless (Some e) read = Err e
@@ -38,9 +38,9 @@ unless (Some e) read = Err e
 -- The packet that bytes of a version spell under a configuration, or the first fault.
 unfoldable pub packet_in : Version → Table → List ℕ → Result Packet WireFault
 packet_in version t bytes =
-    unless (front_fault version t bytes) (in_packet (fields_at version t (after PREAMBLE (whole bytes))))
+    unless (preamble_fault version t bytes) (in_packet (fields_at version t (after PREAMBLE (whole bytes))))
 
--- The version that bytes are read by: one where they name it, and else two.
+-- The version by which bytes are read: one if they name it, otherwise two.
 unfoldable pub version_in : List ℕ → Version
 version_in bytes = if starts_with nat_eq bytes (name_bytes One) then One else Two
 

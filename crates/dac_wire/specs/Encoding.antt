@@ -1,4 +1,4 @@
--- Which fault comes of a packet that has so many bytes.
+-- The faults of encoding a packet of `count` bytes.
 use Rattle.std.specs.Prelude.{◌≡◌, ℕ, ◌<◌}
 use Rattle.dac_wire.specs.declared.fault.WireFault.{WireFault}
 use Rattle.dac_wire.specs.declared.fault.WireFaultKind.{WireFaultKind}

@@ -1,4 +1,4 @@
--- Which packets have bytes of a version that are read under a configuration.
+-- Well-formed packets: those that bytes of a version can spell under a configuration.
 use Rattle.std.specs.Prelude.{◌≡◌, ℕ, ◌<◌, ◌≤◌, ◌^◌, Bool, true, false, List, length, Option, None, Some}
 use Rattle.std.specs.List.{AllByRecursion}
 use Rattle.dac_base.specs.declared.NodeId.{NodeId}
@@ -12,7 +12,7 @@ use Rattle.dac_origins.specs.Keys.{IsRising}
 use Rattle.dac_wishes.specs.DrainsValue.{origin}
 use Rattle.dac_config.specs.Table.{Table, node_count, app_count}
 use Rattle.dac_bytes.specs.Ranges.{IsIncarnation, IsOrigin, IsDot}
-use Rattle.dac_part_bytes.specs.ChainForm.{IsFromFor}
+use Rattle.dac_part_bytes.specs.ChainForm.{IsConsistentOrigin}
 use Rattle.dac_part_bytes.specs.KeyedForm.{IsKey}
 use Rattle.dac_part_bytes.specs.Reading.{is_listed}
 use Rattle.dac_state.specs.StateForm.{IsInForm}
@@ -29,43 +29,40 @@ use Rattle.dac_bytes.specs.declared.version.Version.{Version}
 
 -- ---- messages
 
--- whether a message brings a whole state
+-- whether a message contains a whole state
 abbrev pub is_whole : Body → Bool
 is_whole (Whole s) = true
 is_whole (Interval s) = false
 is_whole Nothing = false
 
--- a message is for any incarnation exactly where it brings a whole state, and else for one alone
+-- a message with a whole state is for any incarnation, and any other for one only
 abbrev pub IsOnly : Version → Bool → Option ℕ → Type 0
 IsOnly version true only = only ≡ None
 IsOnly version false only = (inc : ℕ) × (only ≡ Some inc) × IsIncarnation version inc
 
--- what was got, if anything, is of an incarnation of a node that there is, and a number that there can be
+-- an acknowledgement, if any, has an incarnation of an existing node, and a count in range
 abbrev pub IsAck : Version → ℕ → Option (Origin × ℕ) → Type 0
 IsAck version nodes None = Unit {0}
 IsAck version nodes (Some ack) = IsOrigin version nodes ack.0 × (ack.1 ≤ MAX_COUNTER)
 
--- the state that it brings, if any, is in form
+-- the state of a message, if any, is well-formed
 abbrev pub IsBodyInForm : Version → Table → Body → Type 0
 IsBodyInForm version t (Whole s) = IsInForm version t s
 IsBodyInForm version t (Interval s) = IsInForm version t s
 IsBodyInForm version t Nothing = Unit {0}
 
--- a message that can be read
+-- a message is well-formed
 pub record IsMessage (version : Version) (t : Table) (m : Message) : Type 0 where
-  -- an incarnation of a node that there is
   pub from : IsOrigin version (node_count t) m.from
-  -- a node that there is
   pub to : m.to.0 < node_count t
   pub only : IsOnly version (is_whole m.body) m.only
-  -- a number of deltas that there can be
   pub up_to : m.up_to ≤ MAX_COUNTER
   pub ack : IsAck version (node_count t) m.ack
   pub body : IsBodyInForm version t m.body
 
 -- ---- operations
 
--- dots that there can be, in ascending order, and so many that their number fits its field
+-- dots in range, in ascending order, whose number fits its field
 pub record AreOver (version : Version) (nodes : ℕ) (over : List Dot) : Type 0 where
   pub each : AllByRecursion (IsDot version nodes) over
   pub rising : IsRising dot_cmp over
@@ -74,17 +71,15 @@ pub record AreOver (version : Version) (nodes : ℕ) (over : List Dot) : Type 0 
 -- a claim by a node in the application's list
 pub record IsClaimInForm (t : Table) (issuer : NodeId) (claimed : AppId) (number : ℕ) (how : How)
     (taken : Option NodeId) : Type 0 where
-  -- there is such an application
   pub app : claimed.0 < app_count t
-  -- its term is one that can be issued
+  -- the term can be issued
   pub first : 1 ≤ number
   pub last : number ≤ MAX_COUNTER
   -- the node is in the application's list
   pub listed : is_listed t claimed issuer ≡ true
-  -- where it came from fits how it came
-  pub from : IsFromFor (node_count t) how taken
+  pub from : IsConsistentOrigin (node_count t) how taken
 
--- the act of a node
+-- the act, issued by a node, is well-formed
 abbrev pub IsAct : Version → Table → NodeId → Act → Type 0
 IsAct version t issuer Up = Unit {0}
 IsAct version t issuer (Down node inc) = (node.0 < node_count t) × IsIncarnation version inc
@@ -95,19 +90,18 @@ IsAct version t issuer (Drain node inc value over) =
     IsOrigin version (node_count t) (origin node inc) × AreOver version (node_count t) over
 IsAct version t issuer (Claim app term how from) = IsClaimInForm t issuer app term how from
 
--- an operation that can be read
+-- an operation is well-formed
 pub record IsOperation (version : Version) (t : Table) (o : Operation) : Type 0 where
-  -- a dot that there can be
   pub dot : IsDot version (node_count t) o.dot
-  -- an act that the version has
+  -- a kind of act that the version has
   pub kind : IsKindIn version (kind_of_act o.act)
   pub act : IsAct version t o.dot.origin.node o.act
-  -- nothing keeps the two from being an operation
+  -- dot and act make an operation
   pub sound : fault_of o.dot o.act ≡ None
 
 -- ---- packets
 
--- The names, list places, numbers, orders and counts of the packet are those that its bytes can say.
+-- Bytes of the version can spell the names, list places, numbers, orders and counts of the packet.
 abbrev pub IsPacket : Version → Table → Packet → Type 0
 IsPacket version t (packet.Msg m) = IsMessage version t m
 IsPacket version t (packet.Single o) = IsOperation version t o

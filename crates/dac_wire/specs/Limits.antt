@@ -1,4 +1,4 @@
--- What the limit is, so that it can't change unseen.
+-- Fixes the limit, so that it can't change unnoticed.
 use Rattle.std.specs.Prelude.{◌≡◌, refl}
 use Rattle.dac_wire.specs.declared.packet.TheConstants.{MAX_MESSAGE}
 

@@ -1,4 +1,4 @@
--- Packets as bytes, in each version. Numbers are written as in `dac_bytes`, the highest byte first.
+-- Packets as bytes, in each version. Numbers are written as in `dac_bytes`: big-endian.
 use Rattle.std.specs.Prelude.{ℕ, List, [], ◌∷◌, ◌++◌, length, codes, Option, None, Some}
 use Rattle.std.specs.List.{flat_map}
 use Rattle.dac_origins.specs.declared.dot.Dot.{Dot}
@@ -23,9 +23,9 @@ use Rattle.dac_wire.specs.declared.packet.Packet.TheVariants as packet
 use Rattle.dac_bytes.specs.declared.version.Version.{Version}
 use Rattle.dac_bytes.specs.declared.version.Version.TheVariants.{One, Two}
 
--- ---- what each packet begins with
+-- ---- the preamble of a packet
 
--- the name of the format
+-- the format's name
 abbrev pub magic : List ℕ
 magic = codes "DAC"
 
@@ -34,40 +34,40 @@ abbrev pub version_byte : Version → ℕ
 version_byte One = 1
 version_byte Two = 2
 
--- the name of the format, and the version
+-- the format's name, followed by the version
 abbrev pub name_bytes : Version → List ℕ
 name_bytes version = magic ++ (version_byte version ∷ [])
 
--- the mark of a configuration
+-- the mark of a configuration: the hash of its canonical text
 abbrev pub mark_of : Table → ℕ
 mark_of t = fnv1a (canonical_text t)
 
--- the name of the format, its version, and the mark of the configuration, in twelve bytes
+-- the format's name, its version, and the mark of the configuration, in twelve bytes
 unfoldable pub preamble_bytes : Version → Table → List ℕ
 preamble_bytes version t = name_bytes version ++ u64_bytes (mark_of t)
 
 -- ---- messages
 
--- what was got of the receiver: 0 for nothing, or 1, its incarnation, and how many deltas that had
+-- the acknowledgement: 0 for none, or 1, an incarnation of the receiver, and its delta count
 unfoldable pub ack_bytes : Version → Option (Origin × ℕ) → List ℕ
 ack_bytes version None = u8_bytes 0
 ack_bytes version (Some ack) = u8_bytes 1 ++ origin_bytes version ack.0 ++ u64_bytes ack.1
 
--- the state that a message brings, if any
+-- the state of a message, if any
 unfoldable pub body_bytes : Version → Body → List ℕ
 body_bytes version (Whole s) = state.state_bytes version s
 body_bytes version (Interval s) = state.state_bytes version s
 body_bytes version Nothing = []
 
--- Who ships it, for which node, for which incarnation of it, and how many deltas the sender had. Then what it got of
--- the receiver, and what it brings
+-- The sender, the node and the incarnation that the message is for, the sender's delta count, its acknowledgement of
+-- the receiver's deltas, and the state of the message
 unfoldable pub message_bytes : Version → Message → List ℕ
 message_bytes version m = origin_bytes version m.from ++ u8_bytes m.to.0 ++ incarnation_bytes version (only_code m.only)
     ++ u64_bytes m.up_to ++ ack_bytes version m.ack ++ body_bytes version m.body
 
 -- ---- operations
 
--- how many dots, and these
+-- the number of dots, and these
 unfoldable pub over_bytes : Version → List Dot → List ℕ
 over_bytes version over = u16_bytes (length over) ++ flat_map (dot_bytes version) over
 
@@ -83,17 +83,17 @@ act_fields_bytes version (Drain node inc value over) =
     origin_bytes version (origin node inc) ++ u8_bytes (value_code value) ++ over_bytes version over
 act_fields_bytes version (Claim app term how from) = app_bytes app ++ u64_bytes term ++ manner_bytes how from
 
--- which act it is, and its fields
+-- the kind of an act, and its fields
 unfoldable pub act_bytes : Version → Act → List ℕ
 act_bytes version a = u8_bytes (act_code (kind_of_act a)) ++ act_fields_bytes version a
 
--- the dot that names it, and the act
+-- the dot of an operation, and its act
 unfoldable pub operation_bytes : Version → Operation → List ℕ
 operation_bytes version o = dot_bytes version o.dot ++ act_bytes version o.act
 
 -- ---- packets
 
--- what a packet holds after its kind
+-- the fields of a packet after its kind
 unfoldable pub content_bytes : Version → Packet → List ℕ
 content_bytes version (packet.Msg m) = message_bytes version m
 content_bytes version (packet.Single o) = operation_bytes version o

@@ -1,4 +1,4 @@
-//! The codes that stand for what a packet and an act are.
+//! The codes of packets and acts.
 ghost use Rattle.std.specs.Prelude.{◌≡◌};
 ghost use Rattle.dac_wire.specs.Codes.{act_code, act_of_code, highest_act, kind_of_act, kind_of_packet, only_code, only_of_code, packet_code, packet_of_code, value_code, value_of_code};
 
@@ -7,7 +7,7 @@ use dac_bytes::Version;
 use dac_messages::Body;
 use dac_operations::Act;
 
-/// What a packet is.
+/// The kind of a packet: a message by its body, or a single operation.
 #[derive(Clone, Copy)]
 pub(crate) enum PacketKind {
     Whole,
@@ -16,7 +16,7 @@ pub(crate) enum PacketKind {
     Single,
 }
 
-/// What an act is.
+/// The kind of an act.
 #[derive(Clone, Copy)]
 pub(crate) enum ActKind {
     Up,
@@ -28,8 +28,8 @@ pub(crate) enum ActKind {
     Drain,
 }
 
-/// The kind of a packet, by its code. The reader refuses each code but 1 to 4 before this is asked. So 0 and those above
-/// 4 don't come; their arms are there since a match covers all codes.
+/// The packet kind of a code. The reader rejects codes other than 1 to 4 first; their arms exist only because a match
+/// must be total.
 pub(crate) fn packet_of_code(code: u8) -> PacketKind
     ensures { result ≡ packet_of_code code }
 {
@@ -42,7 +42,7 @@ pub(crate) fn packet_of_code(code: u8) -> PacketKind
     }
 }
 
-/// The code of a kind.
+/// The code of a packet's kind, 1 to 4.
 pub(crate) fn packet_code(kind: PacketKind) -> u8
     ensures { result ≡ packet_code kind }
 {
@@ -54,7 +54,7 @@ pub(crate) fn packet_code(kind: PacketKind) -> u8
     }
 }
 
-/// What a packet is.
+/// The kind of a packet.
 pub(crate) fn kind_of_packet(packet: &Packet) -> PacketKind
     ensures { result ≡ kind_of_packet packet.now }
 {
@@ -68,8 +68,8 @@ pub(crate) fn kind_of_packet(packet: &Packet) -> PacketKind
     }
 }
 
-/// The kind of an act, by its code. The reader refuses each code but 1 to 7 before this is asked. So 0 and those above 7
-/// don't come; their arms are there since a match covers all codes.
+/// The act kind of a code. The reader rejects codes other than 1 to 7 first; their arms exist only because a match must
+/// be total.
 pub(crate) fn act_of_code(code: u8) -> ActKind
     ensures { result ≡ act_of_code code }
 {
@@ -85,7 +85,7 @@ pub(crate) fn act_of_code(code: u8) -> ActKind
     }
 }
 
-/// The code of a kind.
+/// The code of an act's kind, 1 to 7.
 pub(crate) fn act_code(kind: ActKind) -> u8
     ensures { result ≡ act_code kind }
 {
@@ -100,7 +100,7 @@ pub(crate) fn act_code(kind: ActKind) -> u8
     }
 }
 
-/// The highest code of an act. Version one has no drains.
+/// The greatest code of an act; version one has no drains.
 pub(crate) fn highest_act(version: Version) -> u8
     ensures { result ≡ highest_act version }
 {
@@ -110,7 +110,7 @@ pub(crate) fn highest_act(version: Version) -> u8
     }
 }
 
-/// What an act is.
+/// The kind of an act.
 pub(crate) fn kind_of_act(act: &Act) -> ActKind
     ensures { result ≡ kind_of_act act.now }
 {
@@ -125,7 +125,7 @@ pub(crate) fn kind_of_act(act: &Act) -> ActKind
     }
 }
 
-/// What a permit or a drain says, by its code. The reader refuses codes above 1.
+/// The value of a permit or a drain, by its code. The reader rejects codes above 1.
 pub(crate) fn value_of_code(code: u8) -> bool
     ensures { result ≡ value_of_code code }
 {
@@ -135,7 +135,7 @@ pub(crate) fn value_of_code(code: u8) -> bool
     }
 }
 
-/// The code of what a permit or a drain says.
+/// The code of the value of a permit or a drain.
 pub(crate) fn value_code(value: bool) -> u8
     ensures { result ≡ value_code value }
 {

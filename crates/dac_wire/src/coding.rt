@@ -1,6 +1,6 @@
-//! Packets as bytes, and from bytes.
+//! Encodes and decodes packets.
 ghost use Rattle.std.specs.Prelude.{◌≡◌, ◌≤◌, ◌<◌, IfErr, IfOk, Ok, length};
-ghost use Rattle.dac_wire.specs.Decoding.{front_fault, packet_at, packet_in, version_in};
+ghost use Rattle.dac_wire.specs.Decoding.{preamble_fault, packet_at, packet_in, version_in};
 ghost use Rattle.dac_bytes.specs.Reading.{after, whole};
 ghost use Rattle.dac_wire.specs.Encoding.{IsEncodeFault};
 ghost use Rattle.dac_wire.specs.Faults.{Gives, in_packet};
@@ -22,13 +22,11 @@ use dac_part_bytes::laws::parts_have_one_spelling;
 use dac_state::laws::states_have_one_spelling;
 use std::alloc::Global;
 
-/// The name of the format.
 const MAGIC: [u8; 3] = *b"DAC";
 
-/// How many bytes come before what a packet is: the name, the version and the mark.
+/// The number of bytes before a packet's kind: the format's name, its version and the mark.
 const PREAMBLE: usize = 12;
 
-/// The byte of a version.
 fn version_byte(version: Version) -> u8
     ensures { result ≡ version_byte version }
 {
@@ -38,7 +36,7 @@ fn version_byte(version: Version) -> u8
     }
 }
 
-/// The name of the format, and the version.
+/// The format's name, followed by the version.
 fn name(version: Version) -> [u8; 4]
     ensures { result ≡ name_bytes version }
 {
@@ -46,7 +44,7 @@ fn name(version: Version) -> [u8; 4]
     [d, a, c, version_byte(version)]
 }
 
-/// The name of the format, the version, and the mark of the configuration.
+/// The format's name, its version, and the mark of the configuration.
 #[tactic(auto, unfolding(crate::specs::Spelling::preamble_bytes, dac_bytes::specs::Numbers::u64_bytes))]
 fn preamble(version: Version, config: &Config) -> [u8; PREAMBLE]
     ensures { result ≡ preamble_bytes version config.now }
@@ -59,9 +57,9 @@ fn preamble(version: Version, config: &Config) -> [u8; PREAMBLE]
     ]
 }
 
-/// What is wrong with the front of bytes of a version, if anything.
-fn front_fault(version: Version, config: &Config, bytes: &[u8]) -> Option<WireFault>
-    ensures { result ≡ front_fault version config.now bytes.now }
+/// The fault in the front of bytes of a version, if any.
+fn preamble_fault(version: Version, config: &Config, bytes: &[u8]) -> Option<WireFault>
+    ensures { result ≡ preamble_fault version config.now bytes.now }
 {
     if bytes.len() > MAX_MESSAGE {
         return Some(WireFault::new(WireFaultKind::TooLong, MAX_MESSAGE));
@@ -81,7 +79,7 @@ fn front_fault(version: Version, config: &Config, bytes: &[u8]) -> Option<WireFa
     None
 }
 
-/// The packet of bytes of a version whose front is right.
+/// The packet of bytes of a version with a correct front.
 fn decode_fields(
     alloc: Global,
     version: Version,
@@ -114,13 +112,13 @@ fn decode_in(
 {
     parts_have_one_spelling(config);
     states_have_one_spelling(config);
-    match front_fault(version, config, bytes) {
+    match preamble_fault(version, config, bytes) {
         Some(fault) => Err(fault),
         None => decode_fields(alloc, version, config, bytes),
     }
 }
 
-/// The version that bytes are read by: one where they name it, and else two.
+/// The version by which bytes are read: one if they name it, otherwise two.
 #[tactic(auto, unfolding(crate::specs::Decoding::version_in))]
 fn version_in(bytes: &[u8]) -> Version
     ensures { result ≡ version_in bytes.now }
@@ -132,30 +130,31 @@ fn version_in(bytes: &[u8]) -> Version
     }
 }
 
-/// The packet that the bytes spell under a configuration, in version 1 or 2.
+/// The packet that the bytes spell under a configuration, in version 1 or 2. Version 1 has incarnations in four bytes,
+/// and no drains.
 ///
-/// More than 4,194,304 bytes are `TooLong` at 4,194,304. Bytes that don't begin with `DAC` are `BadMagic` at 0, and
-/// those whose fourth is neither 1 nor 2 `BadVersion` at 3. A mark that isn't whole is `Short` at 4, and one of another
-/// configuration `OtherConfig` at 4. Then each field is checked as it is read. The fault, with its byte counted from
-/// 0, is the one that the reading function `packet_at` gives. `NoMemory` stands at 0, and says nothing of the bytes.
+/// # Errors
 ///
-/// Version 1 has incarnations in four bytes, and no drains.
+/// More than 4,194,304 bytes are `TooLong` at 4,194,304. Bytes that don't begin with `DAC` are `BadMagic` at 0, and a
+/// version other than 1 and 2 is `BadVersion` at 3. An incomplete mark is `Short` at 4, and that of another
+/// configuration `OtherConfig` at 4. Then fields are checked as they are read: the reading function `packet_at`
+/// determines the fault, with its offset from 0. `NoMemory` has offset 0 and carries no information about the bytes.
 pub fn decode(alloc: Global, config: &Config, bytes: &[u8]) -> Result<Packet, WireFault>
-    // What is read is spelled so in some version, and in form for it.
+    // The returned packet is well-formed for some version, with these bytes as its spelling.
     ensures found { IfOk result (λ p. (version : Version) × IsPacket version config.now p
         × (bytes.now ≡ packet_bytes version config.now p) × (length bytes.now ≤ MAX_MESSAGE)) }
-    // What is spelled so and in form is read, unless memory runs out.
+    // A well-formed packet is read from its spelling, unless memory runs out.
     ensures only { (version : Version) (p : Packet) → IsPacket version config.now p
         → bytes.now ≡ packet_bytes version config.now p → length bytes.now ≤ MAX_MESSAGE
         → Gives result (Ok p) }
-    // Which fault it is: the one that reading from left to right gives.
+    // The definition determines the fault, unless memory runs out.
     ensures exact { Gives result (packet_at config.now bytes.now) }
 {
     let version = version_in(bytes);
     decode_in(alloc, version, config, bytes)
 }
 
-/// All bytes of a packet.
+/// All bytes of a packet in version two.
 #[tactic(auto, unfolding(crate::specs::Spelling::packet_bytes))]
 fn spell(alloc: Global, config: &Config, packet: &Packet) -> Result<Vec<u8>, NoMemory>
     ensures { IfOk result (λ bytes. bytes.items ≡ spelling_of config.now packet.now) }
@@ -167,11 +166,13 @@ fn spell(alloc: Global, config: &Config, packet: &Packet) -> Result<Vec<u8>, NoM
     Ok(written.into_bytes())
 }
 
-/// The bytes of a packet under a configuration, version 2. Equal packets have equal bytes.
+/// The bytes of a packet under a configuration, in version 2. Equal packets have equal bytes. A count that doesn't fit
+/// its field is truncated to its low bits.
 ///
-/// More than 4,194,304 bytes are `TooLong` at 4,194,304, and memory that is refused is `NoMemory` at 0. There is no
-/// other fault. All bytes are written before they are counted, so memory may be refused for a packet that is too long.
-/// A count that doesn't fit its field is written by its lowest bits.
+/// # Errors
+///
+/// `TooLong` at 4,194,304 if there are more bytes, and `NoMemory` at 0. All bytes are written before they are counted,
+/// so that a packet that is too long can fail with either.
 pub fn encode(alloc: Global, config: &Config, packet: &Packet) -> Result<Vec<u8>, WireFault>
     ensures ok { IfOk result (λ bytes. (bytes.items ≡ spelling_of config.now packet.now)
         × (length bytes.items ≤ MAX_MESSAGE)) }

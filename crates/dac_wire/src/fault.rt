@@ -1,4 +1,4 @@
-//! Why bytes are no packet.
+//! The faults of a packet's bytes.
 ghost use Rattle.std.specs.Prelude.{◌≡◌};
 ghost use Rattle.dac_wire.specs.Faults.{fault_of_field, kind_of_field};
 
@@ -6,47 +6,46 @@ use dac_bytes::{ReadFault, ReadFaultKind};
 use std::error::Error;
 use std::fmt;
 
-/// What is wrong at an offset of the bytes. The number of each kind is its place in this list, from 1, and
-/// its name and number are part of the program's output.
+/// A kind of fault. Its number is its position in this list, from 1. Number and name are part of the program's output.
 #[derive(Clone, Copy, Debug, PartialEq, Eq, Hash)]
 pub enum WireFaultKind {
     /// There are more than 4,194,304 bytes.
     TooLong = 1,
-    /// They don't begin with the name of the format.
+    /// The bytes don't begin with the format's name, `DAC`.
     BadMagic,
-    /// They are of another version.
+    /// The version is neither 1 nor 2.
     BadVersion,
-    /// They are of another configuration.
+    /// The mark is that of another configuration.
     OtherConfig,
-    /// The bytes end before this field does.
+    /// The bytes end within this field.
     Short,
-    /// A number is out of its range, or an operation is none.
+    /// A number is out of its range, or a dot and an act make no operation.
     BadNumber,
-    /// An item isn't above the one before it.
+    /// An item isn't greater than the one before it.
     BadOrder,
     /// No node or application has this number.
     BadName,
-    /// A node isn't in the list of the application.
+    /// A node isn't in the application's list.
     NotInList,
-    /// A dot that is heard, or that stands, isn't among those that are known.
+    /// A heard dot, or the dot of an entry, isn't among the known dots.
     NotKnown,
-    /// Bytes come after the last field.
+    /// Bytes follow the last field.
     Trailing,
-    /// Memory was refused; nothing is said of the bytes.
+    /// Out of memory. It carries no information about the bytes.
     NoMemory,
 }
 
 impl WireFaultKind {
     ghost use Rattle.dac_wire.specs.Faults.{name_of, number_of};
 
-    /// The number that stands for it in the program's output, 1 to 12.
+    /// The kind's number in the program's output, 1 to 12.
     pub fn number(self) -> u8
         ensures { result ≡ number_of self }
     {
         self as u8
     }
 
-    /// Its name in the program's output, which is also what `Display` prints.
+    /// The kind's name in the program's output, which `Display` prints too.
     pub fn name(self) -> &'static str
         ensures { result.now ≡ name_of self }
     {
@@ -80,12 +79,12 @@ impl fmt::Display for WireFaultKind {
 
 impl Error for WireFaultKind {}
 
-/// The first fault of some bytes, from left to right. `Display` prints it as `NAME at P`.
+/// The first fault of a sequence of bytes, from left to right. `Display` prints it as `NAME at P`.
 #[derive(Clone, Copy, Debug, PartialEq, Eq, Hash)]
 pub struct WireFault {
-    /// What is wrong.
+    /// The kind of fault.
     pub kind: WireFaultKind,
-    /// Where: the offset of a byte, from 0; 0 for `NoMemory`.
+    /// The offset of a byte, from 0; 0 for `NoMemory`.
     pub at: usize,
 }
 
@@ -103,7 +102,7 @@ impl fmt::Display for WireFault {
 
 impl Error for WireFault {}
 
-/// The fault of a packet that has the name of a fault of its fields.
+/// The kind of packet fault with the same name as this kind of field fault.
 fn kind_of_field(kind: ReadFaultKind) -> WireFaultKind
     ensures { result ≡ kind_of_field kind }
 {
@@ -120,14 +119,14 @@ fn kind_of_field(kind: ReadFaultKind) -> WireFaultKind
 }
 
 impl WireFault {
-    /// What is wrong, and where.
+    /// A fault of this kind at this offset.
     pub(crate) fn new(kind: WireFaultKind, at: usize) -> Self
         ensures { result ≡ record { kind = kind; at = at } }
     {
         WireFault { kind, at }
     }
 
-    /// The fault of a packet, by that of its fields.
+    /// The packet fault of a field fault.
     pub(crate) fn of_field(fault: ReadFault) -> Self
         ensures { result ≡ fault_of_field fault }
     {

@@ -3,17 +3,17 @@
 use dac_base::NodeId;
 use dac_origins::Origin;
 
-/// All of a message but what it brings.
+/// A message without its state.
 #[derive(Clone, Copy)]
 pub(crate) struct Head {
-    /// The incarnation that shipped it.
+    /// The incarnation that sent it.
     pub from: Origin,
-    /// The node that it is for.
+    /// The receiving node.
     pub to: NodeId,
-    /// The incarnation of that node that it is for, where it is for one alone.
+    /// The only incarnation of that node that can receive it; `None` if any can.
     pub only: Option<u64>,
-    /// How many deltas the sender had.
+    /// The sender's delta count.
     pub up_to: u64,
-    /// What the sender got of the receiver.
+    /// The sender's acknowledgement, if any: an incarnation of the receiver, and its delta count.
     pub ack: Option<(Origin, u64)>,
 }

@@ -1,17 +1,18 @@
 //! Messages and single operations as bytes.
 //!
-//! A [`Packet`] is a message from one controller to another, or an operation alone. [`encode`] writes it, and
-//! [`decode`] reads it again. All numbers are big-endian. A packet begins with the name of the format, its version
-//! and the mark of the configuration. It goes on with what it is and its fields. The state that a message brings
-//! comes last, as `State::encode` writes it.
+//! A [`Packet`] is a message from one controller to another, or a single operation. [`encode`] writes it, and
+//! [`decode`] reads it. All numbers are big-endian. A packet begins with the format's name, its version and the mark of
+//! the configuration, followed by its kind and its fields. The state of a message comes last, as `State::encode` writes
+//! it.
 //!
-//! The format has two versions. In version 1 incarnations have four bytes and there are no drains, and in version 2
-//! they have eight. [`encode`] writes version 2 alone, and [`decode`] reads both. A packet has one spelling in each
-//! version under a configuration. [`decode`] answers a packet exactly for the spelling of a packet in form. In form are
-//! those whose names, list places, numbers, orders and counts are those that the bytes of the version can say.
-//! For any other bytes it answers the fault that the reading function `packet_at` gives, with its byte. That function
-//! reads the fields from left to right. `NoMemory` stands at 0, and says nothing of the bytes. No count makes a reader
-//! take memory that the bytes don't pay for.
+//! In version 1 of the format incarnations have four bytes and there are no drains. In version 2 incarnations have
+//! eight bytes. [`encode`] writes version 2, and [`decode`] reads both. A packet has one spelling in each version under
+//! a configuration. It is well-formed if bytes of the version can spell its names, list places, numbers, orders and
+//! counts. [`decode`] returns a packet exactly for the spelling of a well-formed one. For any other bytes it returns
+//! the fault and offset of the reading function `packet_at`, which reads fields from left to right.
+//!
+//! Of this crate's own functions only [`encode`] and [`decode`] allocate. `NoMemory` has offset 0 and carries no
+//! information about the bytes. A false count can't reserve more memory than the bytes justify.
 #![tactic(auto)]
 
 pub use coding::{decode, encode};

@@ -1,16 +1,16 @@
-//! Packets.
+//! The units of transfer between controllers.
 
 use dac_messages::Message;
 use dac_operations::Op;
 
-/// How many bytes a packet has at most.
+/// The maximum length of a packet, in bytes.
 pub const MAX_MESSAGE: usize = 4_194_304;
 
-/// What goes from one controller to another.
+/// The unit that one controller sends to another.
 #[derive(Drop)]
 pub enum Packet {
-    /// A message.
+    /// A message, with a state or without.
     Msg(Message),
-    /// An operation alone.
+    /// A single operation, without a message.
     Single(Op),
 }

@@ -1,7 +1,7 @@
-//! The reading side: messages, and packets after their preamble.
+//! Reads messages, and packets after their preamble.
 ghost use Rattle.std.specs.Prelude.{◌≡◌};
 ghost use Rattle.dac_bytes.specs.Reading.{Gives, IsOfBytes};
-ghost use Rattle.dac_wire.specs.Reading.{ack_at, bound_at, content_at, counts_at, fields_at, got_at, got_if_at, head_and_state_at, head_at, is_only_of, kind_and_content_at, message_of, only_at, only_code_at, packet_kind_at, route_at};
+ghost use Rattle.dac_wire.specs.Reading.{ack_at, only_and_counts_at, content_at, counts_at, fields_at, got_at, acked_if_at, head_and_state_at, head_at, is_only_of, kind_and_content_at, message_of, only_at, only_code_at, packet_kind_at, sender_and_receiver_at};
 
 use crate::codes::{PacketKind, only_of_code, packet_of_code};
 use crate::head::Head;
@@ -15,14 +15,14 @@ use dac_origins::Origin;
 use dac_state::State;
 use std::alloc::Global;
 
-/// Who ships it, and for which node.
-#[tactic(auto, unfolding(crate::specs::Reading::route_at))]
+/// The sender, and the node that the message is for.
+#[tactic(auto, unfolding(crate::specs::Reading::sender_and_receiver_at))]
 fn read_route<'a>(
     reader: ByteReader<'a>,
     version: Version,
     nodes: u8,
 ) -> Result<((Origin, NodeId), ByteReader<'a>), ReadFault>
-    ensures exact { result ≡ route_at version nodes reader.entry }
+    ensures exact { result ≡ sender_and_receiver_at version nodes reader.entry }
     ensures real { IsOfBytes result }
 {
     let (from, rest) = reader.read_origin(version, nodes)?;
@@ -30,14 +30,14 @@ fn read_route<'a>(
     Ok(((from, to), rest))
 }
 
-/// Whether the code is 0 exactly where a whole state is brought.
+/// Whether the code is consistent: 0 exactly for a message with a whole state.
 fn is_only_of(whole: bool, code: u64) -> bool
     ensures { result ≡ is_only_of whole code }
 {
     if whole { code == 0 } else { 0 < code }
 }
 
-/// The code of the incarnation that it is for.
+/// The code of the incarnation that the message is for.
 #[tactic(auto, unfolding(crate::specs::Reading::only_code_at))]
 fn read_only_code<'a>(
     reader: ByteReader<'a>,
@@ -56,7 +56,7 @@ fn read_only_code<'a>(
     }
 }
 
-/// The incarnation that it is for, if it is for one alone.
+/// The only incarnation that the message is for, if any.
 #[tactic(auto, unfolding(crate::specs::Reading::only_at))]
 fn read_only<'a>(
     reader: ByteReader<'a>,
@@ -70,7 +70,7 @@ fn read_only<'a>(
     Ok((only_of_code(code), rest))
 }
 
-/// An incarnation, and how many deltas it had.
+/// An incarnation and its delta count.
 #[tactic(auto, unfolding(crate::specs::Reading::got_at))]
 fn read_got<'a>(
     reader: ByteReader<'a>,
@@ -85,15 +85,15 @@ fn read_got<'a>(
     Ok(((origin, count), rest))
 }
 
-/// What was got, where the code says that something was.
-#[tactic(auto, unfolding(crate::specs::Reading::got_if_at))]
+/// The acknowledgement, if the code announces one.
+#[tactic(auto, unfolding(crate::specs::Reading::acked_if_at))]
 fn read_got_if<'a>(
     reader: ByteReader<'a>,
     version: Version,
     nodes: u8,
     code: u8,
 ) -> Result<(Option<(Origin, u64)>, ByteReader<'a>), ReadFault>
-    ensures exact { result ≡ got_if_at version nodes code reader.entry }
+    ensures exact { result ≡ acked_if_at version nodes code reader.entry }
     ensures real { IsOfBytes result }
 {
     match code {
@@ -105,7 +105,7 @@ fn read_got_if<'a>(
     }
 }
 
-/// What was got of the receiver, if anything.
+/// The acknowledgement of the receiver's deltas, if any.
 #[tactic(auto, unfolding(crate::specs::Reading::ack_at))]
 fn read_ack<'a>(
     reader: ByteReader<'a>,
@@ -120,10 +120,9 @@ fn read_ack<'a>(
     Ok(read)
 }
 
-/// How many deltas the sender had, and what it got.
+/// The sender's delta count, and its acknowledgement.
 type Counts = (u64, Option<(Origin, u64)>);
 
-/// How many deltas the sender had, and what it got.
 #[tactic(auto, unfolding(crate::specs::Reading::counts_at))]
 fn read_counts<'a>(
     reader: ByteReader<'a>,
@@ -138,15 +137,15 @@ fn read_counts<'a>(
     Ok(((up_to, ack), rest))
 }
 
-/// The incarnation that it is for, and the counts.
-#[tactic(auto, unfolding(crate::specs::Reading::bound_at))]
+/// The incarnation that the message is for, and the counts.
+#[tactic(auto, unfolding(crate::specs::Reading::only_and_counts_at))]
 fn read_bound<'a>(
     reader: ByteReader<'a>,
     version: Version,
     nodes: u8,
     whole: bool,
 ) -> Result<((Option<u64>, Counts), ByteReader<'a>), ReadFault>
-    ensures exact { result ≡ bound_at version nodes whole reader.entry }
+    ensures exact { result ≡ only_and_counts_at version nodes whole reader.entry }
     ensures real { IsOfBytes result }
 {
     let (only, rest) = read_only(reader, version, whole)?;
@@ -154,7 +153,6 @@ fn read_bound<'a>(
     Ok(((only, counts), rest))
 }
 
-/// All of a message but what it brings.
 #[tactic(auto, unfolding(crate::specs::Reading::head_at))]
 fn read_head<'a>(
     reader: ByteReader<'a>,
@@ -177,7 +175,7 @@ fn read_head<'a>(
     Ok((head, rest))
 }
 
-/// A message by its head and what it brings.
+/// A message from its head and its body.
 fn message_of(head: Head, body: Body) -> Message
     ensures { result ≡ message_of head body }
 {
@@ -191,7 +189,7 @@ fn message_of(head: Head, body: Body) -> Message
     }
 }
 
-/// The head of a message, and the state that it brings.
+/// The head of a message, and its state.
 #[tactic(auto, unfolding(crate::specs::Reading::head_and_state_at))]
 fn read_head_and_state<'a>(
     reader: ByteReader<'a>,
@@ -207,7 +205,6 @@ fn read_head_and_state<'a>(
     Ok(((head, state), rest))
 }
 
-/// Which packet it is.
 #[tactic(auto, unfolding(crate::specs::Reading::packet_kind_at))]
 fn read_packet_kind<'a>(reader: ByteReader<'a>) -> Result<(PacketKind, ByteReader<'a>), ReadFault>
     ensures exact { result ≡ packet_kind_at reader.entry }
@@ -217,7 +214,7 @@ fn read_packet_kind<'a>(reader: ByteReader<'a>) -> Result<(PacketKind, ByteReade
     Ok((packet_of_code(code), rest))
 }
 
-/// What a packet of some kind holds.
+/// The fields of a packet of this kind.
 #[tactic(auto, unfolding(crate::specs::Reading::content_at))]
 fn read_content<'a>(
     reader: ByteReader<'a>,
@@ -248,7 +245,7 @@ fn read_content<'a>(
     }
 }
 
-/// What comes after the preamble.
+/// The kind and fields after the preamble.
 #[tactic(auto, unfolding(crate::specs::Reading::kind_and_content_at))]
 fn read_kind_and_content<'a>(
     reader: ByteReader<'a>,
@@ -263,7 +260,7 @@ fn read_kind_and_content<'a>(
     Ok(read)
 }
 
-/// What comes after the preamble, and no byte after it.
+/// The kind and fields after the preamble, without further bytes.
 #[tactic(auto, unfolding(crate::specs::Reading::fields_at))]
 pub(crate) fn read_fields<'a>(
     reader: ByteReader<'a>,

@@ -1,4 +1,4 @@
-//! The reading side: operations.
+//! Reads operations.
 ghost use Rattle.std.specs.Prelude.{◌≡◌, ◌<◌, None, Some, IfOk};
 ghost use Rattle.dac_base.specs.declared.NodeId.{NodeId};
 ghost use Rattle.dac_config.specs.Table.{app_count};
@@ -16,7 +16,7 @@ use dac_part_bytes::{read_app, read_key, read_manner};
 use dac_wishes::{DotList, Key};
 use std::alloc::Global;
 
-/// So many dots, each above the one before it.
+/// `count` dots, each greater than the previous one.
 fn read_dots<'a>(
     reader: ByteReader<'a>,
     alloc: Global,
@@ -69,7 +69,7 @@ fn read_keyed_over<'a>(
     Ok(((key, over), rest))
 }
 
-/// What a permit or a drain says, and the dots that it replaces.
+/// The value of a permit or a drain, and the dots that it replaces.
 #[tactic(auto, unfolding(crate::specs::Reading::valued_over_at))]
 fn read_valued_over<'a>(
     reader: ByteReader<'a>,
@@ -84,7 +84,6 @@ fn read_valued_over<'a>(
     Ok(((value_of_code(code), over), rest))
 }
 
-/// The fields of a permit.
 #[tactic(auto, unfolding(crate::specs::Reading::permit_fields_at))]
 fn read_permit_fields<'a>(
     reader: ByteReader<'a>,
@@ -99,7 +98,6 @@ fn read_permit_fields<'a>(
     Ok(((key, valued), rest))
 }
 
-/// The fields of a drain.
 #[tactic(auto, unfolding(crate::specs::Reading::drain_fields_at))]
 fn read_drain_fields<'a>(
     reader: ByteReader<'a>,
@@ -114,7 +112,7 @@ fn read_drain_fields<'a>(
     Ok(((at, valued), rest))
 }
 
-/// How an application came to its node, and from which.
+/// How an application came to its node, and from which one.
 type Manner = (How, Option<NodeId>);
 
 /// A term, and how the application came to its node.
@@ -131,7 +129,6 @@ fn read_term_and_manner<'a>(
     Ok(((term, manner), rest))
 }
 
-/// The fields of a claim.
 #[tactic(auto, unfolding(crate::specs::Reading::claim_fields_at))]
 fn read_claim_fields<'a>(
     reader: ByteReader<'a>,
@@ -146,7 +143,7 @@ fn read_claim_fields<'a>(
     Ok(((app, claim), rest))
 }
 
-/// The fields of a claim by a node in the application's list.
+/// The fields of a claim, whose issuer must be in the application's list.
 #[tactic(auto, unfolding(crate::specs::Reading::listed_claim_at))]
 fn read_listed_claim<'a>(
     reader: ByteReader<'a>,
@@ -165,7 +162,6 @@ fn read_listed_claim<'a>(
     }
 }
 
-/// Which act it is.
 #[tactic(auto, unfolding(crate::specs::Reading::act_kind_at))]
 fn read_act_kind<'a>(
     reader: ByteReader<'a>,
@@ -178,7 +174,7 @@ fn read_act_kind<'a>(
     Ok((act_of_code(code), rest))
 }
 
-/// The fields of an act of some kind, by a node.
+/// The fields of an act of this kind, issued by a node.
 #[tactic(auto, unfolding(crate::specs::Reading::act_fields_at))]
 fn read_act_fields<'a>(
     reader: ByteReader<'a>,
@@ -235,7 +231,7 @@ fn read_act_fields<'a>(
     }
 }
 
-/// An act of a node.
+/// An act, issued by a node.
 #[tactic(auto, unfolding(crate::specs::Reading::act_at))]
 fn read_act<'a>(
     reader: ByteReader<'a>,
@@ -267,11 +263,13 @@ fn read_dot_and_act<'a>(
     Ok(((dot, act), rest))
 }
 
-/// An operation: the dot that names it, which act it is, and the fields of the act.
+/// An operation: its dot, the kind of its act, and the fields of the act.
 ///
-/// Each field is checked as it is read. A key or a claim whose node isn't in the application's list is `NotInList` at
-/// its first byte. Of a claim the node is that of the dot. A dot of those replaced that isn't above the one before it
-/// is `BadOrder` at its first byte. Where dot and act make no operation for another cause, that is `BadNumber` at the
+/// # Errors
+///
+/// Fields are checked as they are read. A key or a claim whose node isn't in the application's list is `NotInList` at
+/// its first byte; the node of a claim is that of the dot. A replaced dot that isn't greater than the previous one is
+/// `BadOrder` at its first byte. If dot and act make no operation for another reason, that is `BadNumber` at the
 /// operation's first byte, after all of its fields.
 #[tactic(auto, unfolding(crate::specs::Reading::operation_at))]
 pub(crate) fn read_operation<'a>(

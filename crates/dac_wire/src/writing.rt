@@ -1,4 +1,4 @@
-//! The writing side: each part after what a writer has.
+//! Writes packets: each function appends to a writer.
 ghost use Rattle.std.specs.Prelude.{◌≡◌, ◌++◌, IfOk};
 ghost use Rattle.dac_bytes.specs.declared.version.Version.TheVariants.{Two};
 ghost use Rattle.dac_wire.specs.Spelling.{ack_bytes, act_bytes, act_fields_bytes, body_bytes, content_bytes, message_bytes, operation_bytes, over_bytes};
@@ -12,7 +12,7 @@ use dac_operations::{Act, Op};
 use dac_origins::{Dot, Origin};
 use dac_part_bytes::{write_key, write_manner};
 
-/// What was got of the receiver, if anything.
+/// The acknowledgement of the receiver's deltas, if any.
 #[tactic(auto, unfolding(crate::specs::Spelling::ack_bytes))]
 fn write_ack(writer: ByteWriter, ack: Option<(Origin, u64)>) -> Result<ByteWriter, NoMemory>
     ensures { IfOk result (λ written. written ≡ writer ++ ack_bytes Two ack) }
@@ -32,7 +32,7 @@ fn write_ack(writer: ByteWriter, ack: Option<(Origin, u64)>) -> Result<ByteWrite
     }
 }
 
-/// The state that a message brings, if any.
+/// The state of a message, if any.
 #[tactic(auto, unfolding(crate::specs::Spelling::body_bytes))]
 fn write_body(writer: ByteWriter, body: &Body) -> Result<ByteWriter, NoMemory>
     ensures { IfOk result (λ written. written ≡ writer ++ body_bytes Two body.now) }
@@ -46,7 +46,6 @@ fn write_body(writer: ByteWriter, body: &Body) -> Result<ByteWriter, NoMemory>
     }
 }
 
-/// A message.
 #[tactic(auto, unfolding(crate::specs::Spelling::message_bytes))]
 fn write_message(writer: ByteWriter, message: &Message) -> Result<ByteWriter, NoMemory>
     ensures { IfOk result (λ written. written ≡ writer ++ message_bytes Two message.now) }
@@ -61,7 +60,7 @@ fn write_message(writer: ByteWriter, message: &Message) -> Result<ByteWriter, No
     Ok(written)
 }
 
-/// How many dots, and these.
+/// The number of dots, and these.
 #[tactic(auto, unfolding(crate::specs::Spelling::over_bytes))]
 fn write_over(writer: ByteWriter, over: &[Dot]) -> Result<ByteWriter, NoMemory>
     ensures { IfOk result (λ written. written ≡ writer ++ over_bytes Two over.now) }
@@ -73,7 +72,6 @@ fn write_over(writer: ByteWriter, over: &[Dot]) -> Result<ByteWriter, NoMemory>
     Ok(written)
 }
 
-/// The fields of an act.
 #[tactic(auto, unfolding(crate::specs::Spelling::act_fields_bytes))]
 fn write_act_fields(writer: ByteWriter, act: &Act) -> Result<ByteWriter, NoMemory>
     ensures { IfOk result (λ written. written ≡ writer ++ act_fields_bytes Two act.now) }
@@ -124,7 +122,6 @@ fn write_act_fields(writer: ByteWriter, act: &Act) -> Result<ByteWriter, NoMemor
     }
 }
 
-/// An operation.
 #[tactic(auto, unfolding(crate::specs::Spelling::operation_bytes, crate::specs::Spelling::act_bytes))]
 fn write_operation(writer: ByteWriter, op: &Op) -> Result<ByteWriter, NoMemory>
     ensures { IfOk result (λ written. written ≡ writer ++ operation_bytes Two op.now) }
@@ -136,7 +133,7 @@ fn write_operation(writer: ByteWriter, op: &Op) -> Result<ByteWriter, NoMemory>
     Ok(written)
 }
 
-/// What a packet holds after its kind.
+/// The fields of a packet after its kind.
 #[tactic(auto, unfolding(crate::specs::Spelling::content_bytes))]
 pub(crate) fn write_content(writer: ByteWriter, packet: &Packet) -> Result<ByteWriter, NoMemory>
     ensures { IfOk result (λ written. written ≡ writer ++ content_bytes Two packet.now) }

@@ -1,4 +1,5 @@
--- What one operation adds is below what is kept exactly if all that stands may stand beside it, and it names known dots.
+-- A value is above an operation's delta exactly if it knows the dots that the operation names, and each of its standing
+-- writes is one that such a value can contain.
 use Rattle.std.proofs.Common.{◌≡◌, Bool, true, false, not, cond, ◌&&◌, ◌||◌, List, [], ◌∷◌, Option, None, Some, is_some, ◌↔◌, refl, sym, ap, subst, ◌∙◌, inl, inr}
 use Rattle.std.specs.Prelude.{T, unwrap_or}
 use Rattle.std.specs.declared.cmp.Ordering.{Ordering}
@@ -49,15 +50,15 @@ use Rattle.dac_wishes.specs.WishMeaning.{wish_delta, wishes}
 use Rattle.dac_wishes.specs.laws.WishMeaning.{contains-delta}
 use Rattle.dac_wishes.specs.StartsByKey.{starts_by_key}
 use Rattle.dac_wishes.specs.laws.StartsByKey.{contains-writes_of, are_starts, writes_again}
-use Rattle.dac_wishes.specs.Covering.{permit_act, drain_act, wish_act, is_said_below, lets_stand, let_stand, is_wish_of, lets_wish, let_wishes}
+use Rattle.dac_wishes.specs.Covering.{permit_act, drain_act, wish_act, is_flag_at_most, lets_stand, let_stand, is_wish_of, lets_wish, let_wishes}
 
--- ---- what passes a test in a list
+-- ---- a test of all entries of a list
 
 some_same : {X : Type 0} (x y : X) → Some x ≡ Some y → x ≡ y
 some_same x y e = ap (λ o. unwrap_or o x) e
 
 module _ {K X : Type 0} {R : K → K → Ordering} (exact : CmpEqualImpliesEq R) (p : K × X → Bool) where
-  -- where each entry passes, one that is found does
+  -- if each entry passes, so does one that a search finds
   found_passes : (m : List (K × X)) (k : K) (x : X) → list_all p m ≡ true → find R k m ≡ Some x → p (k, x) ≡ true
   found_passes [] k x h is = absurd (true≢false (ap is_some (sym is)))
   found_passes (e ∷ m) k x h is =
@@ -67,7 +68,7 @@ module _ {K X : Type 0} {R : K → K → Ordering} (exact : CmpEqualImpliesEq R)
         | false ↦ λ t there. found_passes m k x both.1 there
       ] refl is
 
-  -- where each that is found passes, each entry of a list in order does
+  -- if each entry that a search finds passes, so does each entry of a sorted list
   all_pass : IsTotalOrder R → (m : List (K × X)) → T (is_sorted R m) → ((k : K) (x : X) → find R k m ≡ Some x → p (k, x) ≡ true) → list_all p m ≡ true
   all_pass total [] h f = refl
   all_pass total (e ∷ m) h f =
@@ -81,7 +82,7 @@ module _ {K X : Type 0} {R : K → K → Ordering} (exact : CmpEqualImpliesEq R)
       ] refl
 
 module _ (p : Dot → Bool) where
-  -- where each dot passes, one of the list does
+  -- if each dot passes, so does one of the list
   named_passes : (ds : List Dot) (d : Dot) → list_all p ds ≡ true → has_key dot_cmp ds d ≡ true → p d ≡ true
   named_passes [] d h there = absurd (false≢true there)
   named_passes (e ∷ ds) d h there =
@@ -106,7 +107,7 @@ module _ (dot : Dot) (over : List Dot) where
   is_named : (d : Dot) → set.contains named d ≡ (same_dot d dot || has_key dot_cmp over d)
   is_named d = set.contains-from_list dots_total (dot ∷ over) d
 
-  -- they are known exactly if each of them is
+  -- the named dots are known exactly if each of them is
   pub all_known : (known : Dots) → ((set.contains known dot && list_all (λ (d : Dot). set.contains known d) over) ≡ true) ↔ IsSubset named known
   all_known known = (
     λ h d there. named_passes (λ (d : Dot). set.contains known d) (dot ∷ over) d h (sym (is_named d) ∙ there),
@@ -115,14 +116,14 @@ module _ (dot : Dot) (over : List Dot) where
 
 -- ---- votes
 
-said_below : (o : Option Flag) (g : Flag) → (is_said_below o g ≡ true) ↔ StandsBelow IsFlagBelow o (Some g)
+said_below : (o : Option Flag) (g : Flag) → (is_flag_at_most o g ≡ true) ↔ StandsBelow IsFlagBelow o (Some g)
 said_below None g = (λ e. absurd (false≢true e), λ h. absurd h)
 said_below (Some Up) g = (λ _. tt, λ _. refl)
 said_below (Some Down) Up = (λ e. absurd (false≢true e), λ h. absurd h)
 said_below (Some Down) Down = (λ _. tt, λ _. refl)
 
--- what may stand is below what stands, where its dot is named
-may_stand : (same replaced : Bool) (said : Option Flag) (g : Flag) → (cond same (is_said_below said g) (not replaced) ≡ true) ↔ ((same || replaced) ≡ true → StandsBelow IsFlagBelow (cond same said None) (Some g))
+-- a vote that a value above the delta can contain satisfies the order, if its dot is named
+may_stand : (same replaced : Bool) (said : Option Flag) (g : Flag) → (cond same (is_flag_at_most said g) (not replaced) ≡ true) ↔ ((same || replaced) ≡ true → StandsBelow IsFlagBelow (cond same said None) (Some g))
 may_stand true replaced said g = (λ e _. (said_below said g).0 e, λ f. (said_below said g).1 (f refl))
 may_stand false true said g = (λ e. absurd (false≢true e), λ f. absurd (f refl))
 may_stand false false said g = (λ _ e. absurd (false≢true e), λ _. refl)
@@ -134,7 +135,7 @@ module _ {K : Type 0} {R : K → K → Ordering} (total : IsTotalOrder R) (exact
   abbrev added : VotesValue R
   added = record { known = named dot over; standing = map.from_entries (votes_in dot vote) }
 
-  -- what is said of a vote
+  -- the operation's flag for a vote
   abbrev said_at : KeyedWrite K → Option Flag
   said_at w = cond (same_dot w.dot dot) (says_of R w.key vote) None
 

@@ -1,4 +1,4 @@
--- What the deltas of start wishes are, as they are stored.
+-- The deltas of start wishes, in their stored form.
 use Rattle.std.specs.Prelude.{◌≡◌, Bool, true, false, cond, ◌&&◌, ◌||◌, Some, None, nat_eq, ◌+◌, refl}
 use Rattle.std.proofs.Common.{sym, ap, ◌∙◌}
 use Rattle.std.specs.Ordering.{eq_by_cmp}
@@ -58,7 +58,7 @@ start_held d (OtherWish over) x e = absurd (false≢true e)
 pub start_known : (d : Dot) (a : WishAct) → IsHeld (has_in set.contains (stored_start d a)) (named_by wish.over_of d a)
 start_known d a x e = contains-named_by wish.over_of d a x ∙ or_left (same_dot x d) (replaces wish.over_of x (d, a)) (start_held d a x e)
 
--- a wish's delta as it is stored
+-- the stored form of a wish's delta
 abbrev pub stored_wish : Dot → WishAct → StoredDots
 stored_wish d a = record { store = stored_start d a; context = named_by wish.over_of d a }
 

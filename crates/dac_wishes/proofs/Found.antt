@@ -1,4 +1,4 @@
--- Whether there is a value: behind a reference, where no error can be, and where permits stand.
+-- Presence of values: through a reference, of a result without error, and of permits at a key.
 use Rattle.std.proofs.Common.{◌≡◌, Bool, false, List, [], ◌∷◌, length, nat_eq, Option, Some, None, Result, Ok, Err, is_some, Bor, refl, subst}
 use Rattle.std.specs.Prelude.{IsOk, IfOk, IfErr}
 use Rattle.std.specs.Option.{option_copied}
@@ -6,22 +6,22 @@ use Rattle.std.specs.List.{list_all}
 use Rattle.std.proofs.lemmas.Bool.{true≢false}
 use Rattle.dac_origins.specs.declared.dot.Dot.{Dot}
 use Rattle.dac_lattice.specs.declared.flags.Flag.{Flag}
-use Rattle.dac_wishes.specs.PermissionsValue.{says_true, is_permitted_by}
+use Rattle.dac_wishes.specs.PermissionsValue.{is_permitting, is_permitted_by}
 
 pub is_some-copied : {X : Type 0} (o : Option (Bor X)) → is_some o ≡ is_some (option_copied o)
 is_some-copied None = refl
 is_some-copied (Some x) = refl
 
--- where each error says that a fact fails, and it holds, there is none
+-- if each error contradicts a fact that holds, there is no error
 pub no_error : {X E : Type 0} (P : E → Type 0) (H : Type 0) (r : Result X E) → IfErr r (λ e. P e × ¬ H) → H → IsOk r
 no_error P H (Ok x) f h = refl
 no_error P H (Err e) f h = absurd (f.1 h)
 
--- what is said of a value holds of the one that a result has
+-- a property of each successful value holds of the result's
 pub said_of : {X E : Type 0} (P : X → Type 0) (r : Result X E) (x : X) → IfOk r P → r ≡ Ok x → P x
 said_of P r x f e = subst (λ s. IfOk s P) e f
 
--- where there are permits, all have to say true
-pub by_permits : (default : Bool) (ps : List (Dot × Flag)) → nat_eq (length ps) 0 ≡ false → is_permitted_by default ps ≡ list_all (λ (p : Dot × Flag). says_true p.1) ps
+-- if there are permits, all must be true
+pub by_permits : (default : Bool) (ps : List (Dot × Flag)) → nat_eq (length ps) 0 ≡ false → is_permitted_by default ps ≡ list_all (λ (p : Dot × Flag). is_permitting p.1) ps
 by_permits default [] e = absurd (true≢false e)
 by_permits default (p ∷ ps) e = refl

@@ -1,4 +1,4 @@
--- The set of the dots that an operation names, dot by dot.
+-- The set of dots that an operation names, dot by dot.
 use Rattle.std.proofs.Common.{◌≡◌, ◌∙◌, ℕ, ◌+◌, ◌<◌, ◌||◌, List, ◌∷◌, Bool, true, false, length, ap, sym, refl, take, get_or}
 use Rattle.std.specs.Ordering.{eq_by_cmp}
 use Rattle.std.specs.FinSet as set
@@ -8,7 +8,7 @@ use Rattle.dac_origins.specs.Dots.{Dots, dot_cmp}
 use Rattle.dac_origins.specs.laws.Dots.{dots_total}
 use Rattle.dac_origins.specs.Keys.{has_key}
 
--- d: the operation's own; e: one more; r: one of those before
+-- d: the operation's own; e: one more; r: one of the earlier ones
 turn : (d e r : Bool) → (e || (d || r)) ≡ (d || (r || e))
 turn true true r = refl
 turn true false r = refl
@@ -17,11 +17,11 @@ turn false true false = refl
 turn false false true = refl
 turn false false false = refl
 
--- the set has the dot, and those of the list
+-- the set contains the dot and those of the list
 abbrev pub HasNamed : Dot → List Dot → Dots → Type 0
 HasNamed d ks named = (x : Dot) → set.contains named x ≡ has_key dot_cmp (d ∷ ks) x
 
--- one dot more
+-- one more dot
 pub named_more : (d : Dot) (over : List Dot) (named : Dots) (i : ℕ) (e : Dot) → i < length over → HasNamed d (take i over) named → HasNamed d (take (i + 1) over) (set.insert named (get_or over i e))
 named_more d over named i e p h x =
     let k = get_or over i e in

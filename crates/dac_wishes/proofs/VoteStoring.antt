@@ -1,4 +1,4 @@
--- What votes are, as they are stored, and what the deltas of operations are.
+-- Votes and the deltas of operations, in their stored form.
 use Rattle.std.specs.Prelude.{◌≡◌, Bool, true, false, cond, ◌||◌, List, [], ◌∷◌, Option, None, Some, is_some, refl}
 use Rattle.std.proofs.Common.{sym, ap, subst, ◌∙◌}
 use Rattle.std.specs.declared.cmp.Ordering.{Ordering}
@@ -36,7 +36,7 @@ use Rattle.dac_wishes.specs.Replacing.{named_by}
 use Rattle.dac_wishes.specs.VoteMeaning.{vote_delta, says_of}
 use Rattle.dac_wishes.specs.laws.VoteMeaning.{get-vote_delta}
 
--- ---- what is stored is known
+-- ---- stored dots are known
 
 held_at : {K : Type 0} (R : K → K → Ordering) (m : List (K × DotFlags)) (key : K) (d : Dot) → has_dot (store_at [] (find R key m)) d ≡ true → has_in has_dot m d ≡ true
 held_at R [] key d h = absurd (false≢true h)
@@ -47,7 +47,7 @@ held_at R (e ∷ m) key d h = elim (eq_by_cmp R key e.0) as (λ b. has_dot (stor
 
 -- ---- order and join
 
--- the order and the join of what is stored
+-- the order and the join of stored forms
 abbrev pub AreStoredVotesBelow : {K : Type 0} (R : K → K → Ordering) → StoredVotes K → StoredVotes K → Type 0
 AreStoredVotesBelow R = IsStoredBelow (IsKeyedBelow R [] (IsFunBelow IsFlagBelow))
 
@@ -58,7 +58,7 @@ pub votes_of-none : {K : Type 0} (R : K → K → Ordering) → votes_of R [] �
 unfolding votes_of
 votes_of-none R = refl
 
--- nothing stored
+-- the stored form of no votes
 pub votes_value_of-none : {K : Type 0} (R : K → K → Ordering) → votes_value_of R (record { store = []; context = set.empty }) ≡ record { known = set.empty; standing = map.empty }
 unfolding votes_of
 votes_value_of-none R = refl
@@ -68,7 +68,7 @@ module _ {K : Type 0} {R : K → K → Ordering} (keys_total : IsTotalOrder R) (
   stored_votes v u w h = u.held w.dot (held_at R v.store w.key w.dot (ap is_some (sym (get-votes_of keys_total exact_keys v.store u.store.in_order w)) ∙ h))
 
   module _ (v w : StoredVotes K) (a : AreStoredVotes R v) (b : AreStoredVotes R w) where
-    -- what shows the same votes is stored the same
+    -- stored forms of the same votes are equal
     pub same_stored : votes_value_of R v ≡ votes_value_of R w → v ≡ w
     same_stored e =
         let stores = sym (votes_again keys_total exact_keys v.store a.store) ∙ ap (λ (x : VotesValue R). votes_by_key R x.standing) e ∙ votes_again keys_total exact_keys w.store b.store in
@@ -97,7 +97,7 @@ module _ {K : Type 0} {R : K → K → Ordering} (keys_total : IsTotalOrder R) (
     pub joined_stored : AreStoredVotes R (join_stored_votes R v w)
     joined_stored = (causal_laws (keyed_laws keys_total exact_keys (fun_laws flag_laws))).closed v w a b
 
-    -- what is stored of a join is the join of what is stored
+    -- the join of stored forms represents the join
     pub votes_value_of-join : votes_value_of R (join_stored_votes R v w) ≡ join_votes R (votes_value_of R v) (votes_value_of R w)
     votes_value_of-join = same_votes keys_total exact_keys (votes_value_of R (join_stored_votes R v w)) (join_votes R (votes_value_of R v) (votes_value_of R w)) (sym (known-join_votes R (votes_value_of R v) (votes_value_of R w))) (λ q.
         get-votes_of keys_total exact_keys (join_stored_votes R v w).store joined_stored.store.in_order q
@@ -146,7 +146,7 @@ pub vote_held_by : {K : Type 0} (d : Dot) (u : Option (K × Flag)) (over : List 
 vote_held_by d u over x e = set.contains-from_list dots_total (d ∷ over) x ∙ or_left (same_dot x d) (has_key dot_cmp over x) (vote_held d u x e)
 
 module _ {K : Type 0} {R : K → K → Ordering} (keys_total : IsTotalOrder R) (exact_keys : CmpEqualImpliesEq R) {A : Type 0} (over : A → List Dot) (vote : A → Option (K × Flag)) where
-  -- a delta is what is stored of it
+  -- the stored form of a delta represents the delta
   pub votes_value_of-delta : (d : Dot) (a : A) → votes_value_of R (record { store = stored_vote d (vote a); context = named_by over d a }) ≡ vote_delta R over vote d a
   votes_value_of-delta d a = same_votes keys_total exact_keys (votes_value_of R (record { store = stored_vote d (vote a); context = named_by over d a })) (vote_delta R over vote d a) refl (λ w.
       get-votes_of keys_total exact_keys (stored_vote d (vote a)) (vote_keyed R d (vote a)).in_order w ∙ vote_there R d (vote a) w ∙ sym (get-vote_delta keys_total exact_keys over vote d a w))

@@ -1,4 +1,4 @@
--- What start wishes are, as they are stored.
+-- Start wishes, in their stored form.
 use Rattle.std.specs.Prelude.{◌≡◌, true, false, not, cond, ◌&&◌, ◌||◌, List, [], ◌∷◌, None, Some, is_some, refl}
 use Rattle.std.proofs.Common.{sym, ap, ◌∙◌}
 use Rattle.std.specs.List.{list_any}
@@ -26,7 +26,7 @@ use Rattle.dac_wishes.specs.StartsByKey.{starts_by_key}
 use Rattle.dac_wishes.specs.laws.StartsByKey.{contains-writes_of, starts_again}
 use Rattle.dac_wishes.specs.laws.Wished.{is_wished-some}
 
--- ---- what is stored is known
+-- ---- stored dots are known
 
 module _ (v : StoredDots) (u : AreStoredDots v) where
   pub stored_wishes : AreWishes (wishes_of v)
@@ -41,7 +41,7 @@ module _ (v : StoredDots) (u : AreStoredDots v) where
 
 -- ---- order and join
 
--- the order and the join of what is stored
+-- the order and the join of stored forms
 abbrev pub IsStoredWishesBelow : StoredDots → StoredDots → Type 0
 IsStoredWishesBelow = IsStoredBelow (IsKeyedBelow key_cmp set.empty IsSetBelow)
 
@@ -49,7 +49,7 @@ abbrev pub join_stored_wishes : StoredDots → StoredDots → StoredDots
 join_stored_wishes = join_stored (join_keyed key_cmp set.empty is_empty_set join_sets)
 
 module _ (v w : StoredDots) (a : AreStoredDots v) (b : AreStoredDots w) where
-  -- what shows the same wishes is stored the same
+  -- stored forms of the same wishes are equal
   pub same_stored : wishes_of v ≡ wishes_of w → v ≡ w
   same_stored e =
       let stores = sym (starts_again v.store a.store) ∙ ap (λ (x : WishesValue). starts_by_key x.standing) e ∙ starts_again w.store b.store in
@@ -70,7 +70,7 @@ module _ (v w : StoredDots) (a : AreStoredDots v) (b : AreStoredDots w) where
   pub joined_stored : AreStoredDots (join_stored_wishes v w)
   joined_stored = (causal_laws (keyed_laws keys_total exact_keys set_laws)).closed v w a b
 
-  -- what is stored of a join is the join of what is stored
+  -- the join of stored forms represents the join
   pub wishes_of-join : wishes_of (join_stored_wishes v w) ≡ join_wishes (wishes_of v) (wishes_of w)
   wishes_of-join = same_wishes (wishes_of (join_stored_wishes v w)) (join_wishes (wishes_of v) (wishes_of w)) (sym (known-join (wishes_of v) (wishes_of w))) (λ q.
       contains-writes_of (join_stored_wishes v w).store joined_stored.store.in_order q
@@ -79,7 +79,7 @@ module _ (v w : StoredDots) (a : AreStoredDots v) (b : AreStoredDots w) where
       ∙ sym (λ i. (here q i && (there q i || not (set.contains w.context q.dot))) || (there q i && (here q i || not (set.contains v.context q.dot))))
       ∙ sym (standing-join (wishes_of v) (wishes_of w) q))
 
--- ---- what is wished
+-- ---- wished keys
 
 -- a set that isn't empty has a dot
 some_dot : (s : Dots) → is_empty_set s ≡ false → (d : Dot) × (set.contains s d ≡ true)
@@ -88,7 +88,7 @@ some_dot s e = elim (set.items s) as (λ ks. ((q : Dot) → set.contains s q ≡
   | d ∷ ds ↦ λ h. (d, h d ∙ or_left (same_dot d d) (list_any (same_dot d) ds) (same_dot_itself d))
 ] (set.contains-items s)
 
--- a key that is stored is wished
+-- a stored key is wished
 pub some_if_stored : (v : StoredDots) → AreStoredDots v → (key : Key) → is_some (find key_cmp key v.store) ≡ true → SomeStands key (wishes_of v)
 some_if_stored v u key e = elim (find key_cmp key v.store) as (λ o. find key_cmp key v.store ≡ o → IsKept IsAny is_empty_set o → is_some o ≡ true → SomeStands key (wishes_of v)) [
   | None ↦ λ is kept e. absurd (false≢true e)
@@ -108,7 +108,7 @@ is_wished_stored v u key = both_ways _ _
     (λ h. (is_wished-some key (wishes_of v)).1 (some_if_stored v u key h))
     (λ h. stored_if_some v u key ((is_wished-some key (wishes_of v)).0 h))
 
--- nothing stored
+-- the stored form of no wishes
 pub wishes_of-none : wishes_of (record { store = []; context = set.empty }) ≡ record { known = set.empty; standing = set.empty }
 unfolding writes_of
 wishes_of-none = refl

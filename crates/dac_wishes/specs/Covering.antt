@@ -1,5 +1,5 @@
--- What stands beside what one operation says: which of it may be there, where what the operation says is
--- below all of it.
+-- The standing writes that a value above an operation's delta can contain. A value that knows the operation's dots is
+-- above the delta exactly if it can contain all its standing writes.
 use Rattle.std.specs.Prelude.{Bool, true, false, not, List, Option, None, Some, if◌then◌else◌}
 use Rattle.std.specs.declared.cmp.Ordering.{Ordering}
 use Rattle.std.specs.List.{list_all}
@@ -23,53 +23,54 @@ use Rattle.dac_wishes.specs.Keys.{same_key}
 use Rattle.dac_wishes.specs.StoredVotes.{DotFlags}
 use Rattle.dac_wishes.specs.VoteMeaning.{says_of}
 
--- ---- the acts, by what is said and what is replaced
+-- ---- acts, from the key written and the dots replaced
 
--- what permissions see: a permit of a key, if there is one, and the dots that it replaces
+-- a permit of a key, if any, and the dots that it replaces
 abbrev pub permit_act : Option (Key × Bool) → List Dot → PermitAct
 permit_act None over = NoPermit over
 permit_act (Some p) over = Permit p.0 p.1 over
 
--- what drains see
+-- a drain of an incarnation, if any, and the dots that it replaces
 abbrev pub drain_act : Option (Origin × Bool) → List Dot → DrainAct
 drain_act None over = NoDrain over
 drain_act (Some p) over = Drain p.0 p.1 over
 
--- what start wishes see
+-- a start of a key, if any, and the dots that it replaces
 abbrev pub wish_act : Option Key → List Dot → WishAct
 wish_act None over = NoWish over
 wish_act (Some key) over = Start key over
 
 -- ---- votes
 
--- what is said isn't above what stands
-abbrev pub is_said_below : Option Flag → Flag → Bool
-is_said_below None g = false
-is_said_below (Some Up) g = true
-is_said_below (Some Down) Up = false
-is_said_below (Some Down) Down = true
+-- there is a flag, and it is at most the standing one
+abbrev pub is_flag_at_most : Option Flag → Flag → Bool
+is_flag_at_most None g = false
+is_flag_at_most (Some Up) g = true
+is_flag_at_most (Some Down) Up = false
+is_flag_at_most (Some Down) Down = true
 
 module _ {K : Type 0} (R : K → K → Ordering) (dot : Dot) (vote : Option (K × Flag)) (over : List Dot) where
-  -- A vote may stand at a key: under the operation's dot if the operation says it, and else if it isn't replaced.
+  -- A value above the delta can contain the vote: it is the operation's own, with a flag at least the operation's, or
+  -- isn't replaced by it.
   abbrev pub lets_stand : K → Dot × Flag → Bool
-  lets_stand key p = if same_dot p.0 dot then is_said_below (says_of R key vote) p.1 else not (has_key dot_cmp over p.0)
+  lets_stand key p = if same_dot p.0 dot then is_flag_at_most (says_of R key vote) p.1 else not (has_key dot_cmp over p.0)
 
-  -- each vote at each key may stand
+  -- a value above the delta can contain each vote at each key
   abbrev pub let_stand : List (K × DotFlags) → Bool
   let_stand m = list_all (λ (e : K × DotFlags). list_all (lets_stand e.0) e.1) m
 
 -- ---- start wishes
 
--- the operation wishes a start of the key
+-- the operation starts the key
 abbrev pub is_wish_of : Option Key → Key → Bool
 is_wish_of None key = false
 is_wish_of (Some k) key = same_key key k
 
 module _ (dot : Dot) (start : Option Key) (over : List Dot) where
-  -- A wish may stand at a key: under the operation's dot if the operation is it, and else if it isn't replaced.
+  -- A value above the delta can contain the wish: it is the operation's own, or isn't replaced by it.
   abbrev pub lets_wish : Key → Dot → Bool
   lets_wish key d = if same_dot d dot then is_wish_of start key else not (has_key dot_cmp over d)
 
-  -- each wish at each key may stand
+  -- a value above the delta can contain each wish at each key
   abbrev pub let_wishes : List (Key × Dots) → Bool
   let_wishes m = list_all (λ (e : Key × Dots). list_all (lets_wish e.0) (in_order e.1)) m

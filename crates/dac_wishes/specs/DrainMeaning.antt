@@ -1,4 +1,4 @@
--- What a set of operations means for drains: which drains stand, with their values, and which dots are known.
+-- The meaning of a set of operations for drains: the standing drains with their values, and the known dots.
 use Rattle.std.specs.Prelude.{List, Option, None, Some}
 use Rattle.dac_origins.specs.declared.dot.Dot.{Dot}
 use Rattle.dac_origins.specs.declared.dot.Origin.{Origin}
@@ -14,16 +14,16 @@ abbrev pub over_of : DrainAct → List Dot
 over_of (Drain at value over) = over
 over_of (Other over) = over
 
--- the vote of an act: what it says of which origin, if it does
+-- the vote of an act: the origin and flag that it writes, if any
 abbrev pub vote_of : DrainAct → Option (Origin × Flag)
 vote_of (Drain at value over) = Some (at, flag_of value)
 vote_of (Other over) = None
 
--- The value is what the operations mean: a drain stands, with its value, if an operation is it and
--- none replaces its dot.
+-- The value is the meaning of the operations: a drain stands, with its value, if one of them writes it and none
+-- replaces its dot.
 abbrev pub IsMeaning : List (Dot × DrainAct) → DrainsValue → Type 0
 IsMeaning = votes.IsVoteMeaning origin_cmp over_of vote_of
 
--- what one operation adds
+-- the delta of one operation
 abbrev pub drain_delta : Dot → DrainAct → DrainsValue
 drain_delta = votes.vote_delta origin_cmp over_of vote_of

@@ -1,6 +1,5 @@
--- What drains are: the drains that stand, with their values, beside the dots that are known. Equal parts are
--- equal values. A drain's true is Down, and its false Up. Drains are votes of origins: an incarnation of a node
--- is drained or not.
+-- Drains: the standing drains with their values, paired with the known dots; equal parts make equal values. True is
+-- Down, and false Up. Drains are votes at origins: an incarnation of a node is drained or not.
 use Rattle.std.specs.Prelude.{◌≡◌, ℕ, Bool, true, false, List, Some}
 use Rattle.std.specs.List.{list_any}
 use Rattle.std.specs.Coded.{Coded}
@@ -14,12 +13,12 @@ use Rattle.dac_lattice.specs.declared.flags.Flag.TheVariants.{Up, Down}
 use Rattle.dac_wishes.specs.KeyedWrites.{KeyedWrite, keyed_write}
 use Rattle.dac_wishes.specs.Votes.{Votes, VotesValue, coded_votes, AreVotes, AreVotesBelow, no_votes, join_votes, votes_at}
 
--- the flag says that the node is drained
+-- whether the flag means drained
 abbrev pub says_drained : Flag → Bool
 says_drained Up = false
 says_drained Down = true
 
--- a drain as a flag
+-- the flag of a drain
 abbrev pub flag_of : Bool → Flag
 flag_of false = Up
 flag_of true = Down
@@ -42,28 +41,28 @@ DrainsValue = VotesValue origin_cmp
 abbrev pub coded_drains : Coded DrainsValue
 coded_drains = coded_votes origin_cmp coded_origin
 
--- what stands is known, in forged values too
+-- standing drains are known, in forged values too
 abbrev pub AreDrains : DrainsValue → Type 0
 AreDrains = AreVotes origin_cmp
 
 abbrev pub AreDrainsBelow : DrainsValue → DrainsValue → Type 0
 AreDrainsBelow = AreVotesBelow origin_cmp
 
--- nothing known
+-- nothing is known
 abbrev pub no_drains : DrainsValue
 no_drains = no_votes origin_cmp
 
 abbrev pub join_drains : DrainsValue → DrainsValue → DrainsValue
 join_drains = join_votes origin_cmp
 
--- the drains that stand at an origin, in the order of their dots
+-- the origin's standing drains, in the order of their dots
 abbrev pub drains_at : Origin → Drains → List (Dot × Flag)
 drains_at = votes_at origin_cmp
 
--- some drain of the origin stands that says true
+-- one of the origin's standing drains is true
 abbrev pub is_drained : Origin → DrainsValue → Bool
 is_drained at v = list_any (λ (p : Dot × Flag). says_drained p.1) (drains_at at v.standing)
 
--- some drain of the origin stands that says true, by its dot
+-- one of the origin's standing drains is true; d is its dot
 abbrev pub IsDrained : Origin → DrainsValue → Type 0
 IsDrained at v = (d : Dot) × (map.get v.standing (keyed_write at d) ≡ Some Down)

@@ -1,4 +1,4 @@
--- Writes at keys of any type: what an operation writes at a key, by the key and the dot of the operation.
+-- Writes at keys of any type, identified by the key and the dot of the operation.
 use Rattle.std.specs.Prelude.{Bool}
 use Rattle.std.specs.declared.cmp.Ordering.{Ordering}
 use Rattle.std.specs.Ordering.{ordering_then, eq_by_cmp}
@@ -7,16 +7,16 @@ use Rattle.std.proofs.Common.{refl}
 use Rattle.dac_origins.specs.declared.dot.Dot.{Dot}
 use Rattle.dac_origins.specs.Dots.{dot_cmp, coded_dot}
 
--- what is written, and the dot of the operation that writes it
+-- the key written, and the dot of the operation
 pub record KeyedWrite (K : Type 0) : Type 0 where
   pub key : K
   pub dot : Dot
 
--- the write of a key by an operation
+-- the write of the key by the operation with this dot
 abbrev pub keyed_write : {K : Type 0} → K → Dot → KeyedWrite K
 keyed_write key d = record { key = key; dot = d }
 
--- by key, then by dot
+-- writes ordered by key, then by dot
 abbrev pub keyed_write_cmp : {K : Type 0} → (K → K → Ordering) → KeyedWrite K → KeyedWrite K → Ordering
 keyed_write_cmp R a b = ordering_then (R a.key b.key) (dot_cmp a.dot b.dot)
 
@@ -24,6 +24,6 @@ abbrev pub coded_keyed_write : {K : Type 0} → Coded K → Coded (KeyedWrite K)
 coded_keyed_write {K = K} coded_key = code_by (K
     × Dot) (coded× coded_key coded_dot) (λ w. (w.key, w.dot)) (λ p. record { key = p.0; dot = p.1 }) (λ _. refl)
 
--- one and the same dot
+-- equality of dots
 abbrev pub same_dot : Dot → Dot → Bool
 same_dot = eq_by_cmp dot_cmp

@@ -1,5 +1,5 @@
--- What permissions are: the permits that stand, with their values, beside the dots that are known. Equal parts are
--- equal values. A permission's true is Up, and its false Down. Permits are votes of keys.
+-- Permissions: the standing permits with their values, paired with the known dots; equal parts make equal values. True
+-- is Up, and false Down. Permits are votes at keys.
 use Rattle.std.specs.Prelude.{◌≡◌, ◌⊎◌, Bool, true, false, List, None, Some, if◌then◌else◌}
 use Rattle.std.specs.List.{list_all}
 use Rattle.std.specs.Coded.{Coded}
@@ -13,12 +13,12 @@ use Rattle.dac_wishes.specs.Keys.{key_cmp, coded_key}
 use Rattle.dac_wishes.specs.Writes.{write}
 use Rattle.dac_wishes.specs.Votes.{Votes, VotesValue, coded_votes, AreVotes, AreVotesBelow, no_votes, join_votes, votes_at}
 
--- the flag says true
-abbrev pub says_true : Flag → Bool
-says_true Up = true
-says_true Down = false
+-- whether the flag means permitted
+abbrev pub is_permitting : Flag → Bool
+is_permitting Up = true
+is_permitting Down = false
 
--- a permission as a flag
+-- the flag of a permit
 abbrev pub flag_of : Bool → Flag
 flag_of true = Up
 flag_of false = Down
@@ -33,27 +33,27 @@ PermissionsValue = VotesValue key_cmp
 abbrev pub coded_permissions : Coded PermissionsValue
 coded_permissions = coded_votes key_cmp coded_key
 
--- what stands is known, in forged values too
+-- standing permits are known, in forged values too
 abbrev pub ArePermissions : PermissionsValue → Type 0
 ArePermissions = AreVotes key_cmp
 
 abbrev pub IsPermissionsBelow : PermissionsValue → PermissionsValue → Type 0
 IsPermissionsBelow = AreVotesBelow key_cmp
 
--- nothing known
+-- nothing is known
 abbrev pub no_permissions : PermissionsValue
 no_permissions = no_votes key_cmp
 
 abbrev pub join_permissions : PermissionsValue → PermissionsValue → PermissionsValue
 join_permissions = join_votes key_cmp
 
--- the permits that stand at a key, in the order of their dots
+-- the key's standing permits, in the order of their dots
 abbrev pub permits_at : Key → Permits → List (Dot × Flag)
 permits_at = votes_at key_cmp
 
--- what permits at one key say: the default where there is none, and else whether all say true
+-- the result of the permits at a key: the default if there is none, otherwise whether all are true
 abbrev pub is_permitted_by : Bool → List (Dot × Flag) → Bool
-is_permitted_by default permits = if is_empty_list permits then default else list_all (λ (p : Dot × Flag). says_true p.1) permits
+is_permitted_by default permits = if is_empty_list permits then default else list_all (λ (p : Dot × Flag). is_permitting p.1) permits
 
 abbrev pub is_permitted : Key → Bool → PermissionsValue → Bool
 is_permitted key default v = is_permitted_by default (permits_at key v.standing)
@@ -62,14 +62,14 @@ is_permitted key default v = is_permitted_by default (permits_at key v.standing)
 abbrev pub NoneStands : Key → PermissionsValue → Type 0
 NoneStands key v = (d : Dot) → map.get v.standing (write key d) ≡ None
 
--- some permit of the key stands, by its dot and its value
+-- a permit of the key stands; p is its dot and value
 abbrev pub SomePermitStands : Key → PermissionsValue → Type 0
 SomePermitStands key v = (p : Dot × Flag) × (map.get v.standing (write key p.0) ≡ Some p.1)
 
--- each permit of the key that stands says true
+-- each standing permit of the key is true
 abbrev pub AllSayTrue : Key → PermissionsValue → Type 0
 AllSayTrue key v = (d : Dot) (f : Flag) → map.get v.standing (write key d) ≡ Some f → f ≡ Up
 
--- no permit of the key stands and the default is true, or some stand and all say true
+-- no permit of the key stands and the default is true, or some stand and all are true
 abbrev pub IsPermitted : Key → Bool → PermissionsValue → Type 0
 IsPermitted key default v = (NoneStands key v × (default ≡ true)) ⊎ (SomePermitStands key v × AllSayTrue key v)

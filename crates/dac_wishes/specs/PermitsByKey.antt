@@ -1,5 +1,4 @@
--- Permits by key: the keys of the permits that stand, each with their dots and values. This is how they
--- are kept and read.
+-- Permits by key, their stored form: the keys with standing permits, each with their dots and values.
 use Rattle.std.specs.Prelude.{List}
 use Rattle.dac_wishes.specs.declared.key.Key.{Key}
 use Rattle.dac_wishes.specs.Keys.{key_cmp}
@@ -12,6 +11,6 @@ use Rattle.dac_wishes.specs.VotesByKey.{votes_by_key}
 abbrev pub permits_by_key : Permits → List (Key × DotFlags)
 permits_by_key = votes_by_key key_cmp
 
--- a list of keys with permits, as it is kept: the keys rise, and each has permits in the order of their dots
+-- the invariant of the stored list: the keys are sorted, and each has permits in the order of their dots
 abbrev pub ArePermits : List (Key × DotFlags) → Type 0
 ArePermits = AreKeyedVotes key_cmp

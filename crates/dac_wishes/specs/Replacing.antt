@@ -1,5 +1,5 @@
--- Operations that replace dots: which dots they name, and which of their writes stand. A set of operations is given as
--- a list; order and repeats don't matter.
+-- Operations that replace dots: the dots that they name, and those of their writes that stand. Lists represent sets of
+-- operations; order and repetition don't matter.
 use Rattle.std.specs.Prelude.{◌≡◌, Bool, false, ◌||◌, List, ◌∷◌}
 use Rattle.std.specs.List.{list_any}
 use Rattle.std.specs.FinSet as set
@@ -17,7 +17,7 @@ module _ {A : Type 0} (over : A → List Dot) where
   abbrev pub replaces : Dot → Dot × A → Bool
   replaces x o = has_key dot_cmp (over o.1) x
 
-  -- some operation replaces this dot
+  -- an operation of the list replaces this dot
   abbrev pub is_replaced : Dot → List (Dot × A) → Bool
   is_replaced x os = list_any (replaces x) os
 
@@ -25,11 +25,11 @@ module _ {A : Type 0} (over : A → List Dot) where
   abbrev pub names : Dot → Dot × A → Bool
   names x o = is_under x o || replaces x o
 
-  -- an act doesn't replace the dot that it has
-  abbrev pub SparesItself : Dot → A → Type 0
-  SparesItself d a = has_key dot_cmp (over a) d ≡ false
+  -- the act doesn't replace its own dot
+  abbrev pub ExcludesOwnDot : Dot → A → Type 0
+  ExcludesOwnDot d a = has_key dot_cmp (over a) d ≡ false
 
-  -- the dots that an operation names
+  -- the dots that the operation names
   abbrev pub named_by : Dot → A → Dots
   named_by d a = set.from_list (d ∷ over a)
 

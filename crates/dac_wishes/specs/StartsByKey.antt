@@ -1,4 +1,4 @@
--- Start wishes by key: the keys of the wishes that stand, each with their dots. This is how they are kept and read.
+-- Start wishes by key, their stored form: the keys with standing wishes, each with their dots.
 use Rattle.std.specs.Prelude.{List}
 use Rattle.std.specs.FinSet as set
 use Rattle.dac_origins.specs.Dots.{Dots}
@@ -18,6 +18,6 @@ keys_of writes = keys_in key_cmp (λ (w : Write). w.key) (set.items writes)
 unfoldable pub starts_by_key : Writes → List (Key × Dots)
 starts_by_key writes = by_key (λ k. dots_at k writes) (keys_of writes)
 
--- a list of keys with dots, as it is kept: the keys rise, and each has dots
+-- the invariant of the stored list: the keys are sorted, and each has dots
 abbrev pub AreStarts : List (Key × Dots) → Type 0
 AreStarts = IsKeyed key_cmp IsAny is_empty_set

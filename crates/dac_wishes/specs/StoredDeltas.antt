@@ -1,4 +1,4 @@
--- How the start wishes of operations are stored.
+-- The stored form of the start wishes of operations.
 use Rattle.std.specs.Prelude.{List, [], ◌∷◌}
 use Rattle.std.specs.FinSet as set
 use Rattle.dac_origins.specs.declared.dot.Dot.{Dot}
@@ -7,7 +7,7 @@ use Rattle.dac_wishes.specs.declared.key.Key.{Key}
 use Rattle.dac_wishes.specs.declared.wish_act.WishAct.{WishAct}
 use Rattle.dac_wishes.specs.declared.wish_act.WishAct.TheVariants.{Start, Other as OtherWish}
 
--- a start as it is stored
+-- the stored form of a start, if the act is one
 abbrev pub stored_start : Dot → WishAct → List (Key × Dots)
 stored_start d (Start key over) = (key, set.insert set.empty d) ∷ []
 stored_start d (OtherWish over) = []

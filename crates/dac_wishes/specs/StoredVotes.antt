@@ -1,4 +1,4 @@
--- How votes are stored: values at dots at each key, beside the context of the dots that are known.
+-- The stored form of votes: for each key a map from dots to flags, paired with the context of the known dots.
 use Rattle.std.specs.Prelude.{List, [], ◌∷◌, Option, None, Some, map as list_map}
 use Rattle.std.specs.declared.cmp.Ordering.{Ordering}
 use Rattle.std.specs.List.{flat_map}
@@ -18,15 +18,15 @@ use Rattle.dac_wishes.specs.Votes.{Votes, VotesValue}
 abbrev pub DotFlags : Type 0
 DotFlags = List (Dot × Flag)
 
--- the votes at each key, and the dots that are known
+-- the votes at each key, and the known dots
 abbrev pub StoredVotes : Type 0 → Type 0
 StoredVotes K = Stored (List (K × DotFlags))
 
--- a list of keys with votes, as it is kept: the keys rise, and each has votes in the order of their dots
+-- the invariant of the stored list: the keys are sorted, and each has votes in the order of their dots
 abbrev pub AreKeyedVotes : {K : Type 0} → (K → K → Ordering) → List (K × DotFlags) → Type 0
 AreKeyedVotes R = IsKeyed R (IsMap dot_cmp IsAny) is_empty_list
 
--- the keys rise, each has votes in the order of their dots, and each dot is known
+-- the keys are sorted, each has votes in the order of their dots, and each dot is known
 abbrev pub AreStoredVotes : {K : Type 0} → (K → K → Ordering) → StoredVotes K → Type 0
 AreStoredVotes R = IsStored (AreKeyedVotes R) (has_in has_dot)
 
@@ -38,11 +38,11 @@ keyed_votes key ps = list_map (λ (p : Dot × Flag). (keyed_write key p.0, p.1))
 unfoldable pub votes_of : {K : Type 0} (R : K → K → Ordering) → List (K × DotFlags) → Votes R
 votes_of {K = K} R m = map.from_entries (flat_map (λ (e : K × DotFlags). keyed_votes e.0 e.1) m)
 
--- the votes that are stored so
+-- the votes that a stored form represents
 abbrev pub votes_value_of : {K : Type 0} (R : K → K → Ordering) → StoredVotes K → VotesValue R
 votes_value_of R v = record { known = v.context; standing = votes_of R v.store }
 
--- a vote as it is stored
+-- the stored form of a vote, if there is one
 abbrev pub stored_vote : {K : Type 0} → Dot → Option (K × Flag) → List (K × DotFlags)
 stored_vote d None = []
 stored_vote d (Some v) = (v.0, (d, v.1) ∷ []) ∷ []

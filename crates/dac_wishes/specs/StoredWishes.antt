@@ -1,4 +1,4 @@
--- How start wishes are stored: a set of dots at each key, beside the context of the dots that are known.
+-- The stored form of start wishes: for each key a set of dots, paired with the context of the known dots.
 use Rattle.std.specs.Prelude.{List, map as list_map}
 use Rattle.std.specs.List.{flat_map}
 use Rattle.std.specs.FinSet as set
@@ -12,11 +12,11 @@ use Rattle.dac_wishes.specs.Keys.{key_cmp}
 use Rattle.dac_wishes.specs.Writes.{Write, Writes, write}
 use Rattle.dac_wishes.specs.WishesValue.{WishesValue}
 
--- the dots at each key, and the dots that are known
+-- the dots at each key, and the known dots
 abbrev pub StoredDots : Type 0
 StoredDots = Stored (List (Key × Dots))
 
--- the keys rise, each has dots, and each dot is known
+-- the keys are sorted, each has dots, and each dot is known
 abbrev pub AreStoredDots : StoredDots → Type 0
 AreStoredDots = IsStored (IsKeyed key_cmp IsAny is_empty_set) (has_in set.contains)
 
@@ -28,6 +28,6 @@ writes_at key ds = list_map (write key) (set.items ds)
 unfoldable pub writes_of : List (Key × Dots) → Writes
 writes_of m = set.from_list (flat_map (λ (e : Key × Dots). writes_at e.0 e.1) m)
 
--- the start wishes that are stored so
+-- the start wishes that a stored form represents
 abbrev pub wishes_of : StoredDots → WishesValue
 wishes_of v = record { known = v.context; standing = writes_of v.store }

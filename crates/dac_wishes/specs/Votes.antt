@@ -1,5 +1,5 @@
--- Votes: operations that say yes or no of a key, as flags, and replace one another. Here is what stands of them, beside
--- the dots that are known, for keys of any type. Equal parts are equal values. Permits are votes, and so are drains.
+-- Votes: operations that write a boolean at a key, as a flag, and replace one another. A value consists of the standing
+-- votes and the known dots, for keys of any type; equal parts make equal values. Permits and drains are votes.
 use Rattle.std.specs.Prelude.{◌≡◌, true, List, filter, map as list_map, Option, is_some, refl}
 use Rattle.std.specs.declared.cmp.Ordering.{Ordering}
 use Rattle.std.specs.Ordering.{eq_by_cmp}
@@ -21,30 +21,30 @@ Votes R = map.FinMap (keyed_write_cmp R) Flag
 pub record VotesValue {K : Type 0} (R : K → K → Ordering) : Type 0 where
   -- the dots of the operations, and those that they replace
   pub known : Dots
-  -- the votes that none of them replaces
+  -- the votes that no operation replaces
   pub standing : Votes R
 
 abbrev pub coded_votes : {K : Type 0} (R : K → K → Ordering) → Coded K → Coded (VotesValue R)
 coded_votes R coded_key =
     code_by (Dots × Votes R) (coded× (set.code coded_dot) (map.code (coded_keyed_write coded_key) coded_flag)) (λ v. (v.known, v.standing)) (λ p. record { known = p.0; standing = p.1 }) (λ _. refl)
 
--- what stands is known, in forged values too
+-- standing votes are known, in forged values too
 abbrev pub AreVotes : {K : Type 0} (R : K → K → Ordering) → VotesValue R → Type 0
 AreVotes {K = K} R v = (w : KeyedWrite K) → is_some (map.get v.standing w) ≡ true → set.contains v.known w.dot ≡ true
 
--- x is below y. What x knows y knows too. What stands in y and x knows stands in x, with a value that isn't above.
--- Written without join.
+-- x is below y: y knows all that x knows, and each vote that stands in y and is known to x stands in x, with a value
+-- that isn't greater. Stated without join.
 pub record AreVotesBelow {K : Type 0} (R : K → K → Ordering) (x y : VotesValue R) : Type 0 where
   pub known : IsSubset x.known y.known
   pub standing : (w : KeyedWrite K) → set.contains x.known w.dot ≡ true
       → StandsBelow IsFlagBelow (map.get x.standing w) (map.get y.standing w)
 
--- nothing known
+-- nothing is known
 abbrev pub no_votes : {K : Type 0} (R : K → K → Ordering) → VotesValue R
 no_votes R = record { known = set.empty; standing = map.empty }
 
--- What stands of a vote when two sides come together. It is the greater value where it stands on both, and else its
--- value where the other side doesn't know its dot
+-- The vote in a join: the greater value if it stands on both sides; if it stands on one side, its value unless the
+-- other side knows its dot
 abbrev pub joined_vote : {K : Type 0} (R : K → K → Ordering) → VotesValue R → VotesValue R → KeyedWrite K → Option Flag
     → Option Flag → Option Flag
 joined_vote R x y w = join_at join_flags (set.contains x.known w.dot) (set.contains y.known w.dot)
@@ -56,11 +56,11 @@ join_votes R x y = record {
       (merge_entries (keyed_write_cmp R) (joined_vote R x y) (map.entries x.standing) (map.entries y.standing));
 }
 
--- the votes of a key among others, by their dots
+-- the votes in the list that are at the key, by their dots
 abbrev pub votes_among : {K : Type 0} (R : K → K → Ordering) → K → List (KeyedWrite K × Flag) → List (Dot × Flag)
 votes_among {K = K} R key es = list_map (λ (e : KeyedWrite K × Flag). (e.0.dot, e.1)) (filter
     (λ (e : KeyedWrite K × Flag). eq_by_cmp R e.0.key key) es)
 
--- the votes that stand at a key, in the order of their dots
+-- the key's standing votes, in the order of their dots
 abbrev pub votes_at : {K : Type 0} (R : K → K → Ordering) → K → Votes R → List (Dot × Flag)
 votes_at R key votes = votes_among R key (map.entries votes)

@@ -1,4 +1,4 @@
--- Votes by key: the keys of the votes that stand, each with their dots and values. This is how they are kept and read.
+-- Votes by key, their stored form: the keys with standing votes, each with their dots and values.
 use Rattle.std.specs.Prelude.{List}
 use Rattle.std.specs.declared.cmp.Ordering.{Ordering}
 use Rattle.std.specs.FinMap as map

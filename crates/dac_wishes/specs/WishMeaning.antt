@@ -1,4 +1,4 @@
--- What a set of operations means for start wishes: which starts stand, and which dots are known.
+-- The meaning of a set of operations for start wishes: the standing starts, and the known dots.
 use Rattle.std.specs.Prelude.{◌≡◌, Bool, false, not, ◌&&◌, List, [], ◌∷◌}
 use Rattle.std.specs.List.{list_any}
 use Rattle.std.specs.FinSet as set
@@ -16,26 +16,26 @@ abbrev pub over_of : WishAct → List Dot
 over_of (Start key over) = over
 over_of (Other over) = over
 
--- the act wishes a start of the key
+-- the act starts the key
 abbrev pub wishes : Key → WishAct → Bool
 wishes key (Start k over) = same_key key k
 wishes key (Other over) = false
 
--- the operation is this wish
+-- the operation writes this wish
 abbrev pub is_start : Write → Dot × WishAct → Bool
 is_start w o = wishes w.key o.1 && is_under w.dot o
 
--- The value is what the operations mean: a wish stands if an operation is it and none replaces its dot.
+-- The value is the meaning of the operations: a wish stands if one of them writes it and none replaces its dot.
 pub record IsMeaning (os : List (Dot × WishAct)) (v : WishesValue) : Type 0 where
   pub known : AreNamedIn over_of os v.known
   pub standing : (w : Write)
       → set.contains v.standing w ≡ (list_any (is_start w) os && not (is_replaced over_of w.dot os))
 
--- the wishes in an operation
+-- the wish of an operation, as a list
 abbrev pub starts_in : Dot → WishAct → List Write
 starts_in d (Start key over) = write key d ∷ []
 starts_in d (Other over) = []
 
--- what one operation adds
+-- the delta of one operation
 abbrev pub wish_delta : Dot → WishAct → WishesValue
 wish_delta d a = record { known = named_by over_of d a; standing = set.from_list (starts_in d a) }

@@ -1,4 +1,4 @@
-//! Whether what stands is above what one operation says. The tests take no memory.
+//! Whether a piece already contains the effect of an operation.
 ghost use Rattle.std.specs.Prelude.{◌≡◌, ◌↔◌, ◌∷◌, List, IsTrue};
 ghost use Rattle.std.specs.FinSet as set;
 ghost use Rattle.std.specs.List.{list_all};
@@ -6,7 +6,7 @@ ghost use Rattle.dac_origins.specs.declared.dot.Dot.{Dot as DotValue};
 ghost use Rattle.dac_origins.specs.Dots.{IsSubset, dot_cmp};
 ghost use Rattle.dac_origins.specs.Keys.{has_key};
 ghost use Rattle.dac_wishes.specs.KeyedWrites.{same_dot};
-ghost use Rattle.dac_wishes.specs.Covering.{drain_act, is_said_below, is_wish_of, let_stand, let_wishes, lets_stand, lets_wish, permit_act, wish_act};
+ghost use Rattle.dac_wishes.specs.Covering.{drain_act, is_flag_at_most, is_wish_of, let_stand, let_wishes, lets_stand, lets_wish, permit_act, wish_act};
 ghost use Rattle.dac_wishes.specs.VoteMeaning.{says_of};
 ghost use Rattle.dac_wishes.specs.PermitMeaning.{vote_of as permits_by};
 ghost use Rattle.dac_wishes.specs.DrainMeaning.{vote_of as drains_by};
@@ -25,8 +25,8 @@ impl Permissions {
     ghost use Rattle.dac_wishes.specs.PermissionsValue.{IsPermissionsBelow};
     ghost use Rattle.dac_wishes.specs.PermitMeaning.{permit_delta};
 
-    /// Whether what an operation adds is below what is kept, so that to join it would change nothing: an operation of this
-    /// dot, which permits this key or not, if it does, and replaces these dots. It takes no memory.
+    /// Whether the delta of an operation is below these permissions, so that joining it would change nothing. `permit`
+    /// is the key that it permits or forbids, if any, and `over` the dots that it replaces.
     pub fn covers(&self, dot: Dot, permit: Option<(Key, bool)>, over: &[Dot]) -> bool
         ensures { IsTrue result
             ↔ IsPermissionsBelow (permit_delta dot (permit_act permit over.now)) self.now }
@@ -40,8 +40,8 @@ impl Drains {
     ghost use Rattle.dac_wishes.specs.DrainMeaning.{drain_delta};
     ghost use Rattle.dac_wishes.specs.DrainsValue.{AreDrainsBelow};
 
-    /// Whether what an operation adds is below what is kept, so that to join it would change nothing: an operation of this
-    /// dot, which drains this incarnation or ends that, if it does, and replaces these dots. It takes no memory.
+    /// Whether the delta of an operation is below these drains, so that joining it would change nothing. `drain` is the
+    /// incarnation that it drains or undrains, if any, and `over` the dots that it replaces.
     pub fn covers(&self, dot: Dot, drain: Option<(Origin, bool)>, over: &[Dot]) -> bool
         ensures { IsTrue result
             ↔ AreDrainsBelow (drain_delta dot (drain_act drain over.now)) self.now }
@@ -55,8 +55,8 @@ impl Wishes {
     ghost use Rattle.dac_wishes.specs.WishMeaning.{wish_delta};
     ghost use Rattle.dac_wishes.specs.WishesValue.{AreWishesBelow};
 
-    /// Whether what an operation adds is below what is kept, so that to join it would change nothing: an operation of this
-    /// dot, which wishes a start of this key, if it does, and replaces these dots. It takes no memory.
+    /// Whether the delta of an operation is below these wishes, so that joining it would change nothing. `start` is the
+    /// key that it starts, if any, and `over` the dots that it replaces.
     pub fn covers(&self, dot: Dot, start: Option<Key>, over: &[Dot]) -> bool
         ensures { IsTrue result
             ↔ AreWishesBelow (wish_delta dot (wish_act start over.now)) self.now }
@@ -65,7 +65,7 @@ impl Wishes {
     }
 }
 
-/// A permit as a vote.
+/// The vote of a permit.
 fn permit_vote(permit: Option<(Key, bool)>) -> Option<(Key, Flag)>
     ensures { (over : List DotValue) → result ≡ permits_by (permit_act permit over) }
 {
@@ -75,7 +75,7 @@ fn permit_vote(permit: Option<(Key, bool)>) -> Option<(Key, Flag)>
     }
 }
 
-/// A drain as a vote.
+/// The vote of a drain.
 fn drain_vote(drain: Option<(Origin, bool)>) -> Option<(Origin, Flag)>
     ensures { (over : List DotValue) → result ≡ drains_by (drain_act drain over) }
 {
@@ -99,21 +99,21 @@ fn knows_each(known: &Context, dots: &[Dot]) -> bool
     dots.iter().all(|dot| known.contains(*dot))
 }
 
-/// Whether two dots are one.
+/// Whether two dots are equal.
 fn is_same(one: Dot, other: Dot) -> bool
     ensures { result ≡ same_dot one other }
 {
     one.cmp(&other).is_eq()
 }
 
-/// Whether a dot is in the list.
+/// Whether the list contains the dot.
 fn names(dots: &[Dot], dot: Dot) -> bool
     ensures { result ≡ has_key dot_cmp dots.now dot }
 {
     dots.iter().any(|named| is_same(dot, *named))
 }
 
-/// Whether each vote at each key may stand beside what the operation says.
+/// Whether a value above the operation's delta can contain all these standing votes.
 fn let_stand<K: MapKey>(
     dot: Dot,
     vote: Option<(K, Flag)>,
@@ -131,7 +131,7 @@ fn let_stand<K: MapKey>(
     true
 }
 
-/// Whether each vote at a key may stand.
+/// Whether a value above the operation's delta can contain all these standing votes at a key.
 fn let_stand_at<K: MapKey>(
     dot: Dot,
     vote: Option<(K, Flag)>,
@@ -146,7 +146,8 @@ fn let_stand_at<K: MapKey>(
         .all(|stands| lets_stand(dot, vote, over, key, stands))
 }
 
-/// Whether a vote may stand at a key: under the operation's dot if the operation says it, and else if it isn't replaced.
+/// Whether a value above the operation's delta can contain this standing vote at a key: it is the operation's own, with
+/// a flag at least the operation's, or the operation doesn't replace it.
 fn lets_stand<K: MapKey>(
     dot: Dot,
     vote: Option<(K, Flag)>,
@@ -157,13 +158,13 @@ fn lets_stand<K: MapKey>(
     ensures { result ≡ lets_stand K.cmp dot vote over.now key stands.now }
 {
     if is_same(stands.0, dot) {
-        is_said_below(said_of(key, vote), stands.1)
+        is_flag_at_most(said_of(key, vote), stands.1)
     } else {
         !names(over, stands.0)
     }
 }
 
-/// What a vote says of a key, if it is of that key.
+/// The flag of a vote, if it is at this key.
 fn said_of<K: MapKey>(key: K, vote: Option<(K, Flag)>) -> Option<Flag>
     ensures { result ≡ says_of K.cmp key vote }
 {
@@ -179,9 +180,9 @@ fn said_of<K: MapKey>(key: K, vote: Option<(K, Flag)>) -> Option<Flag>
     }
 }
 
-/// Whether what is said isn't above what stands.
-fn is_said_below(said: Option<Flag>, stands: Flag) -> bool
-    ensures { result ≡ is_said_below said stands }
+/// Whether there is a flag, and it is at most the standing one.
+fn is_flag_at_most(said: Option<Flag>, stands: Flag) -> bool
+    ensures { result ≡ is_flag_at_most said stands }
 {
     match (said, stands) {
         (None, _) | (Some(Flag::Down), Flag::Up) => false,
@@ -189,7 +190,7 @@ fn is_said_below(said: Option<Flag>, stands: Flag) -> bool
     }
 }
 
-/// Whether each wish at each key may stand beside what the operation says.
+/// Whether a value above the operation's delta can contain all these standing wishes.
 fn let_wishes(dot: Dot, start: Option<Key>, over: &[Dot], entries: Entries<'_, Key, DotSet>) -> bool
     ensures { result ≡ let_wishes dot start over.now entries.entry }
 {
@@ -202,7 +203,7 @@ fn let_wishes(dot: Dot, start: Option<Key>, over: &[Dot], entries: Entries<'_, K
     true
 }
 
-/// Whether each wish at a key may stand.
+/// Whether a value above the operation's delta can contain all these standing wishes at a key.
 fn let_wishes_at(dot: Dot, start: Option<Key>, over: &[Dot], key: Key, wishes: &[Dot]) -> bool
     ensures { result ≡ list_all (lets_wish dot start over.now key) wishes.now }
 {
@@ -211,7 +212,8 @@ fn let_wishes_at(dot: Dot, start: Option<Key>, over: &[Dot], key: Key, wishes: &
         .all(|stands| lets_wish(dot, start, over, key, *stands))
 }
 
-/// Whether a wish may stand at a key: under the operation's dot if the operation is it, and else if it isn't replaced.
+/// Whether a value above the operation's delta can contain this standing wish at a key: it is the operation's own, or
+/// the operation doesn't replace it.
 fn lets_wish(dot: Dot, start: Option<Key>, over: &[Dot], key: Key, stands: Dot) -> bool
     ensures { result ≡ lets_wish dot start over.now key stands }
 {
@@ -222,7 +224,7 @@ fn lets_wish(dot: Dot, start: Option<Key>, over: &[Dot], key: Key, stands: Dot) 
     }
 }
 
-/// Whether a start of the key is wished.
+/// Whether the operation starts the key.
 fn is_wish_of(start: Option<Key>, key: Key) -> bool
     ensures { result ≡ is_wish_of start key }
 {

@@ -1,4 +1,4 @@
-//! The parts of a delta.
+//! Parts of deltas.
 ghost use Rattle.std.specs.Prelude.{◌≡◌, ◌∷◌, IfOk};
 ghost use Rattle.std.specs.FinSet as set;
 ghost use Rattle.dac_store.specs.Stores.{IsHeld};
@@ -20,7 +20,7 @@ pub(crate) fn named_by(alloc: Global, dot: Dot, over: &[Dot]) -> Result<Context,
     Ok(named)
 }
 
-/// The same dots, which deltas of the operation share.
+/// The dots that an operation names, in a form that its deltas share.
 pub(crate) fn shared_names(alloc: Global, dot: Dot, over: &[Dot]) -> Result<SharedContext, NoMemory>
     ensures { IfOk result (λ named. named ≡ set.from_list (dot ∷ over.now)) }
 {
@@ -29,15 +29,15 @@ pub(crate) fn shared_names(alloc: Global, dot: Dot, over: &[Dot]) -> Result<Shar
     Ok(shared)
 }
 
-/// A store beside a shared context that has all its dots.
-pub(crate) fn beside_shared<S: DotStore>(store: S, context: SharedContext) -> Causal<S>
+/// A store paired with a shared context that contains its dots.
+pub(crate) fn paired_shared<S: DotStore>(store: S, context: SharedContext) -> Causal<S>
     requires { IsHeld (S.has store) context }
     ensures { result ≡ record { store = store; context = context } }
 {
     Causal::with_shared(store, context).unwrap()
 }
 
-/// A store beside a context that has all its dots.
+/// A store paired with a context that contains its dots.
 pub(crate) fn beside<S: DotStore>(store: S, context: Context) -> Causal<S>
     requires { IsHeld (S.has store) context }
     ensures { result ≡ record { store = store; context = context } }

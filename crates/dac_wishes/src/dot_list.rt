@@ -5,13 +5,13 @@ use dac_base::NoMemory;
 use dac_origins::Dot;
 use std::marker::Model;
 
-/// A list of dots in some order. Contracts see it as the list.
+/// A list of dots in any order. Contracts treat it as the list.
 #[derive(Debug)]
 pub struct DotList {
     dots: Vec<Dot>,
 }
 
-/// Written out: a drop is one call for a proof, wherever it stands.
+/// Explicit, so that a proof treats each drop as one call.
 impl Drop for DotList {
     fn drop(self) {
         let DotList { dots: _dots } = self;
@@ -28,14 +28,14 @@ impl Model for DotList {
 }
 
 impl DotList {
-    /// The dots of a vector, in its order. It takes no memory.
+    /// The dots of a vector, in its order.
     pub fn new(dots: Vec<Dot>) -> Self
         ensures { result ≡ dots.items }
     {
         Self { dots }
     }
 
-    /// The vector of the dots. It takes no memory.
+    /// The dots as a vector.
     pub fn into_vec(self) -> Vec<Dot>
         ensures { result.items ≡ self }
     {
@@ -50,7 +50,7 @@ impl DotList {
         self.dots.as_slice()
     }
 
-    /// Whether the two are one list. It takes no memory.
+    /// Whether both lists are equal.
     pub fn equal(&self, other: &Self) -> bool
         ensures { IsTrue result ↔ (self.now ≡ other.now) }
     {

@@ -1,4 +1,4 @@
-//! What operations do to drains.
+//! The part of an operation that concerns drains.
 ghost use Rattle.std.specs.Prelude.{◌≡◌};
 ghost use Rattle.dac_wishes.specs.DrainMeaning.{over_of, vote_of};
 ghost use Rattle.dac_wishes.specs.DrainsValue.{flag_of};
@@ -7,19 +7,19 @@ use crate::dot_list::DotList;
 use dac_lattice::Flag;
 use dac_origins::{Dot, Origin};
 
-/// What an operation does, as far as drains go: it may drain an incarnation of a node or end that, and replaces dots.
+/// The part of an operation that concerns drains: it can drain or undrain an incarnation of a node, and replaces dots.
 #[derive(Debug, Drop)]
 pub enum DrainAct {
-    /// The incarnation is drained or not, and the dots are replaced.
+    /// Drains or undrains an incarnation, and replaces dots.
     Drain {
-        /// Which incarnation of which node.
+        /// The incarnation of a node.
         at: Origin,
-        /// Whether it is drained.
+        /// True to drain it, false to undrain it.
         value: bool,
         /// The dots that it replaces.
         over: DotList,
     },
-    /// Nothing is drained, and the dots are replaced.
+    /// Only replaces dots.
     Other {
         /// The dots that it replaces.
         over: DotList,
@@ -41,7 +41,7 @@ impl DrainAct {
         }
     }
 
-    /// What it says of which incarnation, if it does.
+    /// The incarnation and the flag that it writes, if any.
     pub(crate) fn vote(&self) -> Option<(Origin, Flag)>
         ensures { result ≡ vote_of self.now }
     {
@@ -52,7 +52,7 @@ impl DrainAct {
     }
 }
 
-/// A drain as a flag.
+/// The flag of a drain: true is Down.
 pub(crate) fn flag_of(value: bool) -> Flag
     ensures { result ≡ flag_of value }
 {

@@ -10,7 +10,7 @@ ghost use Rattle.dac_wishes.specs.DrainMeaning.{drain_delta};
 
 use crate::delta::{beside, shared_names};
 use crate::drain_act::DrainAct;
-use crate::votes::{kept_at, kept_beside};
+use crate::votes::{kept_at, stored_delta};
 use dac_base::{NoMemory, NodeId};
 use dac_lattice::{Bottom, Flag, Lattice, Piece};
 use dac_origins::{Dot, Origin};
@@ -18,14 +18,13 @@ use dac_store::{Causal, Context, DotFun, DotMap, DotStore, Entries, SharedContex
 use std::alloc::Global;
 use std::marker::Model;
 
-/// The drains that stand, with their values, beside the dots that are known. A drain's true is
-/// [`Flag::Down`] and its false [`Flag::Up`]. Contracts see a finite map from origins and dots to flags, and
-/// a finite set of dots.
+/// The standing drains with their values, paired with the known dots. Draining is [`Flag::Down`], undraining
+/// [`Flag::Up`]. Contracts see a finite map from origins and dots to flags, and a finite set of dots.
 pub struct Drains {
     causal: Causal<DotMap<Origin, DotFun<Flag>>>,
 }
 
-/// Written out: a drop is one call for a proof, wherever it stands.
+/// Explicit, so that a proof treats each drop as one call.
 impl Drop for Drains {
     fn drop(self) {
         let Drains { causal: _causal } = self;
@@ -50,7 +49,7 @@ impl Drains {
     ghost use Rattle.std.specs.FinMap as map;
     ghost use Rattle.dac_wishes.specs.StoredDrains.{drains_of, drains_by_origin};
 
-    /// The drains that are kept so: at each origin its drains, by their dots. It takes no memory.
+    /// The drains of a stored form: for each origin its drains, by their dots.
     pub fn new(causal: Causal<DotMap<Origin, DotFun<Flag>>>) -> Self
         ensures { result ≡ drains_of causal }
     {
@@ -58,7 +57,7 @@ impl Drains {
         Drains { causal }
     }
 
-    /// No drains, where these dots are known. It takes no memory.
+    /// No drains, with these known dots.
     pub fn none(alloc: Global, known: Context) -> Self
         ensures { result ≡ record { known = known; standing = map.empty } }
     {
@@ -67,22 +66,21 @@ impl Drains {
         }
     }
 
-    /// The origins that have a drain that stands, in ascending order, each with the dots of its drains and
-    /// their values. It takes no memory.
+    /// The origins with a standing drain, in ascending order, each with the dots of its drains and their values.
     pub fn entries(&self) -> Entries<'_, Origin, DotFun<Flag>>
         ensures { result ≡ drains_by_origin self.now.standing }
     {
         self.causal.store().entries()
     }
 
-    /// How many origins have a drain that stands.
+    /// The number of origins with a standing drain.
     pub fn len(&self) -> usize
         ensures { result ≡ length (drains_by_origin self.now.standing) }
     {
         self.causal.store().len()
     }
 
-    /// Whether an incarnation of a node is drained: some drain of it stands that says true. It takes no memory.
+    /// Whether an incarnation of a node is drained: one of its standing drains is true.
     pub fn drained(&self, node: NodeId, inc: u64) -> bool
         ensures value { result ≡ is_drained (origin node inc) self.now }
         ensures cases { IsTrue result ↔ IsDrained (origin node inc) self.now }
@@ -90,41 +88,38 @@ impl Drains {
         some_says_drained(self.dots(node, inc))
     }
 
-    /// The dots of the drains of the incarnation that stand, with their values, in ascending order. It takes no
-    /// memory.
+    /// The dots of the incarnation's standing drains, with their values, in ascending order.
     pub fn dots(&self, node: NodeId, inc: u64) -> &[(Dot, Flag)]
         ensures { result.now ≡ drains_at (origin node inc) self.now.standing }
     {
         kept_at(&self.causal, Origin { node, inc })
     }
 
-    /// The dots of the operations, and those that they replace. It takes no memory.
+    /// The known dots: those of the operations, and those that they replace.
     pub fn context(&self) -> &Context
         ensures { result.now ≡ self.now.known }
     {
         self.causal.context()
     }
 
-    /// The same dots, as others may share them. It takes no memory.
+    /// The known dots, in the form that others can share.
     pub fn shared_context(&self) -> &SharedContext
         ensures { result.now ≡ self.now.known }
     {
         self.causal.shared_context()
     }
 
-    /// The join with the other side, where these are the dots that both know, which the join shares. [`NoMemory`] is
-    /// the only error.
-    pub fn join_beside(&self, other: &Self, union: &SharedContext) -> Result<Self, NoMemory>
+    /// The join with the other value. It shares `union`, the union of the known dots of both.
+    pub fn join_with_context(&self, other: &Self, union: &SharedContext) -> Result<Self, NoMemory>
         requires { union.now ≡ set.union self.now.known other.now.known }
         ensures { IfOk result (λ joined. joined ≡ join_drains self.now other.now) }
     {
-        let causal = self.causal.join_beside(&other.causal, union)?;
+        let causal = self.causal.join_with_context(&other.causal, union)?;
         Ok(Drains { causal })
     }
 
-    /// What one operation adds, where these are the dots that it names, which the delta shares. [`NoMemory`] is the
-    /// only error.
-    pub fn delta_beside(
+    /// The delta of one operation. It shares `named`, the dots that the operation names.
+    pub fn delta_with_context(
         alloc: Global,
         dot: Dot,
         act: &DrainAct,
@@ -133,21 +128,20 @@ impl Drains {
         requires { named.now ≡ (drain_delta dot act.now).known }
         ensures { IfOk result (λ delta. delta ≡ drain_delta dot act.now) }
     {
-        let causal = kept_beside(alloc, dot, act.vote(), named)?;
+        let causal = stored_delta(alloc, dot, act.vote(), named)?;
         Ok(Drains { causal })
     }
 
-    /// Whether this side is below the other one, where the other knows each dot that this one knows. It takes no
-    /// memory.
-    pub fn leq_beside(&self, other: &Self) -> bool
+    /// Whether this value is below the other one, if the other knows each dot that this one knows.
+    pub fn leq_with_contexts(&self, other: &Self) -> bool
         requires { IsSubset self.now.known other.now.known }
         ensures { IsTrue result ↔ AreDrainsBelow self.now other.now }
     {
-        self.causal.leq_beside(&other.causal)
+        self.causal.leq_with_contexts(&other.causal)
     }
 }
 
-/// Whether a drain says true.
+/// Whether a drain is true.
 fn says_drained(flag: Flag) -> bool
     ensures { result ≡ says_drained flag }
 {
@@ -157,7 +151,7 @@ fn says_drained(flag: Flag) -> bool
     }
 }
 
-/// Whether some drain says true.
+/// Whether any drain is true.
 fn some_says_drained(drains: &[(Dot, Flag)]) -> bool
     ensures { result ≡ list_any (λ (p : DotValue × FlagValue). says_drained p.1) drains.now }
 {
@@ -217,13 +211,13 @@ impl Bottom for Drains {
 }
 
 impl Piece for Drains {
-    ghost use Rattle.dac_wishes.specs.Replacing.{SparesItself};
+    ghost use Rattle.dac_wishes.specs.Replacing.{ExcludesOwnDot};
     ghost use Rattle.dac_wishes.specs.DrainMeaning.{over_of, drain_delta, IsMeaning};
     ghost use Rattle.dac_wishes.specs.laws.DrainMeaning.{drain_piece};
 
     type Act = DrainAct;
 
-    ghost fits = { SparesItself over_of };
+    ghost fits = { ExcludesOwnDot over_of };
 
     ghost delta = { drain_delta };
 
@@ -233,7 +227,7 @@ impl Piece for Drains {
 
     fn delta(alloc: Global, dot: Dot, act: &DrainAct) -> Result<Self, NoMemory> {
         let named = shared_names(alloc, dot, act.over())?;
-        let delta = Self::delta_beside(alloc, dot, act, &named)?;
+        let delta = Self::delta_with_context(alloc, dot, act, &named)?;
         Ok(delta)
     }
 }

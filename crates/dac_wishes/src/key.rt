@@ -1,16 +1,16 @@
-//! What is permitted and wished.
+//! The keys of permits and wishes.
 use dac_base::{AppId, NodeId};
 use dac_origins::MapKey;
 
-/// An application at one incarnation of a node. Permits and start wishes are of such keys, so a node that
-/// comes up again returns to the configuration.
+/// An application at one incarnation of a node. Permits and wishes belong to one incarnation, so that after a restart
+/// the configuration applies again.
 ///
 /// Keys are ordered by application, then by node, then by incarnation.
 #[derive(Clone, Copy, Debug, PartialEq, Eq, PartialOrd, Ord, Hash)]
 pub struct Key {
-    /// The application.
+    /// The application permitted or started.
     pub app: AppId,
-    /// The node.
+    /// The node where it is permitted or started.
     pub node: NodeId,
     /// The incarnation of the node.
     pub inc: u64,

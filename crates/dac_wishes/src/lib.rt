@@ -1,14 +1,17 @@
-//! Permits and start wishes: which writes of a set of operations stand.
+//! Permits, start wishes and drains: the writes of a set of operations that stand.
 //!
-//! A permit or start wish is of a [`Key`], an application at one incarnation of a node. It stands until an operation
-//! replaces its dot. [`Wishes`] and [`Permissions`] keep what stands beside the dots that are known, so replicas that
-//! join them agree whatever the order. A wish or permit that stands on one side alone goes where the other side knows
-//! its dot, since there it was replaced. Both are lattices, for every value of the type, and pieces of a controller's
-//! state. The joined deltas of operations are exactly the writes that none of them replaces, and the dots that they
-//! name.
+//! A permit or start wish is at a [`Key`], an application at one incarnation of a node; a drain is at an incarnation.
+//! It stands until an operation replaces its dot. [`Wishes`], [`Permissions`] and [`Drains`] store the standing writes
+//! with the known dots, so that replicas that join them agree, whatever the order. A write that stands on one side only
+//! is removed if the other side knows its dot, because it was replaced there. All three are lattices and pieces of a
+//! controller's state. The joined deltas of operations are exactly the writes that none of them replaces, and the dots
+//! that they name.
 //!
-//! A start beside a stop wins, as a stop replaces only the starts that it names. Of permits that stand
-//! together false wins, here in [`Permissions::permitted`].
+//! A start concurrent with a stop wins, because a stop replaces only the starts that it names. Of concurrent permits
+//! false wins ([`Permissions::permitted`]), and of concurrent drains true ([`Drains::drained`]).
+//!
+//! Functions that don't return `Result<_, NoMemory>` allocate nothing. `NoMemory` is the only error, and leaves
+//! borrowed arguments unchanged.
 #![tactic(auto)]
 
 pub use dot_list::DotList;

@@ -5,13 +5,13 @@ ghost use Rattle.dac_origins.specs.Dots.{IsSubset};
 ghost use Rattle.std.specs.List.{list_all};
 ghost use Rattle.dac_lattice.specs.declared.flags.Flag.{Flag as FlagValue};
 ghost use Rattle.dac_origins.specs.declared.dot.Dot.{Dot as DotValue};
-ghost use Rattle.dac_wishes.specs.PermissionsValue.{join_permissions, IsPermissionsBelow, says_true, is_permitted, is_permitted_by, IsPermitted, permits_at};
+ghost use Rattle.dac_wishes.specs.PermissionsValue.{join_permissions, IsPermissionsBelow, is_permitting, is_permitted, is_permitted_by, IsPermitted, permits_at};
 ghost use Rattle.dac_wishes.specs.PermitMeaning.{permit_delta};
 
 use crate::delta::shared_names;
 use crate::key::Key;
 use crate::permit_act::PermitAct;
-use crate::votes::{kept_at, kept_beside};
+use crate::votes::{kept_at, stored_delta};
 use dac_base::NoMemory;
 use dac_lattice::{Bottom, Flag, Lattice, Piece};
 use dac_origins::Dot;
@@ -19,14 +19,13 @@ use dac_store::{Causal, Context, DotFun, DotMap, Entries, SharedContext};
 use std::alloc::Global;
 use std::marker::Model;
 
-/// The permits that stand, with their values, beside the dots that are known. A permission's true is
-/// [`Flag::Up`] and its false [`Flag::Down`]. Contracts see a finite map from keys and dots to flags, and
-/// a finite set of dots.
+/// The standing permits with their values, paired with the known dots. Permitting is [`Flag::Up`], forbidding
+/// [`Flag::Down`]. Contracts see a finite map from keys and dots to flags, and a finite set of dots.
 pub struct Permissions {
     causal: Causal<DotMap<Key, DotFun<Flag>>>,
 }
 
-/// Written out: a drop is one call for a proof, wherever it stands.
+/// Explicit, so that a proof treats each drop as one call.
 impl Drop for Permissions {
     fn drop(self) {
         let Permissions { causal: _causal } = self;
@@ -51,7 +50,7 @@ impl Permissions {
     ghost use Rattle.dac_wishes.specs.StoredPermits.{permissions_of};
     ghost use Rattle.dac_wishes.specs.PermitsByKey.{permits_by_key};
 
-    /// The permissions that are kept so: at each key its permits, by their dots. It takes no memory.
+    /// The permissions of a stored form: for each key its permits, by their dots.
     pub fn new(causal: Causal<DotMap<Key, DotFun<Flag>>>) -> Self
         ensures { result ≡ permissions_of causal }
     {
@@ -59,23 +58,22 @@ impl Permissions {
         Permissions { causal }
     }
 
-    /// The keys that have a permit that stands, in ascending order, each with the dots of its permits and
-    /// their values. It takes no memory.
+    /// The keys with a standing permit, in ascending order, each with the dots of its permits and their values.
     pub fn entries(&self) -> Entries<'_, Key, DotFun<Flag>>
         ensures { result ≡ permits_by_key self.now.standing }
     {
         self.causal.store().entries()
     }
 
-    /// How many keys have a permit that stands.
+    /// The number of keys with a standing permit.
     pub fn len(&self) -> usize
         ensures { result ≡ length (permits_by_key self.now.standing) }
     {
         self.causal.store().len()
     }
 
-    /// Whether the key is permitted: no permit of it stands and the default is true, or some stand and all
-    /// say true. It takes no memory.
+    /// Whether the key is permitted: the default if no permit of it stands, and otherwise whether all standing ones are
+    /// true.
     pub fn permitted(&self, key: Key, default: bool) -> bool
         ensures value { result ≡ is_permitted key default self.now }
         ensures cases { IsTrue result ↔ IsPermitted key default self.now }
@@ -83,41 +81,38 @@ impl Permissions {
         permitted_by(default, self.dots(key))
     }
 
-    /// The dots of the permits of the key that stand, with their values, in ascending order. It takes no
-    /// memory.
+    /// The dots of the key's standing permits, with their values, in ascending order.
     pub fn dots(&self, key: Key) -> &[(Dot, Flag)]
         ensures { result.now ≡ permits_at key self.now.standing }
     {
         kept_at(&self.causal, key)
     }
 
-    /// The dots of the operations, and those that they replace. It takes no memory.
+    /// The known dots: those of the operations, and those that they replace.
     pub fn context(&self) -> &Context
         ensures { result.now ≡ self.now.known }
     {
         self.causal.context()
     }
 
-    /// The same dots, as others may share them. It takes no memory.
+    /// The known dots, in the form that others can share.
     pub fn shared_context(&self) -> &SharedContext
         ensures { result.now ≡ self.now.known }
     {
         self.causal.shared_context()
     }
 
-    /// The join with the other side, where these are the dots that both know, which the join shares. [`NoMemory`] is
-    /// the only error.
-    pub fn join_beside(&self, other: &Self, union: &SharedContext) -> Result<Self, NoMemory>
+    /// The join with the other value. It shares `union`, the union of the known dots of both.
+    pub fn join_with_context(&self, other: &Self, union: &SharedContext) -> Result<Self, NoMemory>
         requires { union.now ≡ set.union self.now.known other.now.known }
         ensures { IfOk result (λ joined. joined ≡ join_permissions self.now other.now) }
     {
-        let causal = self.causal.join_beside(&other.causal, union)?;
+        let causal = self.causal.join_with_context(&other.causal, union)?;
         Ok(Permissions { causal })
     }
 
-    /// What one operation adds, where these are the dots that it names, which the delta shares. [`NoMemory`] is the
-    /// only error.
-    pub fn delta_beside(
+    /// The delta of one operation. It shares `named`, the dots that the operation names.
+    pub fn delta_with_context(
         alloc: Global,
         dot: Dot,
         act: &PermitAct,
@@ -126,23 +121,22 @@ impl Permissions {
         requires { named.now ≡ (permit_delta dot act.now).known }
         ensures { IfOk result (λ delta. delta ≡ permit_delta dot act.now) }
     {
-        let causal = kept_beside(alloc, dot, act.vote(), named)?;
+        let causal = stored_delta(alloc, dot, act.vote(), named)?;
         Ok(Permissions { causal })
     }
 
-    /// Whether this side is below the other one, where the other knows each dot that this one knows. It takes no
-    /// memory.
-    pub fn leq_beside(&self, other: &Self) -> bool
+    /// Whether this value is below the other one, if the other knows each dot that this one knows.
+    pub fn leq_with_contexts(&self, other: &Self) -> bool
         requires { IsSubset self.now.known other.now.known }
         ensures { IsTrue result ↔ IsPermissionsBelow self.now other.now }
     {
-        self.causal.leq_beside(&other.causal)
+        self.causal.leq_with_contexts(&other.causal)
     }
 }
 
-/// Whether a permit says true.
-fn says_true(flag: Flag) -> bool
-    ensures { result ≡ says_true flag }
+/// Whether a permit is true.
+fn is_permitting(flag: Flag) -> bool
+    ensures { result ≡ is_permitting flag }
 {
     match flag {
         Flag::Up => true,
@@ -150,7 +144,7 @@ fn says_true(flag: Flag) -> bool
     }
 }
 
-/// Whether each permit says true, or the default where there is none.
+/// Whether each permit is true, or the default if there is none.
 fn permitted_by(default: bool, permits: &[(Dot, Flag)]) -> bool
     ensures { result ≡ is_permitted_by default permits.now }
 {
@@ -161,11 +155,11 @@ fn permitted_by(default: bool, permits: &[(Dot, Flag)]) -> bool
     }
 }
 
-/// Whether each permit says true.
+/// Whether each permit is true.
 fn all_say_true(permits: &[(Dot, Flag)]) -> bool
-    ensures { result ≡ list_all (λ (p : DotValue × FlagValue). says_true p.1) permits.now }
+    ensures { result ≡ list_all (λ (p : DotValue × FlagValue). is_permitting p.1) permits.now }
 {
-    permits.iter().all(|permit| says_true(permit.1))
+    permits.iter().all(|permit| is_permitting(permit.1))
 }
 
 impl Lattice for Permissions {
@@ -221,13 +215,13 @@ impl Bottom for Permissions {
 }
 
 impl Piece for Permissions {
-    ghost use Rattle.dac_wishes.specs.Replacing.{SparesItself};
+    ghost use Rattle.dac_wishes.specs.Replacing.{ExcludesOwnDot};
     ghost use Rattle.dac_wishes.specs.PermitMeaning.{over_of, permit_delta, IsMeaning};
     ghost use Rattle.dac_wishes.specs.laws.PermitMeaning.{permit_piece};
 
     type Act = PermitAct;
 
-    ghost fits = { SparesItself over_of };
+    ghost fits = { ExcludesOwnDot over_of };
 
     ghost delta = { permit_delta };
 
@@ -237,7 +231,7 @@ impl Piece for Permissions {
 
     fn delta(alloc: Global, dot: Dot, act: &PermitAct) -> Result<Self, NoMemory> {
         let named = shared_names(alloc, dot, act.over())?;
-        let delta = Self::delta_beside(alloc, dot, act, &named)?;
+        let delta = Self::delta_with_context(alloc, dot, act, &named)?;
         Ok(delta)
     }
 }

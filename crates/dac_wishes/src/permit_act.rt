@@ -1,4 +1,4 @@
-//! What operations do to permissions.
+//! The part of an operation that concerns permissions.
 ghost use Rattle.std.specs.Prelude.{◌≡◌};
 ghost use Rattle.dac_wishes.specs.PermitMeaning.{over_of, vote_of};
 ghost use Rattle.dac_wishes.specs.PermissionsValue.{flag_of};
@@ -8,19 +8,19 @@ use crate::key::Key;
 use dac_lattice::Flag;
 use dac_origins::Dot;
 
-/// What an operation does, as far as permissions go: it may write one, and replaces dots.
+/// The part of an operation that concerns permissions: it can permit or forbid a key, and replaces dots.
 #[derive(Debug, Drop)]
 pub enum PermitAct {
-    /// The key is permitted or not, and the dots are replaced.
+    /// Permits or forbids a key, and replaces dots.
     Permit {
-        /// What is permitted or not.
+        /// The application, and the incarnation where it is permitted or not.
         key: Key,
-        /// Whether it is.
+        /// True to permit it, false to forbid it.
         value: bool,
         /// The dots that it replaces.
         over: DotList,
     },
-    /// Nothing is permitted or forbidden, and the dots are replaced.
+    /// Only replaces dots.
     Other {
         /// The dots that it replaces.
         over: DotList,
@@ -42,7 +42,7 @@ impl PermitAct {
         }
     }
 
-    /// What it says of which key, if it does.
+    /// The key and the flag that it writes, if any.
     pub(crate) fn vote(&self) -> Option<(Key, Flag)>
         ensures { result ≡ vote_of self.now }
     {
@@ -57,7 +57,7 @@ impl PermitAct {
     }
 }
 
-/// A permission as a flag.
+/// The flag of a permit: true is Up.
 pub(crate) fn flag_of(value: bool) -> Flag
     ensures { result ≡ flag_of value }
 {

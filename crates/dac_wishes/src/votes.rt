@@ -1,4 +1,4 @@
-//! What permissions and drains have in common: votes at keys, as they are kept.
+//! The storage of votes, flags written at keys, which permissions and drains share.
 ghost use Rattle.std.specs.Prelude.{◌≡◌, [], IfOk};
 ghost use Rattle.std.specs.FinMap.{find};
 ghost use Rattle.dac_store.specs.DotFuns.{has_dot};
@@ -6,14 +6,14 @@ ghost use Rattle.dac_store.specs.DotMaps.{has_in, store_at};
 ghost use Rattle.dac_store.specs.Stores.{IsHeld};
 ghost use Rattle.dac_wishes.specs.StoredVotes.{stored_vote};
 
-use crate::delta::beside_shared;
+use crate::delta::paired_shared;
 use dac_base::NoMemory;
 use dac_lattice::Flag;
 use dac_origins::{Dot, MapKey};
 use dac_store::{Causal, DotFun, DotMap, DotStore, SharedContext};
 use std::alloc::Global;
 
-/// The votes that are kept at a key.
+/// The votes stored at a key.
 pub(crate) fn kept_at<K: MapKey>(causal: &Causal<DotMap<K, DotFun<Flag>>>, key: K) -> &[(Dot, Flag)]
     ensures { result.now ≡ store_at [] (find K.cmp key causal.now.store) }
 {
@@ -23,7 +23,7 @@ pub(crate) fn kept_at<K: MapKey>(causal: &Causal<DotMap<K, DotFun<Flag>>>, key: 
     }
 }
 
-/// A vote as it is kept, if there is one.
+/// The stored form of a vote, if there is one.
 fn kept_alone<K: MapKey>(
     alloc: Global,
     dot: Dot,
@@ -41,8 +41,8 @@ fn kept_alone<K: MapKey>(
     }
 }
 
-/// What one operation adds, as it is kept: its vote, if it is one, beside these dots, among which are those of the vote.
-pub(crate) fn kept_beside<K: MapKey>(
+/// The stored delta of one operation: its vote, if any, paired with the context `named`, which contains the vote's dot.
+pub(crate) fn stored_delta<K: MapKey>(
     alloc: Global,
     dot: Dot,
     vote: Option<(K, Flag)>,
@@ -54,6 +54,6 @@ pub(crate) fn kept_beside<K: MapKey>(
 {
     let store = kept_alone(alloc, dot, vote)?;
     let context = named.copy()?;
-    let causal = beside_shared(store, context);
+    let causal = paired_shared(store, context);
     Ok(causal)
 }

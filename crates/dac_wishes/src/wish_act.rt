@@ -1,4 +1,4 @@
-//! What operations do to start wishes.
+//! The part of an operation that concerns start wishes.
 ghost use Rattle.std.specs.Prelude.{◌≡◌};
 ghost use Rattle.dac_wishes.specs.WishMeaning.{over_of};
 
@@ -6,17 +6,17 @@ use crate::dot_list::DotList;
 use crate::key::Key;
 use dac_origins::Dot;
 
-/// What an operation does, as far as start wishes go: it may wish a start, and replaces dots.
+/// The part of an operation that concerns start wishes: it can start a key, and replaces dots.
 #[derive(Debug, Drop)]
 pub enum WishAct {
-    /// A start of the key is wished, and the dots are replaced.
+    /// Starts a key, and replaces dots.
     Start {
-        /// What is wished.
+        /// The application, and the incarnation where it is wished to run.
         key: Key,
         /// The dots that it replaces.
         over: DotList,
     },
-    /// Nothing is wished, and the dots are replaced: a stop, or an operation of another kind.
+    /// Only replaces dots: a stop, or an operation of another kind.
     Other {
         /// The dots that it replaces.
         over: DotList,

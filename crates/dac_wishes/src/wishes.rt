@@ -8,7 +8,7 @@ ghost use Rattle.dac_wishes.specs.WishesValue.{join_wishes, AreWishesBelow, is_w
 ghost use Rattle.dac_wishes.specs.StoredDeltas.{stored_start};
 ghost use Rattle.dac_wishes.specs.WishMeaning.{wish_delta};
 
-use crate::delta::{beside_shared, shared_names};
+use crate::delta::{paired_shared, shared_names};
 use crate::key::Key;
 use crate::wish_act::WishAct;
 use dac_base::NoMemory;
@@ -18,12 +18,12 @@ use dac_store::{Causal, Context, DotMap, DotSet, DotStore, Entries, SharedContex
 use std::alloc::Global;
 use std::marker::Model;
 
-/// The start wishes that stand, beside the dots that are known. Contracts see both as finite sets.
+/// The standing start wishes, paired with the known dots. Contracts see both as finite sets.
 pub struct Wishes {
     causal: Causal<DotMap<Key, DotSet>>,
 }
 
-/// Written out: a drop is one call for a proof, wherever it stands.
+/// Explicit, so that a proof treats each drop as one call.
 impl Drop for Wishes {
     fn drop(self) {
         let Wishes { causal: _causal } = self;
@@ -48,7 +48,7 @@ impl Wishes {
     ghost use Rattle.dac_wishes.specs.StoredWishes.{wishes_of};
     ghost use Rattle.dac_wishes.specs.StartsByKey.{starts_by_key};
 
-    /// The wishes that are kept so: at each key the dots of its starts. It takes no memory.
+    /// The wishes of a stored form: for each key the dots of its starts.
     pub fn new(causal: Causal<DotMap<Key, DotSet>>) -> Self
         ensures { result ≡ wishes_of causal }
     {
@@ -56,22 +56,21 @@ impl Wishes {
         Wishes { causal }
     }
 
-    /// The keys that have a start that stands, in ascending order, each with the dots of its starts. It
-    /// takes no memory.
+    /// The keys with a standing start, in ascending order, each with the dots of its starts.
     pub fn entries(&self) -> Entries<'_, Key, DotSet>
         ensures { result ≡ starts_by_key self.now.standing }
     {
         self.causal.store().entries()
     }
 
-    /// How many keys have a start that stands.
+    /// The number of keys with a standing start.
     pub fn len(&self) -> usize
         ensures { result ≡ length (starts_by_key self.now.standing) }
     {
         self.causal.store().len()
     }
 
-    /// Whether some start of the key stands. It takes no memory.
+    /// Whether any start of the key stands.
     pub fn wished(&self, key: Key) -> bool
         ensures value { result ≡ is_wished key self.now }
         ensures some { IsTrue result ↔ SomeStands key self.now }
@@ -79,7 +78,7 @@ impl Wishes {
         self.causal.store().get(key).is_some()
     }
 
-    /// The dots of the starts of the key that stand, in ascending order. It takes no memory.
+    /// The dots of the key's standing starts, in ascending order.
     pub fn dots(&self, key: Key) -> &[Dot]
         ensures { result.now ≡ in_order (dots_at key self.now.standing) }
     {
@@ -89,33 +88,31 @@ impl Wishes {
         }
     }
 
-    /// The dots of the operations, and those that they replace. It takes no memory.
+    /// The known dots: those of the operations, and those that they replace.
     pub fn context(&self) -> &Context
         ensures { result.now ≡ self.now.known }
     {
         self.causal.context()
     }
 
-    /// The same dots, as others may share them. It takes no memory.
+    /// The known dots, in the form that others can share.
     pub fn shared_context(&self) -> &SharedContext
         ensures { result.now ≡ self.now.known }
     {
         self.causal.shared_context()
     }
 
-    /// The join with the other side, where these are the dots that both know, which the join shares. [`NoMemory`] is
-    /// the only error.
-    pub fn join_beside(&self, other: &Self, union: &SharedContext) -> Result<Self, NoMemory>
+    /// The join with the other value. It shares `union`, the union of the known dots of both.
+    pub fn join_with_context(&self, other: &Self, union: &SharedContext) -> Result<Self, NoMemory>
         requires { union.now ≡ set.union self.now.known other.now.known }
         ensures { IfOk result (λ joined. joined ≡ join_wishes self.now other.now) }
     {
-        let causal = self.causal.join_beside(&other.causal, union)?;
+        let causal = self.causal.join_with_context(&other.causal, union)?;
         Ok(Wishes { causal })
     }
 
-    /// What one operation adds, where these are the dots that it names, which the delta shares. [`NoMemory`] is the
-    /// only error.
-    pub fn delta_beside(
+    /// The delta of one operation. It shares `named`, the dots that the operation names.
+    pub fn delta_with_context(
         alloc: Global,
         dot: Dot,
         act: &WishAct,
@@ -126,21 +123,20 @@ impl Wishes {
     {
         let store = start_in(alloc, dot, act)?;
         let context = named.copy()?;
-        let causal = beside_shared(store, context);
+        let causal = paired_shared(store, context);
         Ok(Wishes { causal })
     }
 
-    /// Whether this side is below the other one, where the other knows each dot that this one knows. It takes no
-    /// memory.
-    pub fn leq_beside(&self, other: &Self) -> bool
+    /// Whether this value is below the other one, if the other knows each dot that this one knows.
+    pub fn leq_with_contexts(&self, other: &Self) -> bool
         requires { IsSubset self.now.known other.now.known }
         ensures { IsTrue result ↔ AreWishesBelow self.now other.now }
     {
-        self.causal.leq_beside(&other.causal)
+        self.causal.leq_with_contexts(&other.causal)
     }
 }
 
-/// The start in an operation.
+/// The stored form of an operation's start, if any.
 fn start_in(alloc: Global, dot: Dot, act: &WishAct) -> Result<DotMap<Key, DotSet>, NoMemory>
     ensures { IfOk result (λ store. store ≡ stored_start dot act.now) }
 {
@@ -207,13 +203,13 @@ impl Bottom for Wishes {
 }
 
 impl Piece for Wishes {
-    ghost use Rattle.dac_wishes.specs.Replacing.{SparesItself};
+    ghost use Rattle.dac_wishes.specs.Replacing.{ExcludesOwnDot};
     ghost use Rattle.dac_wishes.specs.WishMeaning.{over_of, wish_delta, IsMeaning};
     ghost use Rattle.dac_wishes.specs.laws.WishMeaning.{wish_piece};
 
     type Act = WishAct;
 
-    ghost fits = { SparesItself over_of };
+    ghost fits = { ExcludesOwnDot over_of };
 
     ghost delta = { wish_delta };
 
@@ -223,7 +219,7 @@ impl Piece for Wishes {
 
     fn delta(alloc: Global, dot: Dot, act: &WishAct) -> Result<Self, NoMemory> {
         let named = shared_names(alloc, dot, act.over())?;
-        let delta = Self::delta_beside(alloc, dot, act, &named)?;
+        let delta = Self::delta_with_context(alloc, dot, act, &named)?;
         Ok(delta)
     }
 }

@@ -1,4 +1,4 @@
--- One call more of a link's threads.
+-- One more call of a link's threads.
 use Rattle.std.proofs.Common.{◌≡◌, ℕ, zero, suc, ◌+◌, List, [], ◌∷◌, ◌++◌, length, get_or, drop, map, All, Some, None, Ok, refl, sym, ap, ◌∙◌, subst, append_assoc, append-nil, arith}
 use Rattle.std.proofs.lemmas.List.Elements.{All-append, All-cons, All-nil}
 use Rattle.dac_base.specs.declared.NodeId.{NodeId}
@@ -9,13 +9,13 @@ use Rattle.dac_messages.specs.declared.message.Message.{Message}
 use Rattle.dac_messages.specs.declared.reply.Reply.TheVariants.{Shipped}
 use Rattle.dac_sites.specs.Added.{CallAdded}
 use Rattle.dac_sites.specs.Call.{Call}
-use Rattle.dac_links.specs.Relay.{Paper}
+use Rattle.dac_links.specs.Relay.{LetterValue}
 use Rattle.dac_wire.specs.declared.packet.Packet.TheVariants.{Msg}
 use Rattle.dac_wire.specs.Decoding.{packet_at}
 use Rattle.dac_workers.specs.Letters.{IsLetterOf}
 use Rattle.dac_workers.specs.Links.{shipped_by, shipped_in, letters_of, ReadsBack, ships_to, ShipsOne, Ships, HearsOne, AreRead, Hears}
 
--- ---- lists one longer
+-- ---- appending one element
 events_push : (cs : List Call) (c : Call) → map (λ (c : Call). c.event) (cs ++ c ∷ []) ≡ map (λ (c : Call). c.event) cs ++ c.event ∷ []
 events_push [] c = refl
 events_push (x ∷ cs) c = ap (λ l. x.event ∷ l) (events_push cs c)
@@ -36,7 +36,7 @@ pub ships_many : (to : NodeId) (n : ℕ) → length (ships_to to n) ≡ n
 ships_many to zero = refl
 ships_many to (suc n) = ap suc (ships_many to n)
 
--- each of them ships
+-- each event of these ships to the node
 pub ships_each : (to : NodeId) (n : ℕ) (front : List Event) (e : Event) (rest : List Event) → ships_to to n ≡ (front ++ e ∷ []) ++ rest → e ≡ Ship to
 ships_each to zero [] e rest is = let none : 0 ≡ length (e ∷ rest) = ap length is in absurd (omega (arith, none))
 ships_each to zero (x ∷ front) e rest is = let none : 0 ≡ length (x ∷ ((front ++ e ∷ []) ++ rest)) = ap length is in absurd (omega (arith, none))
@@ -47,7 +47,7 @@ hears_push : (ms : List Message) (m : Message) → map Hear (ms ++ m ∷ []) ≡
 hears_push [] m = refl
 hears_push (x ∷ ms) m = ap (λ l. Hear x ∷ l) (hears_push ms m)
 
-read_push : (t : Table) (ps : List Paper) (ms : List Message) (bytes : List ℕ) (m : Message) → AreRead t ps ms → packet_at t bytes ≡ Ok (Msg m) → AreRead t (ps ++ Some bytes ∷ []) (ms ++ m ∷ [])
+read_push : (t : Table) (ps : List LetterValue) (ms : List Message) (bytes : List ℕ) (m : Message) → AreRead t ps ms → packet_at t bytes ≡ Ok (Msg m) → AreRead t (ps ++ Some bytes ∷ []) (ms ++ m ∷ [])
 read_push t [] [] bytes m r e = (e, tt)
 read_push t [] (x ∷ ms) bytes m r e = absurd r
 read_push t (p ∷ ps) [] bytes m r e = absurd r
@@ -55,7 +55,7 @@ read_push t (None ∷ ps) (x ∷ ms) bytes m r e = absurd r
 read_push t (Some b ∷ ps) (x ∷ ms) bytes m r e = (r.0, read_push t ps ms bytes m r.1 e)
 
 -- ---- shipping
-pub ships_letter : (t : Table) (to : NodeId) (place : ℕ) (message : Message) (letter : Paper) (old new : List Call) (put now : List Paper) → CallAdded old new place (Ship to) (Ok (Shipped message)) → IsLetterOf t message letter → now ≡ put ++ letter ∷ [] → ShipsOne t to old new put now
+pub ships_letter : (t : Table) (to : NodeId) (place : ℕ) (message : Message) (letter : LetterValue) (old new : List Call) (put now : List LetterValue) → CallAdded old new place (Ship to) (Ok (Shipped message)) → IsLetterOf t message letter → now ≡ put ++ letter ∷ [] → ShipsOne t to old new put now
 ships_letter t to place message letter old new put now added l e = record {
   call = _;
   calls = added;
@@ -64,10 +64,10 @@ ships_letter t to place message letter old new put now added l e = record {
   sound = All-cons (ReadsBack t) message [] l.reads (All-nil (ReadsBack t));
 }
 
-pub ships_none : (t : Table) (to : NodeId) (old : List Call) (put : List Paper) → Ships t to 0 old old put put []
+pub ships_none : (t : Table) (to : NodeId) (old : List Call) (put : List LetterValue) → Ships t to 0 old old put put []
 ships_none t to old put = record { made = []; calls = sym (append-nil old); events = refl; letters = sym (append-nil (put ++ []) ∙ append-nil put); sound = λ k d front. absurd (omega (arith, front)) }
 
-pub ships_more : (t : Table) (to : NodeId) (n : ℕ) (old mid new : List Call) (put now after : List Paper) → Ships t to n old mid put now [] → ShipsOne t to mid new now after → Ships t to (n + 1) old new put after []
+pub ships_more : (t : Table) (to : NodeId) (n : ℕ) (old mid new : List Call) (put now after : List LetterValue) → Ships t to n old mid put now [] → ShipsOne t to mid new now after → Ships t to (n + 1) old new put after []
 ships_more t to n old mid new put now after s o =
     let made = s.made in let c = o.call in
     let k : n + 1 ≡ suc n = omega arith in
@@ -85,10 +85,10 @@ ships_more t to n old mid new put now after s o =
     }
 
 -- ---- hearing
-pub hears_none : (t : Table) (old : List Call) (taken : List Paper) → Hears t old old taken taken []
+pub hears_none : (t : Table) (old : List Call) (taken : List LetterValue) → Hears t old old taken taken []
 hears_none t old taken = record { made = []; papers = []; heard = []; calls = sym (append-nil old); events = refl; letters = sym (append-nil (taken ++ []) ∙ append-nil taken); reads = tt }
 
-pub hears_more : (t : Table) (old mid new : List Call) (taken now after : List Paper) (bytes : List ℕ) (m : Message) → Hears t old mid taken now [] → after ≡ now ++ Some bytes ∷ [] → packet_at t bytes ≡ Ok (Msg m) → HearsOne mid new m
+pub hears_more : (t : Table) (old mid new : List Call) (taken now after : List LetterValue) (bytes : List ℕ) (m : Message) → Hears t old mid taken now [] → after ≡ now ++ Some bytes ∷ [] → packet_at t bytes ≡ Ok (Msg m) → HearsOne mid new m
     → Hears t old new taken after []
 hears_more t old mid new taken now after bytes m s e r o =
     let made = s.made in let papers = s.papers in let c = o.call in

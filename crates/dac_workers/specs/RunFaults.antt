@@ -1,4 +1,4 @@
--- How a fault of a run is shown, and which faults come of a link.
+-- The numbers and names of a run's faults, and the faults of a link.
 use Rattle.std.specs.Prelude.{◌≡◌, ⊤, ℕ, List, codes}
 use Rattle.dac_base.specs.declared.NodeId.{NodeId}
 use Rattle.dac_sites.specs.declared.faults.LiveFault.{LiveFault}
@@ -28,15 +28,15 @@ name_of (Close node why) = codes "Close"
 name_of (NoPage node) = codes "NoPage"
 name_of NoMemory = codes "NoMemory"
 
--- ---- of a link
--- a call of a site made no record
+-- ---- faults of a link
+-- a call failed without a record
 abbrev pub IsUnrecorded : LiveFault → Type 0
 IsUnrecorded call.JournalFull = ⊤
 IsUnrecorded (call.Refused place why) = ⊥
 IsUnrecorded call.NoMemory = ⊤
 
--- The fault comes of a link between these two nodes, at its own one of them: the link is lost, its site made no record, or
--- memory was refused.
+-- A fault of the link between these two nodes, at its end `own`: the link is lost, a call of the site left no record,
+-- or an allocation failed.
 abbrev pub IsLinkFault : NodeId → NodeId → NodeId → RunFault → Type 0
 IsLinkFault from to own TooManyNodes = ⊥
 IsLinkFault from to own NoThread = ⊥

@@ -1,4 +1,4 @@
-//! What the records of two journals say of a link.
+//! Compares the two ends of a link, by the records of two journals.
 
 ghost use Rattle.std.specs.Prelude.{◌≡◌, ◌↔◌, map, IfOk, IsTrue};
 ghost use Rattle.std.specs.Option.{option_copied};
@@ -11,10 +11,10 @@ use dac_messages::{Event, Message, Reply};
 use dac_sites::Record;
 use std::alloc::Global;
 
-/// How often a shipper ships in a phase, with the last time that no thread runs.
+/// The ships of a shipper in a phase, with the one in the serial round after it.
 pub const SHIPS_OF_PHASE: u64 = SHIPS + 1;
 
-/// The message that this seat's record ships, if it is one.
+/// The message that this record ships, if it is a record of this seat.
 fn sent_one(one: &Record, seat: u16) -> Option<&Message>
     ensures { option_copied result ≡ sent_one seat one.now }
 {
@@ -27,7 +27,7 @@ fn sent_one(one: &Record, seat: u16) -> Option<&Message>
     }
 }
 
-/// What this seat's record asks, if it is one.
+/// The event of this record, if it is a record of this seat.
 pub fn event_of(one: &Record, seat: u16) -> Option<&Event>
     ensures { option_copied result ≡ event_one seat one.now }
 {
@@ -38,7 +38,6 @@ pub fn event_of(one: &Record, seat: u16) -> Option<&Event>
     }
 }
 
-/// Whether the event hears this message.
 fn is_heard(message: &Message, event: &Event) -> bool
     ensures { IsTrue result ↔ (event.now ≡ Event.Hear message.now) }
 {
@@ -48,7 +47,6 @@ fn is_heard(message: &Message, event: &Event) -> bool
     }
 }
 
-/// Whether the event ships to this node.
 fn is_ship(event: &Event, to: NodeId) -> bool
     ensures { IsTrue result ↔ (event.now ≡ Event.Ship to) }
 {
@@ -58,7 +56,7 @@ fn is_ship(event: &Event, to: NodeId) -> bool
     }
 }
 
-/// The messages that the records of this seat ship, in order.
+/// The messages that this seat's records ship, in order.
 pub fn sent_by(alloc: Global, records: &[Record], seat: u16) -> Result<Vec<&Message>, NoMemory>
     ensures { IfOk result (λ all. map (λ m. m.now) all.items ≡ found (sent_one seat) records.now) }
 {
@@ -73,7 +71,7 @@ pub fn sent_by(alloc: Global, records: &[Record], seat: u16) -> Result<Vec<&Mess
     Ok(all)
 }
 
-/// Whether all that the records of this seat ask is to ship to this node, so many times.
+/// Returns whether this seat's records are this many ships to this node, and nothing else.
 pub fn are_ships(wanted: u128, records: &[Record], seat: u16, to: NodeId) -> bool
     ensures { IsTrue result ↔ (found (event_one seat) records.now ≡ ships_to to wanted) }
 {
@@ -93,7 +91,7 @@ pub fn are_ships(wanted: u128, records: &[Record], seat: u16, to: NodeId) -> boo
     count as u128 == wanted
 }
 
-/// Whether all that the records of this seat ask is to hear these messages, in order and no others.
+/// Returns whether this seat's records hear these messages, in order, and nothing else.
 pub fn are_heard(sent: &[&Message], records: &[Record], seat: u16) -> bool
     ensures { IsTrue result
         ↔ (found (event_one seat) records.now ≡ map (λ m. Event.Hear m.now) sent.now) }

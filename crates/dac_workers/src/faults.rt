@@ -1,4 +1,4 @@
-//! Why sites are not run.
+//! Why a run of sites fails.
 
 ghost use Rattle.std.specs.Prelude.{◌≡◌};
 ghost use Rattle.dac_workers.specs.RunFaults.{number_of, name_of};
@@ -8,16 +8,16 @@ use dac_sites::{CloseFault, LiveFault, OpenFault};
 use std::alloc::AllocFailed;
 use thiserror::Error;
 
-/// Why sites are not run to the end. The number and the name of each cause are part of the program's output.
+/// Why a run of sites fails. The numbers and names of these faults are part of the program's output (docs/FORMATS.md).
 #[derive(Clone, Copy, Debug, PartialEq, Eq, Error)]
 pub enum RunFault {
-    /// There are more than four nodes.
+    /// The configuration has more than four nodes.
     #[error("more than four nodes")]
     TooManyNodes,
-    /// No thread could be made.
+    /// A thread couldn't be spawned.
     #[error("no thread")]
     NoThread,
-    /// A letter can't be encoded, sent or received, or isn't read as its message.
+    /// A letter can't be encoded, sent or received, or doesn't decode to its message, or the link's ends don't match.
     #[error("a link is lost")]
     LinkLost {
         /// The node that ships.
@@ -25,32 +25,32 @@ pub enum RunFault {
         /// The node that hears.
         to: NodeId,
     },
-    /// A site isn't opened.
+    /// A site couldn't be opened.
     #[error("a site is not opened")]
     Open(OpenFault),
-    /// A call of a site has neither a reply nor a refusal of its node.
+    /// A call of a site failed without a record.
     #[error("a call of a site is not recorded")]
     Site {
-        /// The node.
+        /// The node of the site.
         node: NodeId,
-        /// The cause.
+        /// The fault of the call.
         why: LiveFault,
     },
-    /// A site isn't closed well.
+    /// Closing a site failed, or its journal doesn't match the run.
     #[error("a site is not closed")]
     Close {
-        /// The node.
+        /// The node of the site.
         node: NodeId,
-        /// The cause.
+        /// The fault of the closing.
         why: CloseFault,
     },
-    /// There is no final page of a node, or it isn't that of the whole journal.
+    /// A node's journal or final page is missing or wrong, or a page read by a caller is wrong.
     #[error("no final page")]
     NoPage {
-        /// The node.
+        /// The node of the journal and the page.
         node: NodeId,
     },
-    /// Memory was refused.
+    /// An allocation failed.
     #[error("out of memory")]
     NoMemory,
 }
@@ -76,7 +76,7 @@ impl<T: Drop> From<AllocFailed<T>> for RunFault {
 }
 
 impl RunFault {
-    /// The number that stands for it in the program's output.
+    /// The fault's number in the program's output.
     pub fn number(self) -> u8
         ensures { result ≡ number_of self }
     {
@@ -92,7 +92,7 @@ impl RunFault {
         }
     }
 
-    /// Its name in the program's output.
+    /// The fault's name in the program's output.
     pub fn name(self) -> &'static str
         ensures { result.now ≡ name_of self }
     {

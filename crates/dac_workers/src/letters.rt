@@ -14,19 +14,19 @@ use dac_messages::Message;
 use dac_wire::{Packet, WireFault, WireFaultKind, decode, encode};
 use std::alloc::Global;
 
-/// A link as the thread at one of its ends knows it.
+/// A link, as seen by the thread at one of its ends.
 #[derive(Clone, Copy, Debug, PartialEq, Eq)]
 pub(crate) struct Ends {
     /// The node that ships.
     pub(crate) from: NodeId,
     /// The node that hears.
     pub(crate) to: NodeId,
-    /// The one of the two that the thread is at.
+    /// The node of that thread: `from` or `to`.
     pub(crate) own: NodeId,
 }
 
 impl Ends {
-    /// The link is lost.
+    /// The fault of a lost link.
     pub(crate) fn loss(self) -> RunFault
         ensures { IsLinkFault self.from self.to self.own result }
     {
@@ -36,7 +36,7 @@ impl Ends {
         }
     }
 
-    /// What a fault of bytes is to the link.
+    /// The run's fault for a fault of encoding or decoding.
     fn fault_of(self, fault: WireFault) -> RunFault
         ensures { IsLinkFault self.from self.to self.own result }
     {
@@ -47,7 +47,6 @@ impl Ends {
     }
 }
 
-/// Whether the two are one message.
 fn is_same(packet: &Packet, other: &Packet) -> bool
     ensures { result ≡ true → packet.now ≡ other.now }
 {
@@ -57,7 +56,7 @@ fn is_same(packet: &Packet, other: &Packet) -> bool
     }
 }
 
-/// The letter of a message: its bytes, which are read as that message.
+/// Encodes a message as a letter, and checks that the bytes decode to it.
 pub(crate) fn letter_of(
     alloc: Global,
     config: &Config,
@@ -82,7 +81,7 @@ pub(crate) fn letter_of(
     Ok(Letter::of(bytes))
 }
 
-/// The message that the bytes of a letter are read as.
+/// Decodes the bytes of a letter to a message.
 pub(crate) fn message_in(
     alloc: Global,
     config: &Config,

@@ -1,8 +1,11 @@
-//! The workers of the links between sites, and what the sites' journals say of a link.
+//! The two threads of a link between sites, and the comparison of a link with the journals at its ends.
 //!
-//! The bodies of a link's two threads stand in [`links`]. A shipper asks its site to ship, and puts the bytes of each
-//! message into the link. A link worker takes the bytes out, and has its site hear each message. [`fresh_page`] is what a caller
-//! reads behind its last receipt.
+//! [`links`] contains the bodies of the threads. A shipper calls its site to ship, and sends the bytes of each message
+//! through the link. A link worker receives them, and calls its own site to hear each message. With [`fresh_page`] a
+//! caller reads its own writes.
+//!
+//! Functions whose result can't carry `NoMemory` allocate nothing. A failed call keeps the effects that it had before
+//! the fault.
 #![tactic(auto)]
 
 pub use dac_sites::{

@@ -16,28 +16,29 @@ use dac_sites::{LiveFault, Seat, Site, SiteName};
 use std::alloc::Global;
 use std::sync::Wait;
 
-/// What stands round each hearing of a link's worker. The hearings of a link are counted from 1 over the run.
+/// A hook before and after each hear of a link worker, by which tests order threads. `k` counts the hears of a link
+/// from 1 over the whole run.
 pub trait Gate: Sync {
-    /// Before the hearing.
+    /// Called before hear `k` of the link.
     fn before(&self, from: NodeId, to: NodeId, k: u64);
 
-    /// After it.
+    /// Called after hear `k` of the link.
     fn after(&self, from: NodeId, to: NodeId, k: u64);
 }
 
-/// The same, where threads needn't share it.
+/// A [`Gate`] that threads needn't share.
 pub trait Watch {
-    /// Before the hearing.
+    /// Called before hear `k` of the link.
     fn before(&self, from: NodeId, to: NodeId, k: u64);
 
-    /// After it.
+    /// Called after hear `k` of the link.
     fn after(&self, from: NodeId, to: NodeId, k: u64);
 }
 
-/// A gate that stands round hearings.
+/// Watches with a borrowed gate.
 #[derive(Drop)]
 pub struct Gated<'a, G: Gate> {
-    /// The gate.
+    /// The gate, borrowed.
     pub gate: &'a G,
 }
 
@@ -51,10 +52,9 @@ impl<G: Gate> Watch for Gated<'_, G> {
     }
 }
 
-/// How often a shipper ships in a phase.
+/// The ships of a shipper in a phase, without the one in the serial round after it.
 pub const SHIPS: u64 = 4;
 
-/// Puts a letter.
 fn put<R: Wait>(rt: &R, ends: Ends, out: &mut LinkSender, letter: Letter) -> Result<(), RunFault>
     ensures link { sends_on out.new.end ≡ sends_on out.old.end }
     ensures ok { OnOk result ((view out.new.pass).put ≡ (view out.old.pass).put ++ letter ∷ []) }
@@ -66,8 +66,8 @@ fn put<R: Wait>(rt: &R, ends: Ends, out: &mut LinkSender, letter: Letter) -> Res
     }
 }
 
-/// One call that ships, and the letter of its reply. A refusal of the node is a record without a letter. The faults are those of
-/// [`ship_times`].
+/// One call that ships, and the letter of its message. A refusal of the node is recorded and sends no letter. Fails as
+/// [`ship_times`] does.
 pub fn ship_once<L: SiteName, R: Wait>(
     rt: &R,
     alloc: Global,
@@ -95,7 +95,7 @@ pub fn ship_once<L: SiteName, R: Wait>(
                 let letter = letter_of(alloc, config, ends, message)?;
                 put(rt, ends, out, letter)
             }
-            // A node answers no ship so.
+            // A node never replies to a ship with any other reply.
             _ => Err(ends.loss()),
         },
         Err(LiveFault::Refused { place: _, why: _ }) => Ok(()),
@@ -103,11 +103,11 @@ pub fn ship_once<L: SiteName, R: Wait>(
     }
 }
 
-/// So many calls that ship, with the letters of their replies in order, and then the end letter.
+/// Ships `times` times, sends the message of each reply in order, and then the end letter.
 ///
-/// `LinkLost` of these two nodes comes where a letter can't be encoded or sent, or isn't read as its message. `Site` of the node
-/// that ships comes where its journal is full or a call has no memory, and `NoMemory` where a letter has none. No other fault
-/// comes. What was called and put before it stays so.
+/// Fails with `LinkLost` of these two nodes if a letter can't be encoded or sent, or doesn't decode to its message;
+/// with `Site` of the node that ships if its journal is full or a call can't allocate; and with `NoMemory` if a letter
+/// can't be allocated. It has no other fault.
 pub fn ship_times<L: SiteName, R: Wait>(
     rt: &R,
     alloc: Global,
@@ -136,8 +136,7 @@ pub fn ship_times<L: SiteName, R: Wait>(
     put(rt, ends, out, Letter::end())
 }
 
-/// Four calls that ship, with the letters of their replies in order, and then the end letter. The faults are those of
-/// [`ship_times`].
+/// Ships four times, as [`ship_times`] does.
 pub fn ship_link<L: SiteName, R: Wait>(
     rt: &R,
     alloc: Global,
@@ -157,7 +156,7 @@ pub fn ship_link<L: SiteName, R: Wait>(
     ship_times(rt, alloc, config, from, to, site, seat, out, SHIPS)
 }
 
-/// One call that ships, with the letter of its reply, and then the end letter. The faults are those of [`ship_times`].
+/// Ships once, as [`ship_times`] does.
 pub fn ship_last<L: SiteName, R: Wait>(
     rt: &R,
     alloc: Global,
@@ -177,7 +176,7 @@ pub fn ship_last<L: SiteName, R: Wait>(
     ship_times(rt, alloc, config, from, to, site, seat, out, 1)
 }
 
-/// One call that hears a message. A refusal of the node is a record too.
+/// One call that hears a message. A refusal of the node is no fault: it is recorded.
 fn hear_once<L: SiteName, R: Wait>(
     rt: &R,
     ends: Ends,
@@ -199,11 +198,11 @@ fn hear_once<L: SiteName, R: Wait>(
     }
 }
 
-/// Hears the message of each letter, in order, until the end letter.
+/// Receives letters until the end letter, and hears the message of each, in order.
 ///
-/// `LinkLost` of these two nodes comes where no letter can be taken, or one isn't read as a message. `Site` of the node that hears
-/// comes where its journal is full or a call has no memory, and `NoMemory` where a message has none. No other fault comes. What
-/// was taken and heard before it stays so.
+/// Fails with `LinkLost` of these two nodes if no letter can be received, or if one doesn't decode to a message; with
+/// `Site` of the node that hears if its journal is full or a call can't allocate; and with `NoMemory` if a message
+/// can't be allocated. It has no other fault.
 pub fn hear_by<L: SiteName, H: Watch, R: Wait>(
     rt: &R,
     alloc: Global,
@@ -240,8 +239,7 @@ pub fn hear_by<L: SiteName, H: Watch, R: Wait>(
     unreachable!()
 }
 
-/// Hears the message of each letter, in order, until the end letter, round each hearing the gate. The faults are those of
-/// [`hear_by`].
+/// Hears as [`hear_by`] does, with a gate before and after each hear.
 pub fn hear_link<L: SiteName, G: Gate, R: Wait>(
     rt: &R,
     alloc: Global,

@@ -21,7 +21,7 @@ use tried_calls::values::{
     OfBuffer, OfConfig, OfContext, Written, buffers, configs, contexts, writing,
 };
 
-/// A call, by what it is made of.
+/// A call, by its fixture.
 #[derive(Clone, Copy, Debug, PartialEq, Eq)]
 pub enum Call {
     Config(OfConfig),
@@ -61,7 +61,7 @@ pub enum Call {
     Open(bool),
 }
 
-/// All calls, each with its name.
+/// All calls with their names.
 pub const CALLS: &[(&str, Call)] = &[
     ("read_config", Call::Config(OfConfig::Read)),
     (
@@ -275,7 +275,7 @@ fn try_state<T: Print>(rt: &T, alloc: Global, call: Call) -> Option<Came> {
     }
 }
 
-/// Tries a call of values that states are made of.
+/// Tries a call of the values in states.
 fn try_value<T: Print>(rt: &T, alloc: Global, call: Call) -> Option<Came> {
     match call {
         Call::Config(asked) => Some(try_call(rt, configs(alloc, asked))),
@@ -308,7 +308,7 @@ fn try_lattice<T: Print>(rt: &T, alloc: Global, call: Call) -> Option<Came> {
     }
 }
 
-/// Tries a call of the table.
+/// Tries any call of the table.
 pub fn try_listed<T: Print + Threads + Wait + Sync>(rt: &T, alloc: Global, call: Call) -> Came {
     match call {
         Call::Step(asked) => try_call(rt, step(alloc, asked)),

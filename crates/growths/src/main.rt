@@ -1,11 +1,12 @@
-//! Hostile use: each call that may answer that memory is refused, and forged states.
+//! Fault injection: every call that allocates, and forged states.
 //!
-//! Standard input says what is tried:
+//! Standard input selects what is tried:
 //!
-//! - `call NAME`, as `call Config::copy`: one call of the table;
-//! - `state` and the bytes of a state, which is borne as any other.
+//! - `call NAME`, such as `call Config::copy`: one call of the table;
+//! - `state` and the bytes of a state, which every call must accept.
 //!
-//! Without any all calls are made. A line for each says what came of it. `checks/growths` runs this program with growths refused.
+//! Without input all calls are made, and a line for each prints the outcome. `checks/growths` runs this program while
+//! allocations fail.
 #![tactic(auto)]
 
 mod calls;
@@ -24,7 +25,7 @@ use tried_calls::sample::{Does, ME, config, meaning};
 use tried_calls::trial::Came;
 use tried_states::is_borne;
 
-/// A word of the input, and what stands behind it.
+/// The first word of the input, and the rest.
 fn word(text: &[u8]) -> (&[u8], &[u8]) {
     for i in 0..text.len() {
         if text[i] == b' ' || text[i] == b'\n' {
@@ -34,7 +35,7 @@ fn word(text: &[u8]) -> (&[u8], &[u8]) {
     (text, &text[text.len()..])
 }
 
-/// Prints what came of a try, behind the word that says it.
+/// Prints the number of an outcome, after its word.
 fn tell<T: Print>(rt: &T, came: Came) {
     match came {
         Came::SetUp => println!(rt; ": set-up").ok(),
@@ -43,7 +44,7 @@ fn tell<T: Print>(rt: &T, came: Came) {
     };
 }
 
-/// Tries the call of a name, or all of them.
+/// Tries the call with this name, or all calls if it's empty.
 fn try_named<T: Print + Threads + Wait + Sync>(rt: &T, alloc: Global, name: &[u8]) {
     for i in 0..CALLS.len() {
         let (known, call) = CALLS[i];
@@ -54,7 +55,7 @@ fn try_named<T: Print + Threads + Wait + Sync>(rt: &T, alloc: Global, name: &[u8
     }
 }
 
-/// Whether the state of these bytes is borne. `None` where they spell none.
+/// Returns whether every call accepts the state of these bytes. `None` if they don't decode.
 fn is_state_borne(alloc: Global, bytes: &[u8]) -> Option<bool> {
     let config = config(alloc)?;
     let state = State::decode(alloc, &config, bytes).ok()?;

@@ -7,12 +7,12 @@ use dac_lattice::Lattice;
 use dac_messages::{Body, Event, Reply};
 use std::alloc::Global;
 use tried_calls::sample::{APP, Does, ME, OTHER, config, meaning, message, operation, origin};
-use tried_calls::trial::{Bench, Said};
+use tried_calls::trial::{Fixture, Said};
 
-/// The node that neither is asked nor tells much.
+/// A third node, which exchanges few messages.
 pub const THIRD: NodeId = NodeId(2);
 
-/// What happens at the node.
+/// An event at the node.
 #[derive(Clone, Copy, Debug, PartialEq, Eq)]
 pub enum Happens {
     Boot,
@@ -23,7 +23,7 @@ pub enum Happens {
     Down,
     Takeover,
     Tick,
-    /// A tick at a state that others have seen: it shares their waits.
+    /// A tick at a state that other ticks have seen, whose waits it shares.
     StillTick,
     ShipWhole,
     ShipInterval,
@@ -36,12 +36,11 @@ pub enum Happens {
     Crash,
 }
 
-/// The event of a command.
 fn command(command: Command) -> Option<Event> {
     Some(Event::Command(command))
 }
 
-/// The event.
+/// The event of this kind, unless it needs a message or an operation.
 fn event(alloc: Global, happens: Happens) -> Option<Event> {
     match happens {
         Happens::Boot => Some(Event::Boot { now: 0 }),
@@ -68,7 +67,7 @@ fn event(alloc: Global, happens: Happens) -> Option<Event> {
     }
 }
 
-/// The message or the operation that comes.
+/// The delivery of a message or an operation.
 fn what_comes(alloc: Global, happens: Happens) -> Option<Event> {
     match happens {
         Happens::HearWhole => {
@@ -84,16 +83,16 @@ fn what_comes(alloc: Global, happens: Happens) -> Option<Event> {
     }
 }
 
-/// Hands an operation of the other node.
+/// The delivery of an operation of the other node.
 fn hand(alloc: Global, does: Does) -> Option<Event> {
     Some(Event::HearOp(operation(alloc, OTHER, does)?))
 }
 
-/// What is to come last before it, if anything.
+/// The event that must precede this one directly, if any.
 fn before(alloc: Global, happens: Happens) -> Option<Option<Event>> {
     match happens {
         Happens::Takeover => Some(Some(hand(alloc, Does::Claim)?)),
-        // (it acknowledges the first of four deltas: for two of them no blocks would be joined)
+        // (It acknowledges the first of four deltas. With only two left, no blocks would be joined.)
         Happens::ShipInterval => Some(Some(Event::Hear(message(Body::Nothing, 1)))),
         Happens::ShipNothing => {
             let body = Body::Whole(meaning(alloc, OTHER, Does::Up)?);
@@ -103,8 +102,8 @@ fn before(alloc: Global, happens: Happens) -> Option<Option<Event>> {
     }
 }
 
-/// What is to come last before an interval is shipped again: both other nodes acknowledged the first delta alone, and to one
-/// of them the interval was shipped.
+/// The events before an interval is shipped again: both other nodes acknowledged only the first delta, and one of them
+/// was shipped the interval.
 fn push_shipped(alloc: Global, events: &mut Vec<Event>) -> Option<()> {
     let mut sent = message(Body::Nothing, 1);
     sent.from = origin(THIRD);
@@ -116,7 +115,7 @@ fn push_shipped(alloc: Global, events: &mut Vec<Event>) -> Option<()> {
     Some(())
 }
 
-/// What is to come last before a tick that makes a board: ticks, of which the first one claims.
+/// The ticks before one that makes a board. The first one claims.
 fn push_ticks(events: &mut Vec<Event>) -> Option<()> {
     for now in 0..8 {
         events.push(Event::Tick { now }).ok()?;
@@ -124,7 +123,7 @@ fn push_ticks(events: &mut Vec<Event>) -> Option<()> {
     Some(())
 }
 
-/// All that comes before it: the node boots and has its application started, and the other one too.
+/// All events before this one: the node boots and has its application started, and so does the other one.
 pub fn all_before(alloc: Global, happens: Happens) -> Option<Vec<Event>> {
     let mut events = Vec::new(alloc);
     if happens == Happens::Boot {
@@ -145,7 +144,7 @@ pub fn all_before(alloc: Global, happens: Happens) -> Option<Vec<Event>> {
     Some(events)
 }
 
-/// The event twice, since it may have to be asked again.
+/// The event twice, because the call may be repeated.
 pub fn twice(alloc: Global, happens: Happens) -> Option<Vec<Event>> {
     let mut events = Vec::new(alloc);
     events.push(event(alloc, happens)?).ok()?;
@@ -153,7 +152,7 @@ pub fn twice(alloc: Global, happens: Happens) -> Option<Vec<Event>> {
     Some(events)
 }
 
-/// What a body is told apart by.
+/// A number that identifies a body.
 fn number_of_body(body: &Body) -> u64 {
     match body {
         Body::Whole(_) => 1,
@@ -162,7 +161,7 @@ fn number_of_body(body: &Body) -> u64 {
     }
 }
 
-/// What a reply is told apart by.
+/// A number that identifies a reply.
 pub fn number_of(reply: &Reply) -> u64 {
     match reply {
         Reply::Booted(op) => op.dot().n.wrapping_mul(10).wrapping_add(1),
@@ -181,7 +180,7 @@ pub fn number_of(reply: &Reply) -> u64 {
     }
 }
 
-/// What an answer says.
+/// The outcome of a step.
 pub fn said(answer: &Result<Reply, Refusal>) -> Said {
     match answer {
         Ok(reply) => Said::Well(number_of(reply)),
@@ -190,7 +189,7 @@ pub fn said(answer: &Result<Reply, Refusal>) -> Said {
     }
 }
 
-/// Whether both run as the same incarnation and hold equal states.
+/// True if both run as the same incarnation with equal states.
 fn are_alike(one: &Node, other: &Node) -> bool {
     if one.origin() != other.origin() {
         return false;
@@ -202,16 +201,16 @@ fn are_alike(one: &Node, other: &Node) -> bool {
     }
 }
 
-/// A node before what happens, with a copy.
+/// A node before the event, with a copy.
 #[derive(Drop)]
-pub struct StepBench {
+pub struct StepFixture {
     config: Config,
     node: Node,
     kept: Node,
     events: Vec<Event>,
 }
 
-/// A node after these events, if it takes them all.
+/// A node after these events, if it accepts all.
 fn node_after(alloc: Global, config: &Config, events: Vec<Event>) -> Option<Node> {
     let mut node = Node::off(alloc, 0);
     for event in events {
@@ -220,13 +219,13 @@ fn node_after(alloc: Global, config: &Config, events: Vec<Event>) -> Option<Node
     Some(node)
 }
 
-/// The bench of a step.
-pub fn step(alloc: Global, happens: Happens) -> Option<StepBench> {
+/// The fixture of a step.
+pub fn step(alloc: Global, happens: Happens) -> Option<StepFixture> {
     let config = config(alloc)?;
     let node = node_after(alloc, &config, all_before(alloc, happens)?)?;
     let kept = node.copy().ok()?;
     let events = twice(alloc, happens)?;
-    Some(StepBench {
+    Some(StepFixture {
         config,
         node,
         kept,
@@ -234,7 +233,7 @@ pub fn step(alloc: Global, happens: Happens) -> Option<StepBench> {
     })
 }
 
-impl Bench for StepBench {
+impl Fixture for StepFixture {
     fn call(&mut self) -> Said {
         match self.events.pop() {
             Some(event) => said(&self.node.step(&self.config, ME, event)),
@@ -247,20 +246,20 @@ impl Bench for StepBench {
     }
 }
 
-/// The copy of a node.
+/// A node to copy.
 #[derive(Drop)]
-pub struct CopyBench {
+pub struct CopyFixture {
     node: Node,
 }
 
-/// The bench of a node's copy.
-pub fn node_copy(alloc: Global) -> Option<CopyBench> {
+/// The fixture of a node's copy.
+pub fn node_copy(alloc: Global) -> Option<CopyFixture> {
     let step = step(alloc, Happens::Tick)?;
-    let StepBench { node, .. } = step;
-    Some(CopyBench { node })
+    let StepFixture { node, .. } = step;
+    Some(CopyFixture { node })
 }
 
-impl Bench for CopyBench {
+impl Fixture for CopyFixture {
     fn call(&mut self) -> Said {
         match self.node.copy() {
             Ok(copied) => Said::Well(u64::from(are_alike(&self.node, &copied))),
@@ -273,16 +272,16 @@ impl Bench for CopyBench {
     }
 }
 
-/// A journal before what happens, and a node as its own.
+/// A journal before the event, with a copy of its node.
 #[derive(Drop)]
-pub struct AskBench {
+pub struct AskFixture {
     journal: Journal,
     kept: Node,
     events: Vec<Event>,
     records: usize,
 }
 
-/// Asks a journal, if it has room.
+/// Records an event in a journal, unless it's full.
 fn ask(journal: &mut Journal, event: Event) -> Said {
     if journal.is_full() {
         return Said::Other;
@@ -296,8 +295,8 @@ fn ask(journal: &mut Journal, event: Event) -> Said {
     }
 }
 
-/// The bench of a journal that is asked.
-pub fn journal(alloc: Global, happens: Happens) -> Option<AskBench> {
+/// The fixture of a journal.
+pub fn journal(alloc: Global, happens: Happens) -> Option<AskFixture> {
     let config = config(alloc)?;
     let mut journal = Journal::new(alloc, config, ME, 0);
     for event in all_before(alloc, happens)? {
@@ -308,7 +307,7 @@ pub fn journal(alloc: Global, happens: Happens) -> Option<AskBench> {
     let kept = journal.node().copy().ok()?;
     let records = journal.records().len();
     let events = twice(alloc, happens)?;
-    Some(AskBench {
+    Some(AskFixture {
         journal,
         kept,
         events,
@@ -316,7 +315,7 @@ pub fn journal(alloc: Global, happens: Happens) -> Option<AskBench> {
     })
 }
 
-impl Bench for AskBench {
+impl Fixture for AskFixture {
     fn call(&mut self) -> Said {
         match self.events.pop() {
             Some(event) => ask(&mut self.journal, event),

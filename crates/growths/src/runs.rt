@@ -1,4 +1,4 @@
-//! Scripts that are read, and a run of sites in threads.
+//! Reading scripts, and a run of sites in threads.
 use dac_base::NodeId;
 use dac_config::Config;
 use dac_live::{Ask, Gate, Line, Phase, are_runnable, run_live};
@@ -9,40 +9,40 @@ use std::io::Print;
 use std::sync::Wait;
 use std::thread::Threads;
 use tried_calls::sample::config;
-use tried_calls::trial::{Bench, Came, Said, ended};
+use tried_calls::trial::{Came, Fixture, Said, ended};
 
-/// A script of each verb.
+/// A script with each verb.
 const VERBS: &[u8] =
     b"boot c1@h 0\ncrash c1@h\ndown c1@h c2@h\npermit c1@h a c1@h true\nstart c1@h a c1@h\nstop c1@h a c1@h\ndrain c1@h c1@h true\ntakeover c1@h a\ntick c1@h 0\nship c1@h c2@h\nhear c2@h 1\nhand c2@h 1\nshare\npage c1@h\nstate c1@h\nsame c1@h c2@h\nbytes 1\nfeed 444143\n";
 
-/// A script of two callers in two phases.
+/// A live script of two callers in two phases.
 const CALLS: &[u8] = b"1 boot c1@h 0\n2 read c1@h\nphase\n1 drain c1@h c1@h true\n";
 
-/// What is read.
+/// The kind of script to read.
 #[derive(Clone, Copy, Debug, PartialEq, Eq)]
 pub enum OfScript {
     Script,
     LiveScript,
 }
 
-/// A configuration, by which scripts are read.
+/// The configuration of a script.
 #[derive(Drop)]
-pub struct ScriptBench {
+pub struct ScriptFixture {
     alloc: Global,
     asked: OfScript,
     config: Config,
 }
 
-/// The bench of a script that is read.
-pub fn scripts(alloc: Global, asked: OfScript) -> Option<ScriptBench> {
-    Some(ScriptBench {
+/// The fixture of a script's reader.
+pub fn scripts(alloc: Global, asked: OfScript) -> Option<ScriptFixture> {
+    Some(ScriptFixture {
         alloc,
         asked,
         config: config(alloc)?,
     })
 }
 
-/// What a script says that is read.
+/// The outcome of reading a script.
 fn of_script<S: Drop>(answer: Result<Vec<S>, Failure>) -> Said {
     match answer {
         Ok(lines) => Said::Well(lines.len() as u64),
@@ -51,7 +51,7 @@ fn of_script<S: Drop>(answer: Result<Vec<S>, Failure>) -> Said {
     }
 }
 
-impl Bench for ScriptBench {
+impl Fixture for ScriptFixture {
     fn call(&mut self) -> Said {
         match self.asked {
             OfScript::Script => of_script(read_script(self.alloc, &self.config, VERBS)),
@@ -64,7 +64,7 @@ impl Bench for ScriptBench {
     }
 }
 
-/// A gate that holds nobody.
+/// A gate that never delays a message.
 #[derive(Drop)]
 struct Open;
 
@@ -88,7 +88,8 @@ fn phases(alloc: Global) -> Option<Vec<Phase>> {
     Some(phases)
 }
 
-/// Runs the phases. The parts of a run fail under names of their own.
+/// Runs the phases. Any fault counts as a failed allocation, because the parts of a run report it under different
+/// names.
 fn run_phases<T: Threads + Wait + Sync>(
     rt: &T,
     alloc: Global,
@@ -104,7 +105,7 @@ fn run_phases<T: Threads + Wait + Sync>(
     }
 }
 
-/// Tries a run, which lends all that it is made of.
+/// Tries a run, which borrows its fixture.
 pub fn try_run<T: Print + Threads + Wait + Sync>(rt: &T, alloc: Global) -> Came {
     let Some(config) = config(alloc) else {
         return Came::SetUp;

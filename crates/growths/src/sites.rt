@@ -1,4 +1,4 @@
-//! Calls of a site, from its opening to its closing.
+//! Calls of a site, from opening to closing.
 ghost use Rattle.dac_sites.specs.Sites.{IsBlankOf};
 
 use crate::nodes::{Happens, all_before, number_of, twice};
@@ -13,9 +13,9 @@ use std::io::Print;
 use std::marker::Brand;
 use std::sync::Wait;
 use tried_calls::sample::{ME, config};
-use tried_calls::trial::{Bench, Came, Said, try_call};
+use tried_calls::trial::{Came, Fixture, Said, try_call};
 
-/// What a call of a site says.
+/// The outcome of a site's call.
 fn said<L: SiteName>(answer: &Result<Receipt<L>, LiveFault>) -> Said {
     match answer {
         Ok(receipt) => {
@@ -27,9 +27,9 @@ fn said<L: SiteName>(answer: &Result<Receipt<L>, LiveFault>) -> Said {
     }
 }
 
-/// A site with its seat and its reader, and how many calls and records there are.
+/// A site with its seat and reader, and its number of calls.
 #[derive(Drop)]
-struct SiteBench<'a, L: SiteName, R: Wait> {
+struct SiteFixture<'a, L: SiteName, R: Wait> {
     rt: &'a R,
     site: &'a Site<L>,
     seat: &'a mut Seat<L>,
@@ -46,7 +46,7 @@ fn page_of<L: SiteName>(reader: &mut PageReader<L>) -> Option<u64> {
     }
 }
 
-impl<L: SiteName, R: Wait> Bench for SiteBench<'_, L, R> {
+impl<L: SiteName, R: Wait> Fixture for SiteFixture<'_, L, R> {
     fn call(&mut self) -> Said {
         // The page before the call is that of the last record.
         if page_of(self.reader) != Some(self.calls as u64) {
@@ -63,7 +63,7 @@ impl<L: SiteName, R: Wait> Bench for SiteBench<'_, L, R> {
     }
 }
 
-/// Calls the site so that it is as before what happens, and then tries the call.
+/// Brings the site to the state before the event, and then tries the call.
 fn call_after<L: SiteName, R: Print + Wait>(
     rt: &R,
     alloc: Global,
@@ -77,7 +77,7 @@ fn call_after<L: SiteName, R: Print + Wait>(
     }
     let events = twice(alloc, happens)?;
     let calls = seat.calls().len();
-    let bench = SiteBench {
+    let fixture = SiteFixture {
         rt,
         site,
         seat,
@@ -85,10 +85,10 @@ fn call_after<L: SiteName, R: Print + Wait>(
         events,
         calls,
     };
-    Some(try_call(rt, Some(bench)))
+    Some(try_call(rt, Some(fixture)))
 }
 
-/// Opens a site, tries the call, and closes it. The journal then has a record for each call of the seat.
+/// Opens a site, tries the call, and closes it. The journal must have a record for each call of the seat.
 fn open_and_call<L: SiteName, R: Print + Wait>(
     rt: &R,
     alloc: Global,
@@ -126,18 +126,18 @@ pub fn site_call<R: Print + Wait>(rt: &R, alloc: Global, happens: Happens) -> Ca
     }
 }
 
-/// The opening of a site, of which its blank is a part.
+/// The opening of a site, or only its first half, `blank_site`.
 #[derive(Drop)]
-pub struct OpenBench<'a, R: Wait> {
+pub struct OpenFixture<'a, R: Wait> {
     rt: &'a R,
     alloc: Global,
     config: Config,
     opens: bool,
 }
 
-/// The bench of an opening, or of the blank alone.
-pub fn opening<'a, R: Wait>(rt: &'a R, alloc: Global, opens: bool) -> Option<OpenBench<'a, R>> {
-    Some(OpenBench {
+/// The fixture of opening a site, or of `blank_site` only.
+pub fn opening<'a, R: Wait>(rt: &'a R, alloc: Global, opens: bool) -> Option<OpenFixture<'a, R>> {
+    Some(OpenFixture {
         rt,
         alloc,
         config: config(alloc)?,
@@ -158,7 +158,7 @@ fn opens<L: SiteName, R: Wait>(rt: &R, blank: SiteBlank) -> Said
     }
 }
 
-impl<R: Wait> Bench for OpenBench<'_, R> {
+impl<R: Wait> Fixture for OpenFixture<'_, R> {
     fn call(&mut self) -> Said {
         match blank_site(self.rt, self.alloc, &self.config, ME, 0, 2, 2) {
             Ok(blank) if self.opens => opens::<Brand, R>(self.rt, blank),
@@ -166,7 +166,7 @@ impl<R: Wait> Bench for OpenBench<'_, R> {
                 blank.give_up(self.rt);
                 Said::Well(0)
             }
-            // The page structure's own refusal of a reader's place is that of memory too.
+            // The page structure's refusal of a reader counts as a failed allocation, too.
             Err(OpenFault::NoReader) | Err(OpenFault::NoMemory) => Said::NoMemory,
         }
     }

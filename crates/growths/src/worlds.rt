@@ -1,4 +1,4 @@
-//! Calls of worlds, and journals that are woven.
+//! Calls of worlds, and weaving of journals.
 use crate::nodes::{THIRD, number_of};
 use dac_base::NodeId;
 use dac_config::Config;
@@ -9,9 +9,9 @@ use dac_sites::replay;
 use dac_weave::{WeaveFault, weave};
 use std::alloc::Global;
 use tried_calls::sample::{APP, ME, OTHER, config};
-use tried_calls::trial::{Bench, Said};
+use tried_calls::trial::{Fixture, Said};
 
-/// What is asked of a world.
+/// A call of a world.
 #[derive(Clone, Copy, Debug, PartialEq, Eq)]
 pub enum OfWorld {
     New,
@@ -27,9 +27,9 @@ pub enum OfWorld {
     Pass,
 }
 
-/// A run of a world, and what comes after it.
+/// A world after some events, and the call to make.
 #[derive(Drop)]
-pub struct WorldBench {
+pub struct WorldFixture {
     alloc: Global,
     asked: OfWorld,
     config: Config,
@@ -42,7 +42,7 @@ const BOOT: What = What::Boot { now: 0 };
 
 const START: What = What::Command(Command::Start { app: APP, node: ME });
 
-/// What has happened.
+/// The events before most calls.
 const EVENTS: [(NodeId, What); 7] = [
     (ME, BOOT),
     (OTHER, BOOT),
@@ -62,7 +62,7 @@ fn events(alloc: Global) -> Option<Vec<WorldEvent>> {
     Some(events)
 }
 
-/// Who tells whom in a round.
+/// The pairs of a round.
 const PAIRS: [(NodeId, NodeId); 6] = [
     (ME, OTHER),
     (ME, THIRD),
@@ -72,10 +72,9 @@ const PAIRS: [(NodeId, NodeId); 6] = [
     (THIRD, OTHER),
 ];
 
-/// The nodes in their order.
 const NODES: [NodeId; 3] = [ME, OTHER, THIRD];
 
-/// A node ships to another one the message of this number, which that one hears.
+/// One node ships message `number` to another, which receives it.
 fn tell(events: &mut Vec<WorldEvent>, from: NodeId, to: NodeId, number: u64) -> Option<()> {
     let ship = What::Ship { to };
     events
@@ -94,7 +93,7 @@ fn tell(events: &mut Vec<WorldEvent>, from: NodeId, to: NodeId, number: u64) -> 
     Some(())
 }
 
-/// All nodes boot and tell each other, until the third acknowledged all deltas of the others.
+/// All nodes boot and run two rounds, so that the third acknowledges all deltas of the others.
 fn acknowledged(alloc: Global) -> Option<Vec<WorldEvent>> {
     let mut events = Vec::new(alloc);
     for node in NODES {
@@ -107,7 +106,7 @@ fn acknowledged(alloc: Global) -> Option<Vec<WorldEvent>> {
     Some(events)
 }
 
-/// The first node wishes for a start at a node, and tells the second by the message of this number.
+/// The first node starts the application at a node, and ships message `number` to the second.
 fn wish(events: &mut Vec<WorldEvent>, at: NodeId, number: u64) -> Option<()> {
     let start = Command::Start { app: APP, node: at };
     let what = What::Command(start);
@@ -115,9 +114,9 @@ fn wish(events: &mut Vec<WorldEvent>, at: NodeId, number: u64) -> Option<()> {
     tell(events, ME, OTHER, number)
 }
 
-/// What comes before equal intervals of two nodes. The first node wishes twice for a start. It tells the second each time, so
-/// that both have two deltas more, which join to the same. Then it ships the third their join. Before an interval for which
-/// joins of blocks are made, it wishes once more.
+/// The events before two nodes ship equal intervals. The first node commands a start twice and ships to the second each
+/// time, so that both have two more deltas with the same join. Then it ships that join to the third. Before an interval
+/// for which blocks are joined, it commands one more start.
 fn shipped_once(alloc: Global, asked: OfWorld) -> Option<Vec<WorldEvent>> {
     let mut events = acknowledged(alloc)?;
     wish(&mut events, ME, 13)?;
@@ -130,7 +129,7 @@ fn shipped_once(alloc: Global, asked: OfWorld) -> Option<Vec<WorldEvent>> {
     Some(events)
 }
 
-/// What has happened before what is asked.
+/// The events before the call.
 fn events_before(alloc: Global, asked: OfWorld) -> Option<Vec<WorldEvent>> {
     match asked {
         OfWorld::ShipInterval | OfWorld::ShipEqual => shipped_once(alloc, asked),
@@ -138,13 +137,13 @@ fn events_before(alloc: Global, asked: OfWorld) -> Option<Vec<WorldEvent>> {
     }
 }
 
-/// The bench of a call.
-pub fn worlds(alloc: Global, asked: OfWorld) -> Option<WorldBench> {
+/// The fixture of worlds.
+pub fn worlds(alloc: Global, asked: OfWorld) -> Option<WorldFixture> {
     let config = config(alloc)?;
     let events = events_before(alloc, asked)?;
     let (world, _) = World::run(alloc, &config, &events).ok()?;
     let counts = (world.operations().len(), world.messages().len());
-    Some(WorldBench {
+    Some(WorldFixture {
         alloc,
         asked,
         config,
@@ -154,7 +153,7 @@ pub fn worlds(alloc: Global, asked: OfWorld) -> Option<WorldBench> {
     })
 }
 
-/// What is asked of the world next.
+/// The event of the call.
 fn next(asked: OfWorld) -> WorldEvent {
     let (node, what) = match asked {
         OfWorld::Boot => (THIRD, BOOT),
@@ -174,7 +173,7 @@ fn next(asked: OfWorld) -> WorldEvent {
     WorldEvent { node, what }
 }
 
-/// What an answer says.
+/// The outcome of an event.
 fn said(answer: &Result<Reply, WorldFault>) -> Said {
     match answer {
         Ok(reply) => Said::Well(number_of(reply)),
@@ -183,7 +182,7 @@ fn said(answer: &Result<Reply, WorldFault>) -> Said {
     }
 }
 
-/// What the answers of a run say. Where one event was refused memory, the later ones may be refused for it.
+/// The outcome of a run: the first failure, because later events can fail as its consequence.
 fn all_said(answers: &[Result<Reply, WorldFault>]) -> Said {
     let mut sum = 0u64;
     for answer in answers {
@@ -195,7 +194,7 @@ fn all_said(answers: &[Result<Reply, WorldFault>]) -> Said {
     Said::Well(sum)
 }
 
-impl WorldBench {
+impl WorldFixture {
     /// Makes a world and runs it.
     fn run(&self) -> Said {
         match World::run(self.alloc, &self.config, &self.events) {
@@ -205,7 +204,7 @@ impl WorldBench {
     }
 }
 
-impl Bench for WorldBench {
+impl Fixture for WorldFixture {
     fn call(&mut self) -> Said {
         match self.asked {
             OfWorld::New => match World::new(self.alloc, &self.config) {
@@ -227,23 +226,23 @@ impl Bench for WorldBench {
     }
 }
 
-/// What is asked of closed journals.
+/// A call of closed journals.
 #[derive(Clone, Copy, Debug, PartialEq, Eq)]
 pub enum OfClosed {
     Weave,
     Replay,
 }
 
-/// The journals of two nodes, closed.
+/// The closed journals of two nodes.
 #[derive(Drop)]
-pub struct ClosedBench {
+pub struct ClosedFixture {
     alloc: Global,
     asked: OfClosed,
     config: Config,
     closed: Vec<Closed>,
 }
 
-/// Asks a journal, and gives the reply.
+/// Records an event in a journal and returns the reply.
 fn ask(journal: &mut Journal, event: Event) -> Option<Reply> {
     if journal.is_full() {
         return None;
@@ -253,7 +252,7 @@ fn ask(journal: &mut Journal, event: Event) -> Option<Reply> {
     answer.ok()
 }
 
-/// Two nodes of which the first tells the second of its start.
+/// The journals of two nodes, of which the first ships its start to the second.
 fn two_journals(alloc: Global, config: &Config) -> Option<Vec<Closed>> {
     let mut first = Journal::new(alloc, config.copy().ok()?, ME, 0);
     let mut second = Journal::new(alloc, config.copy().ok()?, OTHER, 0);
@@ -271,10 +270,10 @@ fn two_journals(alloc: Global, config: &Config) -> Option<Vec<Closed>> {
     Some(closed)
 }
 
-/// The bench of a call.
-pub fn journals(alloc: Global, asked: OfClosed) -> Option<ClosedBench> {
+/// The fixture of closed journals.
+pub fn journals(alloc: Global, asked: OfClosed) -> Option<ClosedFixture> {
     let config = config(alloc)?;
-    Some(ClosedBench {
+    Some(ClosedFixture {
         alloc,
         asked,
         closed: two_journals(alloc, &config)?,
@@ -282,8 +281,7 @@ pub fn journals(alloc: Global, asked: OfClosed) -> Option<ClosedBench> {
     })
 }
 
-impl ClosedBench {
-    /// Weaves them.
+impl ClosedFixture {
     fn weave_all(&self) -> Said {
         match weave(self.alloc, &self.config, &self.closed) {
             Ok(events) => Said::Well(events.len() as u64),
@@ -301,7 +299,7 @@ impl ClosedBench {
     }
 }
 
-impl Bench for ClosedBench {
+impl Fixture for ClosedFixture {
     fn call(&mut self) -> Said {
         if self.asked == OfClosed::Weave {
             return self.weave_all();

@@ -12,7 +12,7 @@ const A: NodeId = NodeId(0);
 
 const C: NodeId = NodeId(2);
 
-/// A claim of a node's first incarnation.
+/// A claim by a node's first incarnation.
 fn claim(node: u8, term: u64, how: How, from: Option<NodeId>) -> Claim {
     Claim {
         term,
@@ -22,7 +22,7 @@ fn claim(node: u8, term: u64, how: How, from: Option<NodeId>) -> Claim {
     }
 }
 
-/// The act of a claim.
+/// The claim as an act on `APP`.
 fn act(claim: Claim) -> ClaimAct {
     ClaimAct::Claim {
         app: APP,
@@ -32,24 +32,24 @@ fn act(claim: Claim) -> ClaimAct {
     }
 }
 
-/// What a claim means alone.
+/// The delta of a claim.
 fn claims_of(alloc: Global, claim: Claim) -> Result<Claims, NoMemory> {
     Claims::delta(alloc, dot(claim.origin.node.0, 2), &act(claim))
 }
 
-/// The greater of two claims, that of the second joined to that of the first.
+/// The claim that remains after the second is joined to the first.
 fn greater(alloc: Global, first: Claim, second: Claim) -> Result<Option<Claim>, NoMemory> {
     let both = claims_of(alloc, first)?.join(&claims_of(alloc, second)?)?;
     Ok(both.greatest(APP))
 }
 
-/// Whether the second claim wins, in either order.
+/// True if the second claim wins in either order.
 fn wins(alloc: Global, low: Claim, high: Claim) -> Result<bool, NoMemory> {
     let wanted = Some(high);
     Ok(greater(alloc, low, high)? == wanted && greater(alloc, high, low)? == wanted)
 }
 
-/// The node, the term, how and from whom of claims, each below the other.
+/// Node, term, cause and previous node of two claims, the losing one first.
 type Said = (u8, u64, How, Option<NodeId>);
 
 const CLAIMS: &[(Said, Said)] = &[
@@ -69,7 +69,7 @@ fn greater_claim_wins(rt: HostRuntime) {
     }
 }
 
-/// Whether claims of two applications are joined.
+/// True if claims of two applications are both in the join.
 fn claims_are_joined(alloc: Global, claim: Claim) -> Result<bool, NoMemory> {
     let first: Claims = join_deltas(alloc, &[(dot(0, 2), act(claim))])?;
     let both = first.join(&Claims::one(alloc, AppId(1), claim)?)?;
@@ -86,7 +86,7 @@ fn claims_of_two_applications(rt: HostRuntime) {
     );
 }
 
-/// What these acts of node 1 mean together.
+/// The join of these acts of node 1.
 fn lives_after(alloc: Global, acts: &[LifeAct]) -> Result<Lives, NoMemory> {
     let mut lives = Lives::bottom(alloc);
     for act in acts {
@@ -95,12 +95,12 @@ fn lives_after(alloc: Global, acts: &[LifeAct]) -> Result<Lives, NoMemory> {
     Ok(lives)
 }
 
-/// Whether the lives of the first two nodes are that the first is down and the second up.
+/// True if the first node is down and the second up.
 fn are_down_and_up(lives: &Lives) -> bool {
     lives.life(A) == Some((1, Flag::Down)) && lives.live(NodeId(1)) == Some(1)
 }
 
-/// Whether a down is above the life that it ends.
+/// True if a `Down` is above the life that it ends.
 fn is_ended(alloc: Global) -> Result<bool, NoMemory> {
     let up = Life {
         inc: 1,

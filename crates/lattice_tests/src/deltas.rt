@@ -1,4 +1,4 @@
-//! Buffers of deltas, and what was acknowledged.
+//! Delta logs, and acknowledgements.
 use crate::sample::origin;
 use crate::tokens::Token;
 use dac_base::NoMemory;
@@ -6,7 +6,7 @@ use dac_deltas::{Acks, Buffer, Entries};
 use dac_lattice::Max;
 use std::alloc::Global;
 
-/// Pushes a number, if there may be one more.
+/// Appends a number, if the log isn't at its limit.
 fn push(buffer: &mut Buffer<Max<u64>>, number: u64) -> Result<(), NoMemory> {
     if buffer.count() < 1 << 62 {
         buffer.push(Max::new(number))?;
@@ -14,7 +14,7 @@ fn push(buffer: &mut Buffer<Max<u64>>, number: u64) -> Result<(), NoMemory> {
     Ok(())
 }
 
-/// The numbers from 1 on that are below another, pushed in this order.
+/// A log of the numbers from 1 up to but without `end`.
 fn numbers_below(alloc: Global, end: u64) -> Result<Buffer<Max<u64>>, NoMemory> {
     let mut buffer = Buffer::new(alloc);
     for number in 1..end {
@@ -23,14 +23,14 @@ fn numbers_below(alloc: Global, end: u64) -> Result<Buffer<Max<u64>>, NoMemory> 
     Ok(buffer)
 }
 
-/// The numbers from 1 to 257, pushed in this order and trimmed.
+/// A copy of the log of 1 to 257, trimmed to `to`.
 fn trim_to(alloc: Global, to: u64) -> Result<Buffer<Max<u64>>, NoMemory> {
     let mut buffer = numbers_below(alloc, 258)?;
     buffer.trim(to);
     buffer.copy()
 }
 
-/// The greatest of the numbers from a delta on.
+/// The join of all but the first `from` deltas, which is their maximum.
 fn greatest(buffer: &Buffer<Max<u64>>, from: u64) -> Result<Option<u64>, NoMemory> {
     buffer.tells_invariant();
     if from > buffer.count() {
@@ -42,7 +42,7 @@ fn greatest(buffer: &Buffer<Max<u64>>, from: u64) -> Result<Option<u64>, NoMemor
     }
 }
 
-/// Whether the trimmed numbers begin there, and the greatest from a delta on is this.
+/// True if the trimmed log begins at `base` and has this maximum after the first `from` deltas.
 fn is_trimmed(
     alloc: Global,
     to: u64,
@@ -54,7 +54,7 @@ fn is_trimmed(
     Ok(buffer.base() == base && buffer.count() == 257 && greatest(&buffer, from)? == wanted)
 }
 
-/// Below which number deltas are trimmed, the least number then, and from which the greatest is wanted.
+/// Trim position, the log's first position then, start of an interval, and its maximum.
 const TRIMS: &[(u64, u64, u64, Option<u64>)] = &[
     (0, 1, 0, None),
     (0, 1, 1, Some(257)),
@@ -72,7 +72,7 @@ fn oldest_are_dropped_and_trimmed(rt: HostRuntime) {
     }
 }
 
-/// Pushes several numbers together, if there may be so many more.
+/// Appends several numbers in one call, if the log isn't at its limit.
 fn push_all(buffer: &mut Buffer<Max<u64>>, numbers: Vec<Max<u64>>) -> Result<(), NoMemory> {
     if buffer.count() < 1 << 61 && numbers.len() < 1 << 61 {
         buffer.push_all(numbers)?;
@@ -80,7 +80,7 @@ fn push_all(buffer: &mut Buffer<Max<u64>>, numbers: Vec<Max<u64>>) -> Result<(),
     Ok(())
 }
 
-/// The numbers from 1 to 255, and then three more that are pushed together.
+/// A log of 1 to 255, and then three numbers in one call.
 fn with_three(alloc: Global) -> Result<Buffer<Max<u64>>, NoMemory> {
     let mut buffer = numbers_below(alloc, 256)?;
     let three = vec![in alloc; Max::new(7), Max::new(1000), Max::new(8)]?;
@@ -88,8 +88,8 @@ fn with_three(alloc: Global) -> Result<Buffer<Max<u64>>, NoMemory> {
     Ok(buffer)
 }
 
-/// Whether the three come last and are counted, the first two numbers are dropped, and the greatest from a delta on is
-/// this.
+/// True if the three are counted, the first two numbers are dropped, and the maximum after the first `from` is
+/// `wanted`.
 fn has_three(alloc: Global, from: u64, wanted: u64) -> Result<bool, NoMemory> {
     let buffer = with_three(alloc)?;
     Ok(buffer.base() == 2 && buffer.count() == 258 && greatest(&buffer, from)? == Some(wanted))
@@ -101,8 +101,8 @@ fn several_are_pushed(rt: HostRuntime) {
     assert!(rt; has_three(rt.alloc(), 257, 8) == Ok(true));
 }
 
-/// The greatest of the numbers from 1 to 9 from a delta on, where another interval is remembered. Then the same once 100 is
-/// pushed.
+/// The maximum of the numbers 1 to 9 after the first `asked`, while the interval after the first `from` is remembered,
+/// and then with 100 appended.
 fn interval_beside(
     alloc: Global,
     from: u64,
@@ -126,7 +126,7 @@ fn interval_is_remembered_until_a_delta_comes(rt: HostRuntime) {
     assert!(rt; interval_beside(rt.alloc(), 3, 9) == Ok((Some(0), Some(100))));
 }
 
-/// Pushes a token, if there may be one more.
+/// Appends a token, if the log isn't at its limit.
 fn push_token(buffer: &mut Buffer<Token>) -> Result<(), NoMemory> {
     if buffer.count() < 1 << 62 {
         buffer.push(Token::new())?;
@@ -134,7 +134,7 @@ fn push_token(buffer: &mut Buffer<Token>) -> Result<(), NoMemory> {
     Ok(())
 }
 
-/// The buffer with so many tokens more.
+/// The log with `count` more tokens.
 fn with_tokens(mut buffer: Buffer<Token>, count: u64) -> Result<Buffer<Token>, NoMemory> {
     for _ in 0..count {
         push_token(&mut buffer)?;
@@ -142,7 +142,7 @@ fn with_tokens(mut buffer: Buffer<Token>, count: u64) -> Result<Buffer<Token>, N
     Ok(buffer)
 }
 
-/// By how many joins the interval from a delta on is made.
+/// The number of joins that the interval after the first `from` deltas takes.
 fn joins(buffer: &Buffer<Token>, from: u64) -> Result<Option<u64>, NoMemory> {
     buffer.tells_invariant();
     if from > buffer.count() {
@@ -154,7 +154,7 @@ fn joins(buffer: &Buffer<Token>, from: u64) -> Result<Option<u64>, NoMemory> {
     }
 }
 
-/// By how many joins the interval from a delta on is made, and by how many once one delta more came.
+/// The number of joins that the interval takes, and that after one more delta.
 fn joins_and_next(
     mut buffer: Buffer<Token>,
     from: u64,
@@ -164,7 +164,7 @@ fn joins_and_next(
     Ok((before, joins(&buffer, from)?))
 }
 
-/// Nine tokens in a lazy buffer, of which the interval from the fourth on is remembered.
+/// Nine tokens in a lazy log that remembers its interval after the first 3.
 fn remembering(alloc: Global) -> Result<Buffer<Token>, NoMemory> {
     let mut buffer = with_tokens(Buffer::lazy(alloc), 9)?;
     if 3 <= buffer.count() {
@@ -175,21 +175,19 @@ fn remembering(alloc: Global) -> Result<Buffer<Token>, NoMemory> {
     Ok(buffer)
 }
 
-/// By how many joins the interval from a delta on is made where that from the fourth on is remembered, and once one delta more
-/// came.
+/// The number of joins of an interval while that after the first 3 is remembered, and after one more delta.
 fn beside_remembered(alloc: Global, from: u64) -> Result<(Option<u64>, Option<u64>), NoMemory> {
     joins_and_next(remembering(alloc)?, from)
 }
 
-/// The interval that is remembered is no longer joined, but copied.
 #[test]
 fn remembered_interval_is_copied(rt: HostRuntime) {
     assert!(rt; beside_remembered(rt.alloc(), 3) == Ok((Some(0), Some(6))));
     assert!(rt; beside_remembered(rt.alloc(), 2) == Ok((Some(6), Some(7))));
 }
 
-/// How many tokens, and from which delta on the interval is asked for. Then by how many joins it is made, before and after one
-/// delta more: it joins just its blocks, since pushes made the joins of these.
+/// Number of tokens, start of an interval, and its joins before and after one more delta. Only blocks are joined,
+/// because pushes already joined their contents.
 const PUSHED: &[(u64, u64, u64, u64)] = &[(9, 0, 1, 1), (300, 45, 7, 8)];
 
 #[test]
@@ -206,8 +204,8 @@ fn pushes_make_the_joins_of_blocks(rt: HostRuntime) {
     }
 }
 
-/// How many tokens, and from which delta on a lazy buffer is asked for the interval. Then by how many joins it is made, before and
-/// after one delta more: it joins the deltas one by one.
+/// Number of tokens, start of an interval in a lazy log, and its joins before and after one more delta. Each delta is
+/// joined, because nothing was joined before.
 const LAZY: &[(u64, u64, u64, u64)] = &[(9, 0, 8, 9), (300, 45, 254, 255)];
 
 #[test]
@@ -224,8 +222,7 @@ fn lazy_buffers_make_no_joins_of_blocks(rt: HostRuntime) {
     }
 }
 
-/// By how many joins the interval from a delta on is made of so many tokens in a lazy buffer that was warmed, before and after
-/// one delta more.
+/// The joins of an interval in a lazy log that was warmed, and those after one more delta.
 fn warmed(alloc: Global, count: u64, from: u64) -> Result<(Option<u64>, Option<u64>), NoMemory> {
     let mut buffer = with_tokens(Buffer::lazy(alloc), count)?;
     buffer.warm()?;
@@ -243,8 +240,8 @@ fn pushes_make_joins_once_a_lazy_buffer_is_warm(rt: HostRuntime) {
     }
 }
 
-/// The greatest of nine numbers and two more from a delta on, after the oldest numbers were trimmed. A lazy buffer is warmed
-/// after the nine, or only once all numbers are there and the oldest are gone.
+/// The maximum of all but the first `from` of eleven numbers in a lazy log that is trimmed. The log is warmed after the
+/// ninth, or only after the trim.
 fn greatest_warmed(alloc: Global, to: u64, from: u64, late: bool) -> Result<Option<u64>, NoMemory> {
     let mut buffer = Buffer::lazy(alloc);
     for number in [5u64, 9, 2, 7, 1, 8, 3, 6, 4] {
@@ -260,7 +257,7 @@ fn greatest_warmed(alloc: Global, to: u64, from: u64, late: bool) -> Result<Opti
     greatest(&buffer, from)
 }
 
-/// Below which number deltas are trimmed, and from which the greatest is wanted.
+/// Trim position, start of an interval, and its maximum.
 const GREATEST: &[(u64, u64, Option<u64>)] = &[
     (0, 0, Some(9)),
     (0, 2, Some(8)),
@@ -280,7 +277,7 @@ fn joins_of_blocks_stay_as_deltas_come_and_go(rt: HostRuntime) {
     }
 }
 
-/// The blocks from a delta on.
+/// The blocks that make up the interval after the first `from` deltas.
 fn blocks(buffer: &Buffer<Max<u64>>, from: u64) -> Result<Option<Vec<(u64, u64)>>, NoMemory> {
     if from > buffer.count() {
         return Ok(None);
@@ -288,14 +285,14 @@ fn blocks(buffer: &Buffer<Max<u64>>, from: u64) -> Result<Option<Vec<(u64, u64)>
     buffer.blocks(from)
 }
 
-/// Whether these are the blocks from a delta on, of the numbers from 1 to 300.
+/// True if the log of 1 to 300 has these blocks.
 fn are_blocks(alloc: Global, from: u64, wanted: Option<&[(u64, u64)]>) -> Result<bool, NoMemory> {
     let buffer = numbers_below(alloc, 301)?;
     let found = blocks(&buffer, from)?;
     Ok(buffer.base() == 44 && found.as_deref() == wanted)
 }
 
-/// The blocks from the oldest delta that is kept.
+/// The blocks of the whole log.
 const FROM_THE_OLDEST: &[(u64, u64)] = &[
     (44, 48),
     (48, 64),
@@ -306,7 +303,7 @@ const FROM_THE_OLDEST: &[(u64, u64)] = &[
     (296, 300),
 ];
 
-/// A delta, and the blocks from it on.
+/// A start of an interval, and its blocks.
 const BLOCKS: &[(u64, Option<&[(u64, u64)]>)] = &[
     (43, None),
     (44, Some(FROM_THE_OLDEST)),
@@ -321,7 +318,7 @@ fn blocks_are_aligned(rt: HostRuntime) {
     }
 }
 
-/// What an origin acknowledged by two numbers.
+/// The acknowledgement of an origin after two numbers.
 fn acks_after(alloc: Global, first: u64, second: u64) -> Result<Option<u64>, NoMemory> {
     let mut acks = Acks::new(alloc);
     acks.raise(origin(0), first)?;
@@ -329,7 +326,7 @@ fn acks_after(alloc: Global, first: u64, second: u64) -> Result<Option<u64>, NoM
     Ok(acks.copy()?.get(origin(0)))
 }
 
-/// Two numbers, and which is kept: also those that don't fit in four bytes.
+/// Two acknowledgements and the greater one, also beyond four bytes.
 const ACKS: &[(u64, u64, u64)] = &[
     (3, 2, 3),
     (3, 4_294_967_296, 4_294_967_296),
@@ -345,7 +342,7 @@ fn greatest_acknowledged_stays(rt: HostRuntime) {
     }
 }
 
-/// What three keys have once two of them were put, the greater first, and that one again.
+/// The values of three keys after one was put, then a lesser one, then the first again.
 fn put_twice(alloc: Global) -> Result<[Option<u64>; 3], NoMemory> {
     let mut entries: Entries<u64, u64> = Entries::new(alloc);
     entries.put(2, 20)?;

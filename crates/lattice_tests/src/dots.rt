@@ -5,12 +5,12 @@ use dac_dots::{Context, FilteredContext, Further};
 use dac_origins::keys::{MapKey, holds_key, insert_key, remove_key};
 use std::alloc::Global;
 
-/// Whether the next dot of node 0 has this counter, and the context is a vector or not.
+/// True if node 0's next dot has this counter, and the context is a version vector or not.
 fn goes_on(context: &Context, next: u64, is_vector: bool) -> bool {
     context.next(origin(0)) == Some(dot(0, next)) && context.is_vector() == is_vector
 }
 
-/// Whether the context is the one row of node 0 with these counters.
+/// True if the context is one row of node 0 with these counters.
 fn is_row(alloc: Global, context: &Context, upto: u64, further: &[u64]) -> Result<bool, NoMemory> {
     let Some(row) = context.row(0) else {
         return Ok(false);
@@ -19,7 +19,7 @@ fn is_row(alloc: Global, context: &Context, upto: u64, further: &[u64]) -> Resul
     Ok(is_own && are_listed_as(alloc, &row.2, further)?)
 }
 
-/// Whether each of these counters is at its place, and none behind them.
+/// True if exactly these counters are at their places.
 fn are_at_their_places(further: &Further<'_>, counters: &[u64]) -> bool {
     for place in 0..counters.len() {
         if further.get(place) != Some(counters[place]) {
@@ -29,7 +29,7 @@ fn are_at_their_places(further: &Further<'_>, counters: &[u64]) -> bool {
     further.get(counters.len()).is_none()
 }
 
-/// Whether a walk passes these counters, and then ends.
+/// True if the iterator returns exactly these counters.
 fn are_walked_as(further: &Further<'_>, counters: &[u64]) -> bool {
     let mut walk = further.iter();
     for counter in counters {
@@ -40,7 +40,7 @@ fn are_walked_as(further: &Further<'_>, counters: &[u64]) -> bool {
     walk.next().is_none()
 }
 
-/// Whether these are the further counters of a row.
+/// True if the row's cloud has exactly these counters.
 fn are_listed_as(alloc: Global, further: &Further<'_>, counters: &[u64]) -> Result<bool, NoMemory> {
     let has_length = further.len() == counters.len() as u128;
     let says_empty = further.is_empty() == counters.is_empty();
@@ -48,7 +48,7 @@ fn are_listed_as(alloc: Global, further: &Further<'_>, counters: &[u64]) -> Resu
     Ok(has_length && says_empty && has_each && further.list(alloc)?.as_slice() == counters)
 }
 
-/// Whether a context that these counters were put into goes on so, and has this one row.
+/// True if inserting these counters gives this next dot and row.
 fn is_kept(
     alloc: Global,
     counters: &[u64],
@@ -61,7 +61,7 @@ fn is_kept(
     Ok(goes_on(&context, next, is_vector) && is_row(alloc, &context, upto, further)?)
 }
 
-/// Counters of dots of node 0; the counter that comes next, whether they are a vector, and their row.
+/// Counters inserted for node 0; the next counter, whether they form a version vector, and their row.
 const COUNTERS: &[(&[u64], u64, bool, u64, &[u64])] = &[
     (&[1, 2, 4], 5, false, 2, &[4]),
     (&[1, 2, 4, 3], 5, true, 4, &[]),
@@ -76,13 +76,13 @@ fn a_gap_is_closed(rt: HostRuntime) {
     }
 }
 
-/// Whether the context and its union with itself have the same dots.
+/// True if the context's union with itself has the same dots.
 fn is_its_union(context: &Context) -> Result<bool, NoMemory> {
     let both = context.union(context)?;
     Ok(both.is_subset(context) && context.copy()?.is_subset(&both))
 }
 
-/// Whether a context of four dots has them in order, and is its union with itself.
+/// True if a context of four dots returns them in order.
 fn has_its_dots(alloc: Global) -> Result<bool, NoMemory> {
     let context = context_of(alloc, &[1, 2, 4, 3])?;
     let dots = [dot(0, 1), dot(0, 2), dot(0, 3), dot(0, 4)];
@@ -98,13 +98,13 @@ fn dots_of_a_vector(rt: HostRuntime) {
     assert!(rt; matches!(has_its_dots(rt.alloc()), Ok(true)));
 }
 
-/// Whether a context that is asked about so many dots has the fourth dot of node 0, and not the third.
+/// True if a filter for `asked` questions contains the fourth dot of node 0, and not the third.
 fn tells_its_dots(context: &Context, asked: usize) -> bool {
     let filtered = FilteredContext::of(context, asked);
     filtered.contains(dot(0, 4)) && !filtered.contains(dot(0, 3)) && filtered.context().len() == 3
 }
 
-/// Whether that is so of a context of three dots, with marks and without.
+/// True if filters with and without marks agree with a context of three dots.
 fn tells_with_marks(alloc: Global) -> Result<bool, NoMemory> {
     let context = context_of(alloc, &[1, 2, 4])?;
     Ok(tells_its_dots(&context, 100) && tells_its_dots(&context, 1))
@@ -115,7 +115,7 @@ fn dots_are_told_by_marks(rt: HostRuntime) {
     assert!(rt; matches!(tells_with_marks(rt.alloc()), Ok(true)));
 }
 
-/// The counters up to 40 that leave this rest when they are halved: twenty of them, no two of which are neighbours.
+/// Twenty counters up to 40, each second one.
 fn every_second(alloc: Global, rest: u64) -> Result<Context, NoMemory> {
     let mut context = Context::empty(alloc);
     for n in 1..41u64 {
@@ -126,7 +126,7 @@ fn every_second(alloc: Global, rest: u64) -> Result<Context, NoMemory> {
     Ok(context)
 }
 
-/// Whether two contexts of many gaps, each of which fills those of the other, unite to one row without a gap.
+/// True if two contexts that fill each other's gaps unite to one row without a gap.
 fn are_closed_by_each_other(alloc: Global) -> Result<bool, NoMemory> {
     let odd = every_second(alloc, 1)?;
     let even = every_second(alloc, 0)?;
@@ -140,7 +140,7 @@ fn gaps_of_many_runs_are_closed(rt: HostRuntime) {
     assert!(rt; matches!(are_closed_by_each_other(rt.alloc()), Ok(true)));
 }
 
-/// How many dots a context of one row has, if the row is taken.
+/// The number of dots in a context of one row, if the row is accepted.
 fn len_after_push(alloc: Global, upto: u64, further: &[u64]) -> Result<Option<u128>, NoMemory> {
     let mut context = Context::empty(alloc);
     if !context.push_row(origin(0), upto, further)? {
@@ -156,7 +156,7 @@ fn rows_are_appended(rt: HostRuntime) {
     assert!(rt; len_after_push(rt.alloc(), 1, &[2]) == Ok(None));
 }
 
-/// Whether two keys are listed, the greater one first, and found, and the lower one is taken out again.
+/// True if two keys are listed in order, found, and one is removed.
 fn are_listed<K: MapKey>(alloc: Global, low: K, high: K) -> Result<bool, NoMemory> {
     let mut keys = Vec::new(alloc);
     insert_key(&mut keys, high)?;

@@ -1,4 +1,4 @@
-//! The greatest value, flags, pairs and maps.
+//! Maxima, flags, pairs and maps.
 use crate::sample::{is_join, is_joined_above};
 use dac_base::{AppId, NoMemory};
 use dac_lattice::{Flag, Lattice, MapOf, Max, Pair};
@@ -10,17 +10,17 @@ const B: AppId = AppId(1);
 
 type Greatest = MapOf<AppId, Max<u64>>;
 
-/// The map of one value.
+/// A map of one value.
 fn one(alloc: Global, key: AppId, value: u64) -> Result<Greatest, NoMemory> {
     MapOf::one(alloc, key, Max::new(value))
 }
 
-/// The map of 3 at the first key and 2 at the second.
+/// A map of 3 at the first key and 2 at the second.
 fn both(alloc: Global) -> Result<Greatest, NoMemory> {
     one(alloc, A, 3)?.join(&one(alloc, B, 2)?)
 }
 
-/// Whether a map has this value at a key.
+/// True if the map has this value at this key.
 fn has(map: &Greatest, key: AppId, value: u64) -> bool {
     match map.get(key) {
         Some(greatest) => greatest.value == value,
@@ -28,7 +28,7 @@ fn has(map: &Greatest, key: AppId, value: u64) -> bool {
     }
 }
 
-/// Whether the map of both is what is joined of it and of a map with a lesser value.
+/// True if the join of two maps keeps the greater value of each key.
 fn maps_are_joined(alloc: Global) -> Result<bool, NoMemory> {
     let both = both(alloc)?;
     let is_above = is_joined_above(alloc, &one(alloc, A, 1)?, &both)?;
@@ -44,7 +44,7 @@ fn pair(first: u64, second: u64) -> Pair<Max<u64>, Max<u64>> {
     Pair::new(Max::new(first), Max::new(second))
 }
 
-/// Whether neither of two values is below the other, and this is their join, through the bound.
+/// True if two values are incomparable and this is their join, called through the bound.
 fn are_apart<L: Lattice>(one: &L, other: &L, joined: &L) -> Result<bool, NoMemory> {
     Ok(!one.leq(other) && !other.leq(one) && is_join(one, other, joined)?)
 }

@@ -1,4 +1,4 @@
-//! The laws, which are contracts of functions that do nothing.
+//! The laws, which are contracts of empty functions.
 use dac_chains::Lives;
 use dac_deltas::laws::{acks_are_greatest, buffers_keep_logs};
 use dac_lattice::Max;

@@ -1,11 +1,10 @@
-//! Tests of the lattices and of what stands on them: contexts of dots, stores, deltas, chains, wishes and operations.
+//! Tests of the lattices and the crates directly above: contexts, stores, delta logs, chains, wishes and operations.
 //!
-//! The crates below are proved. So here stand the vectors of the formats, and each public call once with ample
-//! memory. Each generic call stands at a concrete type through its bound. Nothing stands here that a contract says
-//! wholly.
+//! These crates are proved, so the tests cover what contracts can't: the test vectors of the formats, and each public
+//! call once with enough memory, generic ones at a concrete type through their bound.
 //!
-//! Each test is proved too, at a cost that grows with the calls and the values of one body. So a test asserts what a small
-//! function answers, for each row of a table where there are several.
+//! The tests are proved too, at a cost that grows with the calls and values of one body. Therefore a test asserts the
+//! result of a small function, often for each row of a table.
 #![tactic(auto)]
 
 #[cfg(test)]

@@ -1,4 +1,4 @@
-//! Operations: which are refused, and what is seen of them.
+//! Operations: refusals, and the parts that each piece uses.
 use crate::sample::dot;
 use dac_base::{AppId, NoMemory, NodeId};
 use dac_chains::{ClaimAct, How, LifeAct};
@@ -13,7 +13,7 @@ const KEY: Key = Key {
     inc: 1,
 };
 
-/// An act but for the dots that it replaces.
+/// An act without the dots that it replaces.
 #[derive(Clone, Copy)]
 enum Kind {
     Up,
@@ -65,7 +65,7 @@ fn act(kind: Kind, over: DotList) -> Act {
     }
 }
 
-/// The operation of a dot of node 0 and of an act that replaces these dots.
+/// The operation of node 0 with this counter and act.
 fn operation(
     alloc: Global,
     n: u64,
@@ -76,7 +76,7 @@ fn operation(
     Ok(Op::new(dot(0, n), act(kind, over)))
 }
 
-/// Whether this is why a dot of node 0 and an act make no operation, or they make one.
+/// True if building this operation of node 0 fails with `fault`, or succeeds if it's `None`.
 fn is_fault(
     alloc: Global,
     n: u64,
@@ -87,7 +87,7 @@ fn is_fault(
     Ok(operation(alloc, n, kind, over)?.err() == fault)
 }
 
-/// Operations of node 0 by counter and kind, the dots that they replace, and why they are none.
+/// Counter, kind and replaced dots of an operation of node 0, and its fault.
 const FAULTS: &[(&str, u64, Kind, &[(u8, u64)], Option<OpFault>)] = &[
     ("own", 2, Kind::Start, &[(0, 2)], Some(OpFault::OwnDot)),
     (
@@ -146,8 +146,7 @@ fn first_fault_is_told(rt: HostRuntime) {
     }
 }
 
-/// Drains by counter and by the node that is drained, the dots that they replace, and why they are none. A node may drain
-/// itself.
+/// Counter, node and replaced dots of a drain by node 0, which can drain itself, and its fault.
 const DRAINS: &[(&str, u64, u8, &[(u8, u64)], Option<OpFault>)] = &[
     ("own", 2, 1, &[(0, 2)], Some(OpFault::OwnDot)),
     (
@@ -180,7 +179,7 @@ fn first_fault_of_a_drain_is_told(rt: HostRuntime) {
     }
 }
 
-/// Whether an operation of a kind that replaces so many dots has this fault.
+/// True if an operation that replaces `count` dots has this fault.
 fn is_fault_of_many(
     alloc: Global,
     kind: Kind,
@@ -194,7 +193,7 @@ fn is_fault_of_many(
     is_fault(alloc, 2, kind, &over, fault)
 }
 
-/// Kinds, how many dots each replaces, and the fault.
+/// Kind, number of replaced dots, and fault.
 const MANY: &[(Kind, u64, Option<OpFault>)] = &[
     (Kind::Stop, 1_024, None),
     (Kind::Stop, 1_025, Some(OpFault::BadOver)),
@@ -210,7 +209,7 @@ fn most_replaced(rt: HostRuntime) {
     }
 }
 
-/// Whether wishes, permissions and drains see the dots that the act says.
+/// True if the wish, permit and drain acts replace exactly these dots.
 fn is_over(alloc: Global, op: &Op, over: &[Dot]) -> Result<bool, NoMemory> {
     Ok(
         op.act().over() == over
@@ -220,7 +219,7 @@ fn is_over(alloc: Global, op: &Op, over: &[Dot]) -> Result<bool, NoMemory> {
     )
 }
 
-/// Whether the copy of an operation that replaces one dot is seen to replace it.
+/// True if the copy of an operation still replaces its dot.
 fn is_seen_to_replace(alloc: Global, kind: Kind) -> Result<bool, NoMemory> {
     match operation(alloc, 2, kind, &[(1, 1)])? {
         Ok(op) => is_over(alloc, &op.copy()?, &[dot(1, 1)]),
@@ -235,7 +234,7 @@ fn replaced_dots_are_seen(rt: HostRuntime) {
     }
 }
 
-/// Whether this is what lives and claims see of an operation of node 0.
+/// True if an operation of node 0 has these acts on lives and claims.
 fn is_seen(
     alloc: Global,
     n: u64,
@@ -249,13 +248,15 @@ fn is_seen(
     }
 }
 
-/// Whether lives and claims see this of an operation.
+/// True if an operation has these acts on lives and claims.
 fn sees(op: &Op, life: LifeAct, claim: ClaimAct) -> bool {
     op.tells_invariant();
-    op.life_act() == life && op.claim_act() == claim && op.act().says_up() == (life == LifeAct::Up)
+    op.life_act() == life
+        && op.claim_act() == claim
+        && op.act().reports_up() == (life == LifeAct::Up)
 }
 
-/// Operations by counter and kind, and what lives and claims see of them.
+/// Counter and kind of an operation, and its acts on lives and claims.
 const SEEN: &[(u64, Kind, LifeAct, ClaimAct)] = &[
     (1, Kind::Up, LifeAct::Up, ClaimAct::Other),
     (

@@ -1,11 +1,11 @@
-//! Dots that the tests share, and what is asked of every lattice.
+//! Dots that the tests share, and checks of any lattice.
 use dac_base::{NoMemory, NodeId};
 use dac_dots::Context;
 use dac_lattice::{Bottom, Lattice};
 use dac_origins::{Dot, Origin};
 use std::alloc::Global;
 
-/// The first incarnation of a node.
+/// A node's first incarnation.
 pub fn origin(node: u8) -> Origin {
     Origin {
         node: NodeId(node),
@@ -21,7 +21,7 @@ pub fn dot(node: u8, n: u64) -> Dot {
     }
 }
 
-/// A context that has these dots of node 0, put into it in this order.
+/// The context of these dots of node 0, inserted in this order.
 pub fn context_of(alloc: Global, counters: &[u64]) -> Result<Context, NoMemory> {
     let mut context = Context::empty(alloc);
     for n in counters {
@@ -30,12 +30,12 @@ pub fn context_of(alloc: Global, counters: &[u64]) -> Result<Context, NoMemory> 
     Ok(context)
 }
 
-/// Whether the order agrees with the join, and both with the least value and the copy, through the bound.
+/// True if order, join, least value and copy agree, called through the bound.
 pub fn is_joined_above<L: Bottom>(alloc: Global, low: &L, high: &L) -> Result<bool, NoMemory> {
     Ok(low.leq(high) && is_join(low, high, high)? && is_join(&L::bottom(alloc), low, low)?)
 }
 
-/// Whether a copy of the third value is the join of the first two, through the bound.
+/// True if the third value is the join of the others, called through the bound.
 pub fn is_join<L: Lattice>(one: &L, other: &L, joined: &L) -> Result<bool, NoMemory> {
     one.tells_invariant();
     Ok(one.join(other)?.equal(&joined.copy()?))

@@ -6,18 +6,18 @@ use dac_lattice::{Flag, Lattice};
 use dac_store::{Causal, DotFun, DotMap, DotSet, DotStore};
 use std::alloc::Global;
 
-/// A set of one dot beside the dots that were heard.
+/// A set of one dot, paired with a context of these counters.
 fn one(alloc: Global, n: u64, counters: &[u64]) -> Option<Causal<DotSet>> {
     let set = DotSet::one(alloc, dot(0, n)).ok()?;
     Causal::new(set, context_of(alloc, counters).ok()?).ok()
 }
 
-/// Whether a set has the second dot alone, beside two dots that were heard.
+/// True if only the second dot is left, with a context of two dots.
 fn is_second(causal: &Causal<DotSet>) -> bool {
     causal.store().dots() == [dot(0, 2)].as_slice() && causal.context().len() == 2
 }
 
-/// Whether the second dot alone is left of the first one and the second, and of that and the first one again.
+/// True if joining both sides, and the first again, leaves only the second dot.
 fn is_left(
     alloc: Global,
     first: &Causal<DotSet>,
@@ -28,7 +28,7 @@ fn is_left(
     Ok(is_second(&joined) && is_second(&again) && is_joined_above(alloc, first, &again)?)
 }
 
-/// Whether that is so of the first dot and the second, where the second side heard of both.
+/// True if a dot goes that the other side has heard and dropped.
 fn is_second_left(alloc: Global) -> Option<bool> {
     let first = one(alloc, 1, &[1])?;
     let second = one(alloc, 2, &[1, 2])?;
@@ -40,7 +40,7 @@ fn a_dot_heard_and_dropped_goes(rt: HostRuntime) {
     assert!(rt; is_second_left(rt.alloc()) == Some(true));
 }
 
-/// Whether a store is handed back since its context hasn't its dot.
+/// True if a store whose dot its context lacks is returned.
 fn is_refused(alloc: Global) -> Option<bool> {
     let set = DotSet::one(alloc, dot(0, 2)).ok()?;
     match Causal::new(set, Context::empty(alloc)) {
@@ -54,15 +54,14 @@ fn a_dot_outside_the_context_is_handed_back(rt: HostRuntime) {
     assert!(rt; is_refused(rt.alloc()) == Some(true));
 }
 
-/// Whether nothing is left of a store where the other side has heard of its dots and dropped them, through
-/// the bound.
+/// True if a store becomes empty because the other side has heard and dropped its dots, called through the bound.
 fn is_cleared<S: DotStore>(alloc: Global, store: &S, context: &Context) -> Result<bool, NoMemory> {
     store.tells_invariant();
     let left = store.join_in(context, &S::empty(alloc), context)?;
     Ok(left.is_empty() && store.leq_in(context, &left, context) && left.within(context))
 }
 
-/// Whether a store of the first dot keeps it where the other side hasn't heard of it, through the bound.
+/// True if a store keeps its dot because the other side hasn't heard it, called through the bound.
 fn is_kept<S: DotStore>(alloc: Global, store: &S, context: &Context) -> Result<bool, NoMemory> {
     let unheard = Context::empty(alloc);
     let nothing = S::empty(store.allocator());
@@ -70,23 +69,22 @@ fn is_kept<S: DotStore>(alloc: Global, store: &S, context: &Context) -> Result<b
     Ok(kept.has(dot(0, 1)) && kept.is_same(store) && !nothing.is_same(store))
 }
 
-/// Whether a store of the first dot is kept and cleared.
 fn is_kept_and_cleared<S: DotStore>(alloc: Global, store: &S) -> Result<bool, NoMemory> {
     let context = context_of(alloc, &[1])?;
     Ok(is_kept(alloc, store, &context)? && is_cleared(alloc, store, &context)?)
 }
 
-/// The first dot, denied.
+/// The first dot, with `Flag::Down`.
 fn first_denied(alloc: Global) -> Result<DotFun<Flag>, NoMemory> {
     DotFun::one(alloc, dot(0, 1), Flag::Down)
 }
 
-/// The first dot, denied, at a key.
+/// The first dot, with `Flag::Down`, at a key.
 fn denied_at(alloc: Global, key: u64) -> Result<DotMap<u64, DotFun<Flag>>, NoMemory> {
     DotMap::one(alloc, key, first_denied(alloc)?)
 }
 
-/// Whether there was memory, and the store of the first dot is kept and cleared.
+/// True if a store of the first dot is kept and cleared.
 fn is_store<S: DotStore>(alloc: Global, store: Result<S, NoMemory>) -> bool {
     match store {
         Ok(store) => matches!(is_kept_and_cleared(alloc, &store), Ok(true)),
@@ -101,20 +99,20 @@ fn stores_of_all_kinds(rt: HostRuntime) {
     assert!(rt; is_store(rt.alloc(), denied_at(rt.alloc(), 7)));
 }
 
-/// Whether a second dot is appended to values at dots.
+/// True if a second dot is appended to values at dots.
 fn a_value_is_appended(alloc: Global) -> Result<bool, NoMemory> {
     let mut denied = first_denied(alloc)?;
     let pushed = denied.push(dot(0, 3), Flag::Up)?;
     Ok(pushed && denied.get(dot(0, 3)) == Some(&Flag::Up) && denied.entries().len() == 2)
 }
 
-/// Whether a second dot is appended to a set, and one that isn't above it isn't.
+/// True if a set accepts a greater dot, and refuses it the second time.
 fn a_dot_is_appended(alloc: Global) -> Result<bool, NoMemory> {
     let mut dots = DotSet::one(alloc, dot(0, 1))?;
     Ok(dots.push(dot(0, 2))? && !dots.push(dot(0, 2))?)
 }
 
-/// Whether a second key is appended.
+/// True if a greater key is appended.
 fn a_key_is_appended(alloc: Global) -> Result<bool, NoMemory> {
     let mut map = denied_at(alloc, 7)?;
     let pushed = map.push(9, first_denied(alloc)?)?;

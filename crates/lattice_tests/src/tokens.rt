@@ -1,4 +1,4 @@
-//! A lattice of one value, whose joins tests count.
+//! A lattice whose joins can be counted.
 ghost use Rattle.std.specs.Prelude.{refl};
 
 use dac_base::NoMemory;
@@ -6,7 +6,8 @@ use dac_lattice::{Bottom, Lattice};
 use std::alloc::Global;
 use std::marker::Model;
 
-/// A token equals each other one. Unseen by contracts it counts the joins by which it was made of a new one or of a copy.
+/// All tokens are equal. A hidden counter, invisible to contracts, counts the joins that produced a token; a copy
+/// starts at 0.
 #[derive(Drop)]
 pub struct Token {
     pub joins: u64,
@@ -19,7 +20,7 @@ impl Model for Token {
 }
 
 impl Token {
-    /// A token that isn't joined of others.
+    /// A token produced without joins.
     pub fn new() -> Self {
         Token { joins: 0 }
     }

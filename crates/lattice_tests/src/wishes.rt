@@ -1,4 +1,4 @@
-//! Permits and start wishes of a few operations.
+//! Permissions and wishes of a few operations.
 use crate::sample::{context_of, dot, is_joined_above};
 use dac_base::{AppId, NoMemory, NodeId};
 use dac_lattice::{Bottom, Flag, Lattice, Piece};
@@ -14,38 +14,38 @@ const KEY: Key = Key {
     inc: 1,
 };
 
-/// What an operation adds, through the bound.
+/// The delta of an operation, called through the bound.
 fn delta_of<P: Piece>(alloc: Global, dot: Dot, act: &P::Act) -> Result<P, NoMemory> {
     P::delta(alloc, dot, act)
 }
 
-/// A start by an operation of this dot.
+/// The delta of a start.
 fn start_of(alloc: Global, dot: Dot) -> Result<Wishes, NoMemory> {
     let over = DotList::new(Vec::new(alloc));
     delta_of(alloc, dot, &WishAct::Start { key: KEY, over })
 }
 
-/// A stop of the start of a dot.
+/// The delta of a stop that ends the start of a dot.
 fn stop_of(alloc: Global, dot: Dot, start: Dot) -> Result<Wishes, NoMemory> {
     let over = DotList::new(Vec::from_slice(alloc, &[start])?);
     delta_of(alloc, dot, &WishAct::Other { over })
 }
 
-/// A permit by an operation of this dot.
+/// The delta of a permit.
 fn permit_of(alloc: Global, dot: Dot, value: bool) -> Result<Permissions, NoMemory> {
     let over = DotList::new(Vec::new(alloc));
     let key = KEY;
     delta_of(alloc, dot, &PermitAct::Permit { key, value, over })
 }
 
-/// Whether the starts of these dots stand, and so many dots are known.
+/// True if exactly these starts stand, and `known` dots are known.
 fn has(wishes: &Wishes, dots: &[Dot], known: u128) -> bool {
     wishes.dots(KEY) == dots
         && wishes.wished(KEY) != dots.is_empty()
         && wishes.context().len() == known
 }
 
-/// Whether these dots are left where the start of a dot is joined with a stop of the dot (0, 2).
+/// True if these starts are left after joining one with a stop of the dot (0, 2).
 fn is_left(alloc: Global, start: Dot, dots: &[Dot], known: u128) -> Result<bool, NoMemory> {
     let started = start_of(alloc, start)?;
     let joined = stop_of(alloc, dot(0, 3), dot(0, 2))?.join(&started)?;
@@ -60,7 +60,7 @@ fn a_stop_ends_what_it_names(rt: HostRuntime) {
     assert!(rt; matches!(answer, Ok(true)));
 }
 
-/// Whether a permit that says true is joined with one that says false, and false wins.
+/// True if `false` wins over a concurrent `true`.
 fn false_wins(alloc: Global) -> Result<bool, NoMemory> {
     let granted = permit_of(alloc, dot(0, 2), true)?;
     let joined = granted.join(&permit_of(alloc, dot(1, 2), false)?)?;
@@ -71,7 +71,7 @@ fn false_wins(alloc: Global) -> Result<bool, NoMemory> {
     )
 }
 
-/// Whether two permits stand and two dots are known.
+/// True if two permits stand and two dots are known.
 fn has_two(permissions: &Permissions) -> bool {
     permissions.dots(KEY).len() == 2 && permissions.context().len() == 2
 }
@@ -81,7 +81,7 @@ fn false_wins_among_permits(rt: HostRuntime) {
     assert!(rt; matches!(false_wins(rt.alloc()), Ok(true)));
 }
 
-/// Whether one permit that says true overrules the default, which holds where nothing is said.
+/// True if a permit overrides the default, which holds without one.
 fn is_overruled(alloc: Global) -> Result<bool, NoMemory> {
     let nothing = Permissions::bottom(alloc);
     let granted = permit_of(alloc, dot(0, 2), true)?;
@@ -97,7 +97,7 @@ fn a_permit_overrules_the_default(rt: HostRuntime) {
     assert!(rt; matches!(is_overruled(rt.alloc()), Ok(true)));
 }
 
-/// The start of the dot (0, 2), kept by its key.
+/// The start of the dot (0, 2), built from its store.
 fn kept_start(alloc: Global) -> Option<Wishes> {
     let starts = DotSet::one(alloc, dot(0, 2)).ok()?;
     let store = DotMap::one(alloc, KEY, starts).ok()?;
@@ -105,7 +105,7 @@ fn kept_start(alloc: Global) -> Option<Wishes> {
     Some(Wishes::new(causal))
 }
 
-/// The permit of the dot (0, 2), kept by its key.
+/// The permit of the dot (0, 2), built from its store.
 fn kept_permit(alloc: Global) -> Option<Permissions> {
     let permits = DotFun::one(alloc, dot(0, 2), Flag::Up).ok()?;
     let store = DotMap::one(alloc, KEY, permits).ok()?;
@@ -113,13 +113,13 @@ fn kept_permit(alloc: Global) -> Option<Permissions> {
     Some(Permissions::new(causal))
 }
 
-/// Whether a start that is kept is one that was wished.
+/// True if the built start equals the delta of a start.
 fn is_start(alloc: Global) -> Option<bool> {
     let kept = kept_start(alloc)?;
     Some(kept.len() == 1 && kept.equal(&start_of(alloc, dot(0, 2)).ok()?))
 }
 
-/// Whether a permit that is kept is one that was given.
+/// True if the built permit equals the delta of a permit.
 fn is_permit(alloc: Global) -> Option<bool> {
     let kept = kept_permit(alloc)?;
     Some(kept.len() == 1 && kept.equal(&permit_of(alloc, dot(0, 2), true).ok()?))
@@ -131,7 +131,7 @@ fn starts_and_permits_by_key(rt: HostRuntime) {
     assert!(rt; is_permit(rt.alloc()) == Some(true));
 }
 
-/// Whether a list gives its dots back.
+/// True if a list returns its dots, also as a copy.
 fn gives_back(alloc: Global, dots: &[Dot]) -> Result<bool, NoMemory> {
     let list = DotList::new(Vec::from_slice(alloc, dots)?);
     let copied = list.copy()?;

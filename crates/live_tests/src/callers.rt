@@ -1,4 +1,4 @@
-//! A caller as it stands in the first comment of `dac_sites`.
+//! The caller in the first comment of `dac_sites`.
 ghost use Rattle.dac_sites.specs.Sites.{IsBlankOf};
 
 use dac_base::NodeId;
@@ -10,8 +10,8 @@ use std::marker::Brand;
 use std::sync::Wait;
 use std::test::Fail;
 
-/// A site with one seat and one reader: the place of the page that is read behind a boot, and how many records the closed
-/// journal has.
+/// The place of the page read after a boot at a site with one seat and one reader, and the number of records in its
+/// closed journal.
 fn boot_at<L: SiteName, R: Wait>(rt: &R, alloc: Global, blank: SiteBlank) -> Option<(u64, usize)>
     requires { IsBlankOf blank L.name L.parts L.seats L.beginning }
 {
@@ -29,7 +29,7 @@ fn boot_at<L: SiteName, R: Wait>(rt: &R, alloc: Global, blank: SiteBlank) -> Opt
     Some((place, closed.records().len()))
 }
 
-/// The same, from the configuration on.
+/// The result of [`boot_at`] for a new site.
 fn boot_once<R: Wait>(rt: &R, alloc: Global) -> Option<(u64, usize)> {
     let config = read_config(alloc, b"[{kernel,[{distributed,[{shop,[main@h]}]}]}].").ok()?;
     let blank = blank_site(rt, alloc, &config, NodeId(0), 0, 1, 1).ok()?;

@@ -1,4 +1,4 @@
-//! A site that does everything: each event of each kind is accepted and refused, with its reply, its place and its page.
+//! A site that accepts and refuses each kind of event, with the reply, place and page of each.
 ghost use Rattle.dac_sites.specs.Sites.{IsBlankOf};
 
 use crate::sites::{EXAMPLE, closed_with_none};
@@ -24,21 +24,20 @@ const Q: NodeId = NodeId(1);
 
 const R: NodeId = NodeId(2);
 
-/// The greatest term of a claim.
 const LAST: u64 = 1 << 62;
 
-/// What the first incarnation of another node issued, each by a counter of its own.
+/// An operation of another node's first incarnation, each kind with its own counter.
 #[derive(Clone, Copy, Debug, PartialEq, Eq)]
 enum Issued {
-    /// It came up.
+    /// The node comes up.
     Up,
-    /// The application is to be started there.
+    /// A start of the application at the node itself.
     Start,
-    /// It claims the application under this term.
+    /// A claim of the application at this term.
     Claim(u64),
 }
 
-/// What a message brings: the meaning of one operation of its sender, or nothing.
+/// The body of a message: the delta of one operation of its sender, or nothing.
 #[derive(Clone, Copy, Debug, PartialEq, Eq)]
 enum Brings {
     Whole(Issued),
@@ -46,7 +45,7 @@ enum Brings {
     Nothing,
 }
 
-/// What happens at the first node.
+/// An event at the first node.
 #[derive(Clone, Copy)]
 enum Comes {
     Boot(u64),
@@ -54,9 +53,10 @@ enum Comes {
     Asked(Command),
     Tick(u64),
     Ship(NodeId),
-    /// A message between two nodes, with how many deltas of this node's first incarnation it acknowledges, if any.
+    /// A message's sender, receiver and body, and how many deltas of this node's first incarnation it acknowledges; 0
+    /// for no acknowledgement.
     Message(NodeId, NodeId, Brings, u64),
-    /// One operation of a node.
+    /// A single operation of a node.
     Single(NodeId, Issued),
 }
 
@@ -73,7 +73,7 @@ fn dot(node: NodeId, issued: Issued) -> Dot {
     }
 }
 
-/// What a node issued.
+/// The operation of a node.
 fn operation(alloc: Global, node: NodeId, issued: Issued) -> Option<Op> {
     let act = match issued {
         Issued::Up => Act::Up,
@@ -95,7 +95,7 @@ fn operation(alloc: Global, node: NodeId, issued: Issued) -> Option<Op> {
     Op::new(dot(node, issued), act).ok()
 }
 
-/// What one operation means.
+/// The delta of one operation.
 fn meaning(alloc: Global, node: NodeId, issued: Issued) -> Option<State> {
     State::delta_of(alloc, &operation(alloc, node, issued)?).ok()
 }
@@ -137,8 +137,8 @@ fn event(alloc: Global, comes: Comes) -> Option<Event> {
     }
 }
 
-/// What a call was answered, in short. Of an operation its counter is said, of a tick how much it claimed and how much it
-/// passed, and of a message what kind of body it has.
+/// A short form of a call's result: an operation's counter, how many applications a tick claimed and passed, or the
+/// kind of a message's body.
 #[derive(Clone, Copy, Debug, PartialEq, Eq)]
 enum Told {
     Booted(u64),
@@ -152,7 +152,7 @@ enum Told {
     Nothing,
     Heard(bool),
     Refused(Refusal),
-    /// It isn't in the journal.
+    /// A call that wasn't recorded.
     Fault(LiveFault),
 }
 
@@ -179,7 +179,7 @@ fn of_reply(reply: &Reply) -> Told {
     }
 }
 
-/// What is answered at which place.
+/// The place of a result, and its short form.
 fn of_answer<L: SiteName>(answer: &Result<Receipt<L>, LiveFault>) -> (u64, Told) {
     match answer {
         Ok(receipt) => (receipt.place, of_reply(&receipt.reply)),
@@ -207,14 +207,14 @@ const DOWN: Comes = Comes::Asked(Command::Down { node: Q });
 
 const TAKEOVER: Comes = Comes::Asked(Command::Takeover { app: APP });
 
-/// What comes, and the answer.
+/// An event and its result.
 type Row = (Comes, Told);
 
 const OFF: Told = Told::Refused(Refusal::Off);
 
-/// All that happens, and what is answered. The gate waits for the two other nodes.
+/// All events, in order, with their results. The start gate waits for both other nodes.
 const ROWS: &[Row] = &[
-    // All but a boot is refused while the node is off.
+    // A node that is off refuses everything but a boot.
     (Comes::Crash, OFF),
     (PERMIT, OFF),
     (START, OFF),
@@ -228,7 +228,7 @@ const ROWS: &[Row] = &[
     (Comes::Single(Q, Issued::Up), OFF),
     (Comes::Boot(0), Told::Booted(1)),
     (Comes::Boot(0), Told::Refused(Refusal::AlreadyOn)),
-    // The gate waits, and opens once both others are heard of.
+    // The gate waits, and opens after both others are known.
     (Comes::Tick(1), Told::Held),
     (Comes::Tick(0), Told::Refused(Refusal::MomentBack)),
     (Comes::Single(Q, Issued::Up), Told::Heard(true)),
@@ -249,7 +249,7 @@ const ROWS: &[Row] = &[
         Comes::Message(ME, ME, Brings::Nothing, 0),
         Told::Refused(Refusal::OnSelf),
     ),
-    // The application starts here, another node claims it, and it is taken back.
+    // The application starts here, another node claims it, and it's taken back.
     (PERMIT, Told::Issued(2)),
     (TAKEOVER, Told::Refused(Refusal::NotEligible)),
     (START, Told::Issued(3)),
@@ -260,7 +260,7 @@ const ROWS: &[Row] = &[
     (Comes::Single(Q, Issued::Start), Told::Heard(true)),
     (Comes::Single(Q, Issued::Claim(2)), Told::Heard(true)),
     (TAKEOVER, Told::Issued(5)),
-    // Each kind of body is shipped and heard.
+    // Each kind of body is shipped and received.
     (Comes::Ship(R), Told::Whole),
     (Comes::Ship(ME), Told::Refused(Refusal::OnSelf)),
     (
@@ -279,7 +279,7 @@ const ROWS: &[Row] = &[
     ),
     (Comes::Ship(R), Told::Nothing),
     (Comes::Ship(R), Told::Refused(Refusal::UpToDate)),
-    // The other node claims again under the last term, and is lost. No term is left for a failover, which is passed.
+    // The other node claims at the last term and is lost. There's no term left for a failover, which is passed.
     (Comes::Single(Q, Issued::Claim(LAST)), Told::Heard(true)),
     (DOWN, Told::Issued(6)),
     (DOWN, Told::Refused(Refusal::NotLive)),
@@ -322,7 +322,7 @@ const ROWS: &[Row] = &[
     (Comes::Crash, OFF),
 ];
 
-/// A row that is answered otherwise: its number, with the answer, and what the reader read.
+/// A row with another result: its index, the result, the page read, and the number of calls.
 #[derive(Clone, Copy, Debug, PartialEq, Eq)]
 struct Wrong {
     row: usize,
@@ -332,7 +332,7 @@ struct Wrong {
     calls: usize,
 }
 
-/// The first row that is answered otherwise or at another place, or is no call of the seat, or has no page.
+/// The first row whose result, place, page or number of calls differs.
 fn wrong_row<L: SiteName, R: Wait>(
     rt: &R,
     alloc: Global,
@@ -363,7 +363,7 @@ fn wrong_row<L: SiteName, R: Wait>(
     None
 }
 
-/// Whether the journal has these answers.
+/// True if the journal has these results.
 fn are_recorded(closed: &Closed) -> bool {
     let records = closed.records();
     if records.len() != ROWS.len() {
@@ -381,8 +381,8 @@ fn are_recorded(closed: &Closed) -> bool {
     true
 }
 
-/// Opens a site with a seat and a reader, and asks it all. It is the first wrong row, and whether the site is closed with
-/// these answers.
+/// Opens a site with a seat and a reader, and runs all events. Returns the first wrong row, and whether the closed
+/// journal has these results.
 fn open_and_ask<L: SiteName, R: Wait>(
     rt: &R,
     alloc: Global,

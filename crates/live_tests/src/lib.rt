@@ -1,5 +1,5 @@
-//! Tests of sites: worked calls and their places, closing, a full journal, calls of two threads, and what one journal
-//! has of a seat. A link by itself is tested too.
+//! Tests of sites and links: calls and their places, closing, a full journal, calls of two threads, and a seat's
+//! records in a journal.
 #![tactic(auto)]
 
 #[cfg(test)]

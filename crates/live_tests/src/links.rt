@@ -1,17 +1,16 @@
-//! A link: letters come out in order, and its ends are compared on the way.
+//! A link: letters arrive in order, and its ends can be compared meanwhile.
 use dac_links::{Letter, link};
 use std::alloc::Global;
 use std::sync::Wait;
 use std::test::Fail;
 
-/// A letter of one byte.
 fn letter(alloc: Global, byte: u8) -> Option<Letter> {
     let mut bytes = Vec::new(alloc);
     bytes.push(byte).ok()?;
     Some(Letter::of(bytes))
 }
 
-/// The byte of a letter; none of an end letter.
+/// The byte of a letter, or `None` for an end letter.
 fn byte_of(letter: Letter) -> Option<u8> {
     let bytes = letter.into_bytes()?;
     match bytes.first() {
@@ -20,7 +19,7 @@ fn byte_of(letter: Letter) -> Option<u8> {
     }
 }
 
-/// What comes out of a link, where its ends are compared when one of two letters was taken.
+/// The letters received, with the ends compared after the first.
 fn come_out<R: Wait>(rt: &R, alloc: Global) -> Option<[Option<u8>; 3]> {
     let (mut sender, mut receiver) = link(alloc, 2).ok()?;
     sender.put(rt, letter(alloc, 7)?).ok()?;

@@ -1,4 +1,4 @@
-//! Where a seat's calls and its records first differ.
+//! The first difference between a seat's calls and its records.
 use dac_events::Refusal;
 use dac_messages::{Event, Reply};
 use dac_sites::laws::same_calls;
@@ -6,7 +6,7 @@ use dac_sites::{Answer, Call, Record};
 use std::alloc::Global;
 use std::test::Fail;
 
-/// Three records: a boot and a crash of the first seat, and a tick of the second between them.
+/// A boot and a crash of the first seat, with a tick of the second between them.
 fn three_records(alloc: Global) -> Option<Vec<Record>> {
     let mut records = Vec::new(alloc);
     records
@@ -37,26 +37,26 @@ fn call(place: u64, event: Event, answer: Answer) -> Call {
     }
 }
 
-/// A list of calls that a seat may have.
+/// A seat's list of calls.
 #[derive(Clone, Copy, Debug, PartialEq, Eq)]
 enum Calls {
     /// Those of the first seat's records.
     Both,
-    /// The boot alone.
+    /// Only the boot.
     Boot,
-    /// The same with another moment.
+    /// Only the boot, at another time.
     LaterBoot,
     /// Both, with a tick in place of the crash.
     Tick,
-    /// Both, with another answer to the crash.
+    /// Both, with another reply to the crash.
     OtherReply,
-    /// Both, with a refusal of the crash.
+    /// Both, with the crash refused.
     Refused,
-    /// Both, with this place of the crash.
+    /// Both, with the crash at this place.
     At(u64),
     /// Both, and a crash at place 7.
     Third,
-    /// None.
+    /// No calls.
     None,
 }
 
@@ -79,7 +79,7 @@ fn second_call(calls: Calls) -> Option<Call> {
     }
 }
 
-/// Where these calls and the records of a seat first differ; the outer `None` where memory is refused.
+/// The first place where these calls and the seat's records differ. The outer option is `None` if an allocation fails.
 fn differ(alloc: Global, seat: u16, calls: Calls) -> Option<Option<u64>> {
     let records = three_records(alloc)?;
     let mut list = Vec::new(alloc);
@@ -95,7 +95,7 @@ fn differ(alloc: Global, seat: u16, calls: Calls) -> Option<Option<u64>> {
     Some(same_calls(records.as_slice(), seat, list.as_slice()))
 }
 
-/// A seat, its calls, and the place at which they and its records first differ.
+/// Seat, calls, and the first place where they differ from its records.
 const ROWS: [(u16, Calls, Option<u64>); 14] = [
     (1, Calls::Both, None),
     (1, Calls::Boot, Some(3)),
@@ -113,7 +113,7 @@ const ROWS: [(u16, Calls, Option<u64>); 14] = [
     (3, Calls::Both, Some(1)),
 ];
 
-/// The number of the first row that is answered otherwise.
+/// The index of the first row with another result.
 fn wrong_row(alloc: Global) -> Option<usize> {
     for i in 0..ROWS.len() {
         let (seat, calls, place) = ROWS[i];

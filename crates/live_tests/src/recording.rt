@@ -1,4 +1,4 @@
-//! Records of a journal that is lent.
+//! Records of a borrowed journal.
 use dac_base::NodeId;
 use dac_config::read_config;
 use dac_events::Refusal;
@@ -9,7 +9,7 @@ use std::alloc::Global;
 use std::sync::Wait;
 use std::test::Fail;
 
-/// Whether a boot and a second one are recorded at the first two places, with the seats' numbers.
+/// True if two boots, one refused, are recorded at the first two places with their seats.
 fn are_recorded<R: Wait>(rt: &R, alloc: Global) -> Option<bool> {
     let config = read_config(alloc, b"[{kernel,[{distributed,[{a,[b@h]}]}]}].").ok()?;
     let blank = blank_site(rt, alloc, &config, NodeId(0), 4, 2, 0).ok()?;

@@ -1,4 +1,4 @@
-//! Sites: calls, their places and pages, readers, closing, a full journal, and two threads.
+//! Sites: calls, places, pages, readers, closing, a full journal, and two threads.
 ghost use Rattle.std.specs.Prelude.{◌≡◌};
 ghost use Rattle.dac_sites.specs.Sites.{IsBlankOf};
 
@@ -20,11 +20,11 @@ use std::sync::Wait;
 use std::test::Fail;
 use std::thread::{Threads, join};
 
-/// The documented example: three nodes, of which two must be there before an application starts.
+/// The documented example: three nodes, two of them mandatory.
 pub const EXAMPLE: &[u8] =
     b"[{kernel, [{distributed, [{myapp, 5000, [cp1@cave, {cp2@cave, cp3@cave}]}]}, {sync_nodes_mandatory, [cp2@cave, cp3@cave]}, {sync_nodes_timeout, 5000}]}].";
 
-/// What a call was answered, in short.
+/// A short form of a call's result.
 #[derive(Clone, Copy, Debug, PartialEq, Eq)]
 enum Told {
     Booted,
@@ -67,7 +67,7 @@ fn five_calls<L: SiteName, R: Wait>(
     [boot, tick, again, crash, off]
 }
 
-/// What the five calls were answered, and the site closed with both seats or with the first alone.
+/// The results of the five calls, and of closing the site with both seats or only the first.
 fn work<L: SiteName, R: Wait>(
     rt: &R,
     alloc: Global,
@@ -85,14 +85,14 @@ fn work<L: SiteName, R: Wait>(
     Some((answers, site.close(rt, given_back(alloc, first, second))))
 }
 
-/// The first two of two seats.
+/// Both of two seats.
 pub fn first_two<L: SiteName>(mut seats: Vec<Seat<L>>) -> Option<(Seat<L>, Seat<L>)> {
     let second = seats.pop()?;
     let first = seats.pop()?;
     Some((first, second))
 }
 
-/// A list of one or two seats, as far as memory goes.
+/// A list of the seats, or of those for which there was memory.
 fn given_back<L: SiteName>(alloc: Global, first: Seat<L>, second: Option<Seat<L>>) -> Vec<Seat<L>> {
     let mut back = Vec::new(alloc);
     let _ = back.push(first);
@@ -102,7 +102,7 @@ fn given_back<L: SiteName>(alloc: Global, first: Seat<L>, second: Option<Seat<L>
     back
 }
 
-/// Ends a site without its seats.
+/// Closes a site without its seats.
 pub fn closed_with_none<L: SiteName, T, R: Wait>(rt: &R, alloc: Global, site: Site<L>) -> Option<T>
     requires { L.seats ≡ L.parts }
 {
@@ -110,7 +110,7 @@ pub fn closed_with_none<L: SiteName, T, R: Wait>(rt: &R, alloc: Global, site: Si
     None
 }
 
-/// A site of the first node with two seats, without a name yet.
+/// A site of the first node with two seats, not yet opened.
 fn two_seats<R: Wait>(rt: &R, alloc: Global, readers: u16) -> Result<SiteBlank, OpenFault> {
     let Ok(config) = read_config(alloc, EXAMPLE) else {
         return Err(OpenFault::NoMemory);
@@ -126,10 +126,10 @@ const ANSWERS: [(u64, Told); 5] = [
     (5, Told::Refused(Refusal::Off)),
 ];
 
-/// The seats of the five records, in the journal's order.
+/// The seats of the five records, in order.
 const SEATS: [u16; 5] = [1, 2, 1, 2, 2];
 
-/// Whether the records are these seats', with these answers.
+/// True if the records have these seats and results.
 fn are_five(records: &[Record]) -> bool {
     if records.len() != 5 {
         return false;
@@ -147,7 +147,7 @@ fn are_five(records: &[Record]) -> bool {
     true
 }
 
-/// Whether the five calls are answered so, and the journal is closed with their records.
+/// True if the five calls have their results, and the closed journal their records.
 fn five_are_answered<R: Wait>(rt: &R, alloc: Global) -> Option<bool> {
     let blank = two_seats(rt, alloc, 0).ok()?;
     let (answers, closed) = work::<Brand, R>(rt, alloc, blank, true)?;
@@ -166,7 +166,7 @@ fn five_calls_of_two_seats(rt: HostRuntime) -> Result<(), Fail> {
     Ok(())
 }
 
-/// Why the site isn't closed with one of its seats.
+/// The fault of closing the site with one of two seats.
 fn closed_with_one<R: Wait>(rt: &R, alloc: Global) -> Option<CloseFault> {
     let blank = two_seats(rt, alloc, 0).ok()?;
     let (_, closed) = work::<Brand, R>(rt, alloc, blank, false)?;
@@ -182,7 +182,7 @@ fn a_seat_is_missing(rt: HostRuntime) -> Result<(), Fail> {
     Ok(())
 }
 
-/// Learns the receipt of a call, if it has one, and reads a page then.
+/// Passes a call's receipt to the reader, and then reads a page.
 fn learn<L: SiteName>(
     reader: &mut PageReader<L>,
     answer: Result<Receipt<L>, LiveFault>,
@@ -192,7 +192,7 @@ fn learn<L: SiteName>(
     reader.read()
 }
 
-/// What a reader reads after each of the five calls that has a receipt.
+/// The pages read after those of five calls that have a receipt.
 fn pages_of_calls<L: SiteName, R: Wait>(
     rt: &R,
     site: &Site<L>,
@@ -207,7 +207,7 @@ fn pages_of_calls<L: SiteName, R: Wait>(
     [boot, tick, again, crash, off]
 }
 
-/// A site with one reader, which reads after each call.
+/// The pages that the only reader of a site reads after each call.
 fn watch<L: SiteName, R: Wait>(rt: &R, alloc: Global, blank: SiteBlank) -> Option<[Option<Page>; 5]>
     requires { IsBlankOf blank L.name L.parts L.seats L.beginning }
 {
@@ -223,13 +223,12 @@ fn watch<L: SiteName, R: Wait>(rt: &R, alloc: Global, blank: SiteBlank) -> Optio
     Some(pages)
 }
 
-/// The first incarnation of the first node.
 const FIRST: Origin = Origin {
     node: NodeId(0),
     inc: 1,
 };
 
-/// What the first node knows once it is booted: that it is up.
+/// The state of the first node after its boot.
 fn booted(alloc: Global) -> Option<State> {
     let dot = Dot {
         origin: FIRST,
@@ -239,7 +238,7 @@ fn booted(alloc: Global) -> Option<State> {
     State::delta_of(alloc, &up).ok()
 }
 
-/// The page of a node in this state after so many records, as this incarnation if it runs.
+/// The page of a node in this state after `place` records; `origin` is `None` if it's off.
 fn page_of(config: &Config, place: u64, origin: Option<Origin>, state: &State) -> Page {
     Page {
         place,
@@ -248,8 +247,8 @@ fn page_of(config: &Config, place: u64, origin: Option<Origin>, state: &State) -
     }
 }
 
-/// The pages that are to be read: those of the booted node, and behind the crash that of a node that knows nothing. A call that is
-/// refused has no receipt.
+/// The pages to read: those of the booted node, and after the crash that of an empty state. A refused call has no
+/// receipt.
 fn pages_wanted(alloc: Global) -> Option<[Option<Page>; 5]> {
     let config = read_config(alloc, EXAMPLE).ok()?;
     let known = booted(alloc)?;
@@ -259,7 +258,7 @@ fn pages_wanted(alloc: Global) -> Option<[Option<Page>; 5]> {
     Some([Some(boot), Some(tick), None, Some(crash), None])
 }
 
-/// Whether the pages that are read are those, with all that they say.
+/// True if the pages read are these.
 fn pages_are_read<R: Wait>(rt: &R, alloc: Global) -> Option<bool> {
     let blank = two_seats(rt, alloc, 1).ok()?;
     let pages = watch::<Brand, R>(rt, alloc, blank)?;
@@ -272,7 +271,7 @@ fn a_reader_sees_each_receipt(rt: HostRuntime) -> Result<(), Fail> {
     Ok(())
 }
 
-/// The place of the page that is read behind a boot, whose receipt is learned when its owner has set another place.
+/// The place of the page read after a boot, although the receipt's owner changed its place.
 fn page_behind<L: SiteName, R: Wait>(rt: &R, alloc: Global, blank: SiteBlank) -> Option<u64>
     requires { IsBlankOf blank L.name L.parts L.seats L.beginning }
 {
@@ -291,7 +290,7 @@ fn page_behind<L: SiteName, R: Wait>(rt: &R, alloc: Global, blank: SiteBlank) ->
     Some(place)
 }
 
-/// The same, from the opening on.
+/// The result of [`page_behind`] for a new site.
 fn read_behind<R: Wait>(rt: &R, alloc: Global) -> Option<u64> {
     let blank = two_seats(rt, alloc, 1).ok()?;
     page_behind::<Brand, R>(rt, alloc, blank)
@@ -303,7 +302,7 @@ fn an_owner_sets_no_place_for_a_reader(rt: HostRuntime) -> Result<(), Fail> {
     Ok(())
 }
 
-/// Whether a site has places for so many readers.
+/// True if a site can have this number of readers.
 fn has_places<R: Wait>(rt: &R, alloc: Global, readers: u16) -> bool {
     match two_seats(rt, alloc, readers) {
         Ok(blank) => {
@@ -325,7 +324,7 @@ fn readers_have_places(rt: HostRuntime) -> Result<(), Fail> {
     Ok(())
 }
 
-/// Ticks at a node that is off, as many as a journal holds. Whether each is refused at the next place.
+/// Fills a journal with ticks at a node that is off. True if each is refused at the next place.
 fn fills<L: SiteName, R: Wait>(rt: &R, site: &Site<L>, seat: &mut Seat<L>) -> bool {
     for now in 0..65_536u64 {
         let answer = in_short(site.call(rt, seat, Event::Tick { now }));
@@ -336,8 +335,7 @@ fn fills<L: SiteName, R: Wait>(rt: &R, site: &Site<L>, seat: &mut Seat<L>) -> bo
     true
 }
 
-/// A site whose journal is full. It is what one more call is answered, how many calls the seat then has, and how many
-/// records the journal.
+/// The result of a call at a full journal, the number of the seat's calls, and that of the records.
 fn one_more<L: SiteName, R: Wait>(
     rt: &R,
     alloc: Global,
@@ -359,7 +357,7 @@ fn one_more<L: SiteName, R: Wait>(
     Some((last, calls, closed.records().len()))
 }
 
-/// The same, from the opening on.
+/// The result of [`one_more`] for a new site.
 fn one_too_many<R: Wait>(rt: &R, alloc: Global) -> Option<(Told, usize, usize)> {
     let blank = two_seats(rt, alloc, 0).ok()?;
     one_more::<Brand, R>(rt, alloc, blank)
@@ -387,7 +385,7 @@ fn many_calls<L: SiteName, R: Wait>(rt: &R, site: &Site<L>, mut seat: Seat<L>) -
     seat
 }
 
-/// How many records the site has after two threads made their calls.
+/// The number of records after two threads made these calls.
 fn both<L: SiteName + Send + Sync, R: Threads + Wait + Sync>(
     rt: &R,
     alloc: Global,
@@ -409,7 +407,7 @@ fn both<L: SiteName + Send + Sync, R: Threads + Wait + Sync>(
     Some(closed.records().len())
 }
 
-/// The same, from the opening on.
+/// The result of [`both`] for a new site.
 fn both_are_recorded<R: Threads + Wait + Sync>(rt: &R, alloc: Global) -> Option<usize> {
     let blank = two_seats(rt, alloc, 0).ok()?;
     both::<Brand, R>(rt, alloc, blank)

@@ -1,15 +1,13 @@
-//! Tests of the program `distac` over readers and writers in memory. They show what each command line, configuration
-//! and script prints, and what comes of readers and writers that fail.
+//! Tests of the program `distac` over readers and writers in memory: command lines, failing and slow streams, large and long
+//! inputs, recorded runs, and the worked configurations and scripts.
 //!
-//! The crates below are proved. The configurations and the scripts are tables, which one loop each goes through.
+//! All other inputs, each with its output and status, are files in `examples/rows`, on which `examples/check` runs the program.
 #![tactic(auto)]
 
 #[cfg(test)]
 mod command_lines;
 #[cfg(test)]
 mod configs;
-#[cfg(test)]
-mod faults;
 #[cfg(test)]
 mod lives;
 #[cfg(test)]
@@ -19,12 +17,8 @@ mod placements;
 #[cfg(test)]
 mod readers;
 #[cfg(test)]
-mod records;
-#[cfg(test)]
 mod running;
 #[cfg(test)]
 mod scripts;
 #[cfg(test)]
 mod turns;
-#[cfg(test)]
-mod wires;

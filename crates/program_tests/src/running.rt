@@ -1,11 +1,8 @@
 //! Runs of the program.
-use crate::configs::CASES;
-use crate::faults::{CONFIG_FAULTS, INPUT_FAULTS, SCRIPT_FAULTS};
-use crate::lives::{LIVES, PHASES, PHASES_PRINTED};
-use crate::placements::{FURTHER_PLACEMENTS, MORE_PLACEMENTS, PLACEMENTS};
-use crate::records::{PHASES_LAST, RECORDS};
-use crate::scripts::{EXAMPLE, MORE_SCRIPTS, SCRIPTS};
-use crate::wires::WIRES;
+use crate::configs::{CANONICAL_TEXTS, CONFIG_REFUSALS};
+use crate::lives::{FIVE, PHASES, PHASES_LAST, PHASES_PRINTED};
+use crate::placements::PLACEMENTS;
+use crate::scripts::{EXAMPLE, SCRIPTS};
 use dac_program::run;
 use std::alloc::{AllocError, Global};
 use std::io::{Eprint, Print, Read, Write};
@@ -57,17 +54,16 @@ pub fn input_of(alloc: Global, config: &str, script: &str) -> Result<String, All
     Ok(text)
 }
 
-/// Whether `distac sim` prints this for a configuration and a script, and answers this status.
+/// Whether `distac sim` prints this for a configuration and a script, with status 0.
 fn plays<T: Print + Eprint + Threads + Wait + Sync>(
     rt: &T,
     alloc: Global,
     config: &str,
     script: &str,
-    status: u8,
     printed: &str,
 ) -> bool {
     match input_of(alloc, config, script) {
-        Ok(text) => prints(rt, alloc, "sim", text.as_bytes(), status, printed),
+        Ok(text) => prints(rt, alloc, "sim", text.as_bytes(), 0, printed),
         Err(_) => false,
     }
 }
@@ -83,21 +79,6 @@ pub fn lives<T: Print + Eprint + Threads + Wait + Sync>(
 ) -> bool {
     match input_of(alloc, config, script) {
         Ok(text) => prints(rt, alloc, "live", text.as_bytes(), status, printed),
-        Err(_) => false,
-    }
-}
-
-/// Whether `distac record` prints this for a configuration and a script, and answers this status.
-fn records<T: Print + Eprint + Threads + Wait + Sync>(
-    rt: &T,
-    alloc: Global,
-    config: &str,
-    script: &str,
-    status: u8,
-    printed: &str,
-) -> bool {
-    match input_of(alloc, config, script) {
-        Ok(text) => prints(rt, alloc, "record", text.as_bytes(), status, printed),
         Err(_) => false,
     }
 }
@@ -121,83 +102,18 @@ fn plays_again<T: Print + Eprint + Threads + Wait + Sync>(
 }
 
 #[test]
-fn checks_configurations_of_all_kinds(rt: HostRuntime) {
-    for case in CASES {
-        let printed = prints(
-            &rt,
-            rt.alloc(),
-            "check",
-            case.text.as_bytes(),
-            case.status,
-            case.printed,
-        );
-        assert!(rt; printed, "{}", case.text);
-    }
-}
-
-#[test]
-fn plays_scripts(rt: HostRuntime) {
-    for (config, script, printed) in SCRIPTS {
+fn checks_configurations(rt: HostRuntime) {
+    for (text, printed) in CANONICAL_TEXTS {
         assert!(rt;
-            plays(&rt, rt.alloc(), config, script, 0, printed),
-            "{script}"
-        );
-    }
-}
-
-#[test]
-fn plays_more_scripts(rt: HostRuntime) {
-    for (config, script, printed) in MORE_SCRIPTS {
-        assert!(rt;
-            plays(&rt, rt.alloc(), config, script, 0, printed),
-            "{script}"
-        );
-    }
-}
-
-#[test]
-fn plays_scripts_of_placements(rt: HostRuntime) {
-    for (config, script, printed) in PLACEMENTS {
-        assert!(rt;
-            plays(&rt, rt.alloc(), config, script, 0, printed),
-            "{script}"
-        );
-    }
-}
-
-#[test]
-fn plays_scripts_of_more_placements(rt: HostRuntime) {
-    for (config, script, printed) in MORE_PLACEMENTS {
-        assert!(rt;
-            plays(&rt, rt.alloc(), config, script, 0, printed),
-            "{script}"
-        );
-    }
-}
-
-#[test]
-fn plays_scripts_of_further_placements(rt: HostRuntime) {
-    for (config, script, printed) in FURTHER_PLACEMENTS {
-        assert!(rt;
-            plays(&rt, rt.alloc(), config, script, 0, printed),
-            "{script}"
-        );
-    }
-}
-
-#[test]
-fn plays_scripts_of_wires(rt: HostRuntime) {
-    for (config, script, printed) in WIRES {
-        assert!(rt;
-            plays(&rt, rt.alloc(), config, script, 0, printed),
-            "{script}"
+            prints(&rt, rt.alloc(), "check", text.as_bytes(), 0, printed),
+            "{text}"
         );
     }
 }
 
 #[test]
 fn names_faults_of_configurations(rt: HostRuntime) {
-    for (text, printed) in CONFIG_FAULTS {
+    for (text, printed) in CONFIG_REFUSALS {
         assert!(rt;
             prints(&rt, rt.alloc(), "check", text.as_bytes(), 1, printed),
             "{text}"
@@ -206,22 +122,16 @@ fn names_faults_of_configurations(rt: HostRuntime) {
 }
 
 #[test]
-fn names_faults_of_scripts(rt: HostRuntime) {
-    for (script, printed) in SCRIPT_FAULTS {
-        assert!(rt;
-            plays(&rt, rt.alloc(), EXAMPLE, script, 1, printed),
-            "{script}"
-        );
+fn plays_scripts(rt: HostRuntime) {
+    for (config, script, printed) in SCRIPTS {
+        assert!(rt; plays(&rt, rt.alloc(), config, script, printed), "{script}");
     }
 }
 
 #[test]
-fn names_faults_of_inputs(rt: HostRuntime) {
-    for (input, printed) in INPUT_FAULTS {
-        assert!(rt;
-            prints(&rt, rt.alloc(), "sim", input.as_bytes(), 1, printed),
-            "{input}"
-        );
+fn plays_scripts_of_placements(rt: HostRuntime) {
+    for (config, script, printed) in PLACEMENTS {
+        assert!(rt; plays(&rt, rt.alloc(), config, script, printed), "{script}");
     }
 }
 
@@ -279,23 +189,17 @@ fn runs_phases_in_threads(rt: HostRuntime) {
 }
 
 #[test]
-fn runs_scripts_in_threads(rt: HostRuntime) {
-    for (config, script, status, printed) in LIVES {
-        assert!(rt;
-            lives(&rt, rt.alloc(), config, script, *status, printed),
-            "{script}"
-        );
-    }
-}
-
-#[test]
-fn records_runs(rt: HostRuntime) {
-    for (config, script, status, printed) in RECORDS {
-        assert!(rt;
-            records(&rt, rt.alloc(), config, script, *status, printed),
-            "{script}"
-        );
-    }
+fn runs_four_nodes_at_most(rt: HostRuntime) {
+    assert!(rt;
+        lives(
+            &rt,
+            rt.alloc(),
+            FIVE,
+            "1 boot a@h 0\n",
+            1,
+            "live fault 1 TooManyNodes\n"
+        )
+    );
 }
 
 #[test]
@@ -303,19 +207,4 @@ fn plays_recorded_runs(rt: HostRuntime) {
     for _time in 0..20 {
         assert!(rt; plays_again(&rt, rt.alloc(), EXAMPLE, PHASES, PHASES_LAST));
     }
-}
-
-#[test]
-fn runs_no_input_without_a_script(rt: HostRuntime) {
-    let input = EXAMPLE.as_bytes();
-    assert!(rt;
-        prints(
-            &rt,
-            rt.alloc(),
-            "live",
-            input,
-            1,
-            "input fault 2 NoScript\n"
-        )
-    );
 }

@@ -8,7 +8,7 @@ use dac_state::State;
 use dac_status::{Summary, header, page};
 use std::alloc::Global;
 
-/// Whether nothing runs where nothing was started.
+/// True if an application that wasn't started runs nowhere.
 fn is_nobody(config: &Config, state: &State) -> bool {
     let app = AppId(0);
     if config.apps() == 0 {
@@ -20,7 +20,7 @@ fn is_nobody(config: &Config, state: &State) -> bool {
         && verdict(config, state, app) == Verdict::Nobody
 }
 
-/// Whether waits and the start gate let it go on.
+/// True if the start gate is open and no failover due.
 fn goes_on(alloc: Global, config: &Config, state: &State) -> Option<bool> {
     let mut waits = Waits::new(alloc, config).ok()?;
     waits.note(config, state, 1);
@@ -36,7 +36,7 @@ fn goes_on(alloc: Global, config: &Config, state: &State) -> Option<bool> {
     Some(opening && !due)
 }
 
-/// Whether a board shows the same, before and after it takes the state up again.
+/// True if a board agrees, also after it absorbs the state again.
 fn is_shown(alloc: Global, config: &Config, state: &State) -> Option<bool> {
     let mut board: Board = Board::new(alloc, config, state).ok()?.copy().ok()?;
     let looked: u64 = board.looked();
@@ -48,7 +48,7 @@ fn is_shown(alloc: Global, config: &Config, state: &State) -> Option<bool> {
     )
 }
 
-/// Whether there is a page below a header.
+/// True if a header and a page are printed.
 fn is_printed(alloc: Global, config: &Config, state: &State) -> Option<bool> {
     let origin = Origin {
         node: NodeId(0),
@@ -63,7 +63,7 @@ fn is_printed(alloc: Global, config: &Config, state: &State) -> Option<bool> {
     Some(!head.is_empty() && !text.is_empty())
 }
 
-/// Whether all of it holds of the state in which the first node came up.
+/// True if all of this holds in the state after the first node came up.
 fn all_hold(alloc: Global) -> Option<bool> {
     let config = read_config(alloc, TWO).ok()?;
     let state = up(alloc)?;

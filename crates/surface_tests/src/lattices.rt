@@ -10,13 +10,13 @@ pub const ORIGIN: Origin = Origin {
     inc: 1,
 };
 
-/// A dot of it.
+/// The first dot of `ORIGIN`.
 pub const FIRST: Dot = Dot {
     origin: ORIGIN,
     n: 1,
 };
 
-/// The dot behind that.
+/// The second dot of `ORIGIN`.
 pub const SECOND: Dot = Dot {
     origin: ORIGIN,
     n: 2,
@@ -29,7 +29,7 @@ pub fn first_alone(alloc: Global) -> Result<Context, NoMemory> {
     Ok(context)
 }
 
-/// Whether a context and its union with itself are told alike.
+/// True if a context agrees with its union with itself.
 fn is_united(alloc: Global) -> Result<bool, NoMemory> {
     let context = first_alone(alloc)?;
     let both: Context = context.union(&context)?.copy()?;
@@ -44,7 +44,7 @@ fn is_united(alloc: Global) -> Result<bool, NoMemory> {
     )
 }
 
-/// Whether a row is put behind none, and read again.
+/// True if a row is appended to an empty context and read again.
 fn is_row_read(alloc: Global) -> Result<bool, NoMemory> {
     let mut context = Context::empty(alloc);
     let is_put: bool = context.push_row(ORIGIN, 3, &[5])?;
@@ -60,44 +60,44 @@ fn is_row_read(alloc: Global) -> Result<bool, NoMemory> {
     Ok(is_put && row)
 }
 
-/// Whether a value joined with the least one is itself, through the bounds.
+/// True if joining the least value changes nothing, called through the bounds.
 fn is_above_bottom<L: Bottom>(alloc: Global, value: &L) -> Result<bool, NoMemory> {
     let joined: L = L::bottom(alloc).join(value)?.copy()?;
     Ok(value.leq(&joined) && joined.equal(value))
 }
 
-/// A pair of a number and of a map of numbers.
+/// A pair of a flag and a map of maxima.
 fn pair_of(alloc: Global) -> Result<Pair<Flag, MapOf<u64, Max<u64>>>, NoMemory> {
     let map: MapOf<u64, Max<u64>> = MapOf::one(alloc, 7u64, Max::new(3u64))?;
     Ok(Pair::new(Flag::Down, map))
 }
 
-/// Whether it is above the least pair.
+/// True if that pair is above the least one.
 fn is_pair_above(alloc: Global) -> Result<bool, NoMemory> {
     is_above_bottom(alloc, &pair_of(alloc)?)
 }
 
-/// Whether a map with this key keeps what is put there.
+/// True if a map with this key equals itself.
 fn is_keyed<K: MapKey>(alloc: Global, key: K) -> Result<bool, NoMemory> {
     let map: MapOf<K, Max<u64>> = MapOf::one(alloc, key, Max::new(1u64))?;
     Ok(map.equal(&map))
 }
 
-/// Whether maps go by unsigned numbers of each width.
+/// True if unsigned numbers of each width are keys.
 fn are_keyed_by_unsigned(alloc: Global) -> Result<bool, NoMemory> {
     let is_short = is_keyed(alloc, 3u8)? && is_keyed(alloc, 3u16)? && is_keyed(alloc, 3u32)?;
     let is_long = is_keyed(alloc, 3u64)? && is_keyed(alloc, 3u128)? && is_keyed(alloc, 3usize)?;
     Ok(is_short && is_long)
 }
 
-/// Whether maps go by signed numbers of each width.
+/// True if signed numbers of each width are keys.
 fn are_keyed_by_signed(alloc: Global) -> Result<bool, NoMemory> {
     let is_short = is_keyed(alloc, -3i8)? && is_keyed(alloc, -3i16)? && is_keyed(alloc, -3i32)?;
     let is_long = is_keyed(alloc, -3i64)? && is_keyed(alloc, -3i128)? && is_keyed(alloc, -3isize)?;
     Ok(is_short && is_long)
 }
 
-/// Whether maps go by truth values and by pairs of keys.
+/// True if Booleans and pairs of keys are keys.
 fn are_keyed_by_others(alloc: Global) -> Result<bool, NoMemory> {
     Ok(is_keyed(alloc, true)? && is_keyed(alloc, (3i64, true))?)
 }

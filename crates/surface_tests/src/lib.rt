@@ -1,11 +1,11 @@
-//! Each public name, by the crate that bears it, used once.
+//! Uses each public name once, from the crate that offers it.
 //!
-//! Users write against fifteen crates: `dac_config`, `dac_dots`, `dac_lattice`, `dac_store`, `dac_chains`, `dac_wishes`, `dac_state`,
-//! `dac_deltas`, `dac_decide`, `dac_wire`, `dac_core`, `dac_status`, `dac_live`, `dac_weave` and the program `distac`. What the first
-//! fourteen offer may stand in crates behind them. Here each name is imported by the crate that offers it, and called with the
-//! arguments and answers that users rely on, and each enum is matched variant by variant. So a name that goes missing, or changes,
-//! fails the tests, and so does a variant that is added. What the calls answer is said by their contracts, and asked here only as
-//! far as an assertion needs it.
+//! Users program against fifteen crates: `dac_config`, `dac_dots`, `dac_lattice`, `dac_store`, `dac_chains`,
+//! `dac_wishes`, `dac_state`, `dac_deltas`, `dac_decide`, `dac_wire`, `dac_core`, `dac_status`, `dac_live`, `dac_weave`
+//! and the program `distac`. The first fourteen re-export names of internal crates. Here each name is imported from the
+//! public crate and used with the types that users rely on, and each enum is matched variant by variant, so that a
+//! missing, changed or added name fails the tests. Contracts determine the results, which are asserted only where a
+//! test needs an assertion.
 #![tactic(auto)]
 
 #[cfg(test)]

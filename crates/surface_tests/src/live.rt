@@ -19,7 +19,7 @@ use std::sync::Wait;
 use std::test::Fail;
 use std::thread::Threads;
 
-/// A gate that holds nobody.
+/// A gate that never delays a message.
 #[derive(Drop)]
 struct Open;
 
@@ -29,7 +29,7 @@ impl Gate for Open {
     fn after(&self, _from: NodeId, _to: NodeId, _k: u64) {}
 }
 
-/// The place of the page that is read behind a boot. It is fresh if it is read again.
+/// The place of the page read after a boot, if reading it again is fresh.
 fn read_at<L: SiteName, R: Wait>(
     rt: &R,
     site: &Site<L>,
@@ -47,7 +47,7 @@ fn read_at<L: SiteName, R: Wait>(
     }
 }
 
-/// What the two workers of links say whose other ends are gone.
+/// True if both workers of a link fail after its other end is dropped.
 fn workers_end<L: SiteName, R: Wait>(
     rt: &R,
     alloc: Global,
@@ -69,7 +69,7 @@ fn workers_end<L: SiteName, R: Wait>(
     Some(shipped.is_err() && heard.is_err())
 }
 
-/// A site with one seat and one reader: whether its page, its links and its journal are as they are to be.
+/// True if a site with one seat and one reader has the page, links and journal that it should.
 fn is_called<L: SiteName, R: Wait>(
     rt: &R,
     alloc: Global,
@@ -90,14 +90,14 @@ fn is_called<L: SiteName, R: Wait>(
     Some(all && closed.node() == NodeId(0) && closed.last() == 0 && !records.is_empty())
 }
 
-/// The same, from the configuration on.
+/// The result of [`is_called`] for a new site.
 fn is_opened<R: Wait>(rt: &R, alloc: Global) -> Option<bool> {
     let config = read_config(alloc, TWO).ok()?;
     let blank: SiteBlank = blank_site(rt, alloc, &config, NodeId(0), 0, 1, 1).ok()?;
     is_called::<Brand, R>(rt, alloc, &config, blank)
 }
 
-/// Whether a record is added to a journal that is lent, and is no call of another seat.
+/// True if a record is added to a borrowed journal, and belongs to no other seat.
 fn is_recorded<R: Wait>(rt: &R, alloc: Global) -> Option<bool> {
     let config = read_config(alloc, TWO).ok()?;
     let blank: Result<SiteBlank, OpenFault> = blank_site(rt, alloc, &config, NodeId(0), 0, 2, 0);
@@ -107,7 +107,7 @@ fn is_recorded<R: Wait>(rt: &R, alloc: Global) -> Option<bool> {
     Some(added.is_ok() && same_calls(journal.records(), 2, &[]).is_none())
 }
 
-/// Whether a letter comes out of a link as it was put in.
+/// True if a link delivers a letter.
 fn is_carried<R: Wait>(rt: &R, alloc: Global) -> Option<bool> {
     let (mut out, mut into): (LinkSender, LinkReceiver) = link(alloc, 64).ok()?;
     let put: Result<(), Gone> = out.put(rt, Letter::end());
@@ -115,7 +115,7 @@ fn is_carried<R: Wait>(rt: &R, alloc: Global) -> Option<bool> {
     Some(put.is_ok() && letter.into_bytes().is_none())
 }
 
-/// A phase in which the first node is booted, and its page read.
+/// A phase in which the first node is booted and its page read.
 fn phases(alloc: Global) -> Option<Vec<Phase>> {
     let mut lines = Vec::new(alloc);
     for what in [Ask::Do(Event::Boot { now: 0 }), Ask::Read] {
@@ -131,7 +131,7 @@ fn phases(alloc: Global) -> Option<Vec<Phase>> {
     Some(phases)
 }
 
-/// Whether the first answer of a report is a boot's.
+/// True if the report's first result is an accepted boot.
 fn is_first_done(report: &LiveReport) -> bool {
     match report.answers.as_slice().first() {
         Some(answers) => match answers.as_slice().first() {
@@ -144,7 +144,7 @@ fn is_first_done(report: &LiveReport) -> bool {
     }
 }
 
-/// Whether the phases run at both nodes, and the journals are woven into one run.
+/// True if the phases run at both nodes, and the journals are woven.
 fn is_run<R: Threads + Wait + Sync>(rt: &R, alloc: Global) -> Option<bool> {
     let config = read_config(alloc, TWO).ok()?;
     let phases = phases(alloc)?;

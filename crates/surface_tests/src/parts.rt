@@ -16,7 +16,7 @@ const KEY: Key = Key {
     inc: 1,
 };
 
-/// What an operation adds to a piece, through the bound.
+/// The delta of an operation, called through the bound.
 pub fn delta_of<P: Piece>(alloc: Global, dot: Dot, act: &P::Act) -> Result<P, NoMemory> {
     P::delta(alloc, dot, act)
 }
@@ -28,7 +28,7 @@ pub fn up(alloc: Global) -> Option<State> {
     State::delta_of(alloc, &op).ok()
 }
 
-/// Whether the parts say that the node is up, and nothing of its application.
+/// True if the pieces say only that the node is up.
 fn is_up_alone(lives: &Lives, claims: &Claims, permissions: &Permissions, wishes: &Wishes) -> bool {
     let life: Option<(u64, Flag)> = lives.life(NodeId(0));
     let claim: Option<Claim> = claims.greatest(AppId(0));
@@ -41,19 +41,19 @@ fn is_up_alone(lives: &Lives, claims: &Claims, permissions: &Permissions, wishes
         && wishes.dots(KEY).is_empty()
 }
 
-/// Whether nothing says that the node is drained.
+/// True if the node isn't drained.
 fn is_not_drained(drains: &Drains) -> bool {
     !drains.drained(NodeId(0), 1) && drains.dots(NodeId(0), 1).is_empty()
 }
 
-/// Whether the state heard and knows the node's first operation alone.
+/// True if only the node's first operation is heard and known.
 fn heard_one(state: &State) -> bool {
     let heard: &Context = state.heard();
     let known: &Context = state.known();
     heard.len() == 1 && known.contains(FIRST)
 }
 
-/// Whether a state is read from its bytes, and not from bytes of the older version.
+/// True if a state is read from its bytes, and these aren't valid in the older version.
 fn is_read(alloc: Global, config: &Config, state: &State) -> Option<bool> {
     let bytes: Vec<u8> = state.encode().ok()?;
     let read: State = State::decode(alloc, config, bytes.as_slice()).ok()?;
@@ -62,7 +62,7 @@ fn is_read(alloc: Global, config: &Config, state: &State) -> Option<bool> {
     Some(read.equal(state) && kind.is_some())
 }
 
-/// Whether the state after the first operation is told by all its readers.
+/// True if all readers of a state agree that one node came up.
 fn is_told(alloc: Global) -> Option<bool> {
     let config = read_config(alloc, TWO).ok()?;
     let state = State::bottom(alloc).join(&up(alloc)?).ok()?.copy().ok()?;
@@ -80,13 +80,13 @@ fn is_told(alloc: Global) -> Option<bool> {
     )
 }
 
-/// Why an act that replaces its own dot is no operation.
+/// The fault of an act that replaces its own dot.
 fn fault_of(alloc: Global) -> Option<OpFault> {
     let over = DotList::new(Vec::from_slice(alloc, &[SECOND]).ok()?);
     Op::new(SECOND, Act::Start { key: KEY, over }).err()
 }
 
-/// The other acts, each of the first node.
+/// The acts other than `Up` and `Start`.
 fn acts(alloc: Global) -> [Act; 5] {
     let none = || DotList::new(Vec::new(alloc));
     [
@@ -118,7 +118,7 @@ fn acts(alloc: Global) -> [Act; 5] {
     ]
 }
 
-/// Whether each of them is an operation.
+/// True if each of these acts makes an operation.
 fn are_operations(alloc: Global) -> bool {
     let [down, permit, stop, drain, claim] = acts(alloc);
     Op::new(SECOND, down).is_ok()

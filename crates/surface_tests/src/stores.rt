@@ -7,7 +7,7 @@ use dac_lattice::{Lattice, Max};
 use dac_store::{Causal, DotFun, DotMap, DotSet, DotStore};
 use std::alloc::Global;
 
-/// Whether a store with the first dot stays as it is, joined with an empty one that heard nothing.
+/// True if a store keeps its dot when joined with an empty one that heard nothing.
 fn stays<S: DotStore>(alloc: Global, store: &S) -> Result<bool, NoMemory> {
     let heard = first_alone(alloc)?;
     let nothing = Context::empty(alloc);
@@ -20,7 +20,7 @@ fn stays<S: DotStore>(alloc: Global, store: &S) -> Result<bool, NoMemory> {
     )
 }
 
-/// A set, a function and a map that have the first dot.
+/// True if a set, a function and a map keep their dot.
 fn all_stay(alloc: Global) -> Result<bool, NoMemory> {
     let set: DotSet = DotSet::one(alloc, FIRST)?;
     let fun: DotFun<Max<u64>> = DotFun::one(alloc, FIRST, Max::new(4u64))?;
@@ -28,7 +28,7 @@ fn all_stay(alloc: Global) -> Result<bool, NoMemory> {
     Ok(stays(alloc, &set)? && stays(alloc, &fun)? && stays(alloc, &map)?)
 }
 
-/// Whether a set beside a context without its dot is handed back, and one beside its dot is a lattice's value.
+/// True if a set is refused with a context that lacks its dot, and joined with one that has it.
 fn is_causal(alloc: Global) -> Result<bool, NoMemory> {
     let refused = Causal::new(DotSet::one(alloc, SECOND)?, first_alone(alloc)?).is_err();
     match Causal::new(DotSet::one(alloc, FIRST)?, first_alone(alloc)?) {
@@ -37,7 +37,7 @@ fn is_causal(alloc: Global) -> Result<bool, NoMemory> {
     }
 }
 
-/// Whether a buffer of one delta has it as its interval and its block.
+/// True if a log of one delta returns it as its interval and block.
 fn is_buffered(alloc: Global) -> Result<bool, NoMemory> {
     let mut buffer: Buffer<Max<u64>> = Buffer::new(alloc);
     buffer.push(Max::new(3u64))?;
@@ -54,7 +54,7 @@ fn is_buffered(alloc: Global) -> Result<bool, NoMemory> {
     Ok(interval.is_some() && blocks.is_some() && buffer.base() == 1)
 }
 
-/// Whether the greater of two acknowledgements is kept.
+/// True if the greater of two acknowledgements stays.
 fn is_acknowledged(alloc: Global) -> Result<bool, NoMemory> {
     let mut acks = Acks::new(alloc);
     acks.raise(ORIGIN, 3)?;

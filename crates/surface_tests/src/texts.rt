@@ -5,7 +5,7 @@ use std::alloc::Global;
 /// Two nodes and an application.
 pub const TWO: &[u8] = b"[{kernel,[{distributed,[{a,[x@h,y@h]}]}]}].";
 
-/// What a configuration says of its first node.
+/// True if the first node has these properties.
 fn node_is_told(config: &Config) -> bool {
     let node = NodeId(0);
     let name: &[u8] = b"x@h";
@@ -16,7 +16,7 @@ fn node_is_told(config: &Config) -> bool {
         && !config.optional(node)
 }
 
-/// What it says of its application.
+/// True if the application has these properties.
 fn application_is_told(config: &Config) -> bool {
     let app = AppId(0);
     let name: &[u8] = b"a";
@@ -28,7 +28,7 @@ fn application_is_told(config: &Config) -> bool {
         && config.default_permission(app)
 }
 
-/// Whether a configuration and its copy have one text and one mark.
+/// True if a configuration and its copy have the same text and mark.
 fn has_one_text(config: &Config) -> Result<bool, NoMemory> {
     let copy: Config = config.copy()?;
     let text: Vec<u8> = config.canonical_text()?;
@@ -36,7 +36,7 @@ fn has_one_text(config: &Config) -> Result<bool, NoMemory> {
     Ok(copy.canonical_text()?.as_slice() == text.as_slice() && mark == config.mark())
 }
 
-/// Whether what a configuration says is so.
+/// True if the configuration `TWO` has all of this.
 fn is_told(alloc: Global) -> Option<bool> {
     let config = read_config(alloc, TWO).ok()?;
     let waits = match config.sync_wait() {
@@ -52,7 +52,7 @@ fn is_told(alloc: Global) -> Option<bool> {
     )
 }
 
-/// The fault of a text that isn't a configuration.
+/// The fault of an incomplete configuration.
 fn fault_of(alloc: Global) -> Option<(FaultKind, usize)> {
     match read_config(alloc, b"[{kernel,[") {
         Ok(_config) => None,

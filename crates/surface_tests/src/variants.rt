@@ -1,7 +1,7 @@
 //! Each variant of each public enum, by the crate that offers it.
 //!
-//! A variant that goes missing, is renamed or is added leaves one of these functions uncompiled. Each answers the place of its
-//! value, from 1. Where variants have numbers of their own, the tables have all of them, and the places are these numbers.
+//! If a variant is removed, renamed or added, one of these functions doesn't compile. Each returns the position of its
+//! value, from 1. For enums with public numbers, tables contain all variants, whose positions are these numbers.
 use crate::worlds::message;
 use dac_config::{FaultKind, NodeId, SyncWait};
 use dac_core::{Command, Event, Refusal, Reply, What, WorldFault};

@@ -9,7 +9,6 @@ use dac_state::{Op, State};
 use dac_wire::{Body, Message, Packet, WireFault, WireFaultKind, decode, encode};
 use std::alloc::Global;
 
-/// A node that is up.
 fn booted(alloc: Global, config: &Config) -> Option<Node> {
     let mut node = Node::off(alloc, 4).copy().ok()?;
     let reply: Reply = node
@@ -23,7 +22,7 @@ fn booted(alloc: Global, config: &Config) -> Option<Node> {
     }
 }
 
-/// Whether a node says who it is, and refuses what it may not do.
+/// True if a booted node has an incarnation and a state, and refuses a takeover that it isn't eligible for.
 fn is_up(alloc: Global) -> Option<bool> {
     let config = read_config(alloc, TWO).ok()?;
     let mut node = booted(alloc, &config)?;
@@ -37,7 +36,7 @@ fn is_up(alloc: Global) -> Option<bool> {
     Some(all && why == Some(Refusal::NotEligible))
 }
 
-/// A message that carries nothing.
+/// A message without a state.
 pub fn message() -> Message {
     let from = Origin {
         node: NodeId(0),
@@ -53,7 +52,7 @@ pub fn message() -> Message {
     }
 }
 
-/// Whether a message is read from its bytes, and not from fewer.
+/// True if a message is read from its bytes, and a prefix is refused.
 fn is_read(alloc: Global) -> Option<bool> {
     let config = read_config(alloc, TWO).ok()?;
     let packet = Packet::Msg(message().copy().ok()?);
@@ -66,7 +65,7 @@ fn is_read(alloc: Global) -> Option<bool> {
     Some(read && fault.map(|fault| fault.kind) == Some(WireFaultKind::BadMagic))
 }
 
-/// Two boots, one of them of a node that isn't there.
+/// Two boots, one at an unconfigured node.
 fn events(alloc: Global) -> Option<Vec<WorldEvent>> {
     let mut events = Vec::new(alloc);
     for node in [0u8, 9] {
@@ -81,7 +80,7 @@ fn events(alloc: Global) -> Option<Vec<WorldEvent>> {
     Some(events)
 }
 
-/// Whether a world answers each event, and goes on by a step.
+/// True if a world returns a result for each event, and runs a further step.
 fn goes_on(alloc: Global) -> Option<bool> {
     let config = read_config(alloc, TWO).ok()?;
     let (mut world, answers): (World, Vec<Result<Reply, WorldFault>>) = World::run(
@@ -99,7 +98,7 @@ fn goes_on(alloc: Global) -> Option<bool> {
     Some(answers.len() == 2 && crashed.is_ok() && operations.len() == 1 && messages.is_empty())
 }
 
-/// Whether the nodes of a new world are off.
+/// True if the nodes of a new world are off.
 fn begins_off(alloc: Global) -> Option<bool> {
     let config = read_config(alloc, TWO).ok()?;
     let world = World::new(alloc, &config).ok()?;
@@ -109,7 +108,7 @@ fn begins_off(alloc: Global) -> Option<bool> {
     Some(world.node(NodeId(0)).state().is_none())
 }
 
-/// Whether lists give back what they were made of.
+/// True if lists return their contents.
 fn are_given_back(alloc: Global) -> Option<bool> {
     let mut apps = Vec::new(alloc);
     apps.push(AppId(0)).ok()?;

@@ -1,4 +1,4 @@
-//! Configurations: what is asked of them, their canonical text and their mark.
+//! Configurations: their queries, canonical text and mark.
 use crate::sample::{EXAMPLE, config};
 use dac_base::{AppId, NoMemory, NodeId};
 use dac_config::{Config, SyncWait, is_bare, printed_name, read_config};
@@ -24,14 +24,14 @@ const PERMISSIONS_IN_ONE_LINE: &[u8] =
 
 const MARK_OF_EXAMPLE: u64 = 15451059380765602643;
 
-/// The nodes of the example: the name of each, whether it is mandatory and whether it is optional.
+/// Name of each node of the example, whether it's mandatory, and whether it's optional.
 const NODES: &[(&[u8], bool, bool)] = &[
     (b"cp1@cave", false, false),
     (b"cp2@cave", true, false),
     (b"cp3@cave", true, false),
 ];
 
-/// Whether a node has this name and is mandatory or optional so.
+/// True if a node has these properties.
 fn is_node(config: &Config, node: NodeId, name: &[u8], mandatory: bool, optional: bool) -> bool {
     node.0 < config.nodes()
         && config.node_name(node) == name
@@ -39,7 +39,7 @@ fn is_node(config: &Config, node: NodeId, name: &[u8], mandatory: bool, optional
         && config.optional(node) == optional
 }
 
-/// Whether the nodes of the example are these, and are found by their names.
+/// True if the example's nodes are found by name.
 fn are_nodes(config: &Config) -> bool {
     for (name, mandatory, optional) in NODES {
         let Some(node) = config.node_named(name) else {
@@ -60,7 +60,7 @@ fn nodes_by_name(rt: HostRuntime) {
     }
 }
 
-/// Whether the application of this number has this name, and is permitted or not where nothing is said.
+/// True if an application has these properties.
 fn is_app(config: &Config, app: AppId, name: &[u8], timeout: u32, permitted: bool) -> bool {
     app.0 < config.apps()
         && config.app_name(app) == name
@@ -68,7 +68,7 @@ fn is_app(config: &Config, app: AppId, name: &[u8], timeout: u32, permitted: boo
         && config.default_permission(app) == permitted
 }
 
-/// Texts, each with an application by its number: its name, its timeout, and whether it is permitted.
+/// Text, and number, name, timeout and default permission of one of its applications.
 const APPS: &[(&[u8], u16, &[u8], u32, bool)] = &[
     (TWO_APPLICATIONS, 0, b"b", 5000, true),
     (TWO_APPLICATIONS, 1, b"a", 0, true),
@@ -77,7 +77,7 @@ const APPS: &[(&[u8], u16, &[u8], u32, bool)] = &[
     (PERMISSIONS, 2, b"c", 0, true),
 ];
 
-/// Whether a copy of a configuration has this application, and finds it by its name.
+/// True if a copy of the configuration has this application and finds it by name.
 fn has_app(
     config: &Config,
     app: AppId,
@@ -102,7 +102,7 @@ fn applications_by_place(rt: HostRuntime) {
     }
 }
 
-/// The groups of the four nodes in the lists of the two applications.
+/// Application, node, and the node's group in the application's list.
 const GROUPS: &[(u16, u8, Option<u16>)] = &[
     (0, 0, None),
     (0, 1, Some(0)),
@@ -112,7 +112,7 @@ const GROUPS: &[(u16, u8, Option<u16>)] = &[
     (1, 2, Some(0)),
 ];
 
-/// Whether each node is in its group.
+/// True if each node is in its group.
 fn are_groups(config: &Config) -> bool {
     for (app, node, group) in GROUPS {
         if *app >= config.apps() || config.group_of(AppId(*app), NodeId(*node)) != *group {
@@ -131,7 +131,7 @@ fn groups_of_a_list(rt: HostRuntime) {
     }
 }
 
-/// Texts, each with its canonical text.
+/// Text and canonical text.
 const TEXTS: &[(&[u8], &[u8])] = &[
     (EXAMPLE, EXAMPLE_IN_ONE_LINE),
     (EXAMPLE_WITH_A_COMMENT, EXAMPLE_IN_ONE_LINE),
@@ -142,7 +142,7 @@ const TEXTS: &[(&[u8], &[u8])] = &[
     (PERMISSIONS_IN_ONE_LINE, PERMISSIONS_IN_ONE_LINE),
 ];
 
-/// Whether this is the canonical text of a configuration.
+/// True if the text's configuration has this canonical text.
 fn is_canonical(alloc: Global, text: &[u8], wanted: &[u8]) -> Option<bool> {
     let canonical = config(alloc, text)?.canonical_text().ok()?;
     Some(canonical.as_slice() == wanted)
@@ -155,7 +155,6 @@ fn one_text(rt: HostRuntime) {
     }
 }
 
-/// The mark of a configuration.
 fn mark(alloc: Global, text: &[u8]) -> Option<u64> {
     Some(config(alloc, text)?.mark())
 }
@@ -171,14 +170,14 @@ fn refused_without_nodes(rt: HostRuntime) {
     assert!(rt; read_config(rt.alloc(), b"[].").is_err());
 }
 
-/// Names, each with what is printed for it.
+/// Name and printed form.
 const NAMES: &[(&[u8], &[u8])] = &[
     (b"n-1@h.example", b"'n-1@h.example'"),
     (b"cp1@cave", b"cp1@cave"),
     (b"fun", b"'fun'"),
 ];
 
-/// Whether a name is printed so, and is bare where nothing is put around it.
+/// True if a name is printed like this, unquoted exactly if it's a bare atom.
 fn is_printed(alloc: Global, name: &[u8], wanted: &[u8]) -> Result<bool, NoMemory> {
     let printed = printed_name(alloc, name)?;
     Ok(printed.as_slice() == wanted && is_bare(name) == (name == wanted))

@@ -1,7 +1,7 @@
 //! Tests of texts: tokens, shapes and configurations.
 //!
-//! The crates below are proved. So here stand the rows and the faults of the texts, each public call once with ample
-//! memory, and nothing that a contract says wholly.
+//! These crates are proved, so the tests cover what contracts can't: rows and faults of the texts, and each public call
+//! once with enough memory.
 #![tactic(auto)]
 
 #[cfg(test)]

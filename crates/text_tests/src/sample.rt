@@ -1,4 +1,4 @@
-//! A configuration that the tests share, and what a fault is.
+//! Shared samples.
 use dac_config::{Config, ConfigFault, FaultKind, read_config};
 use std::alloc::Global;
 
@@ -6,12 +6,12 @@ use std::alloc::Global;
 pub const EXAMPLE: &[u8] =
     b"[{kernel,\n [{distributed, [{myapp, 5000, [cp1@cave, {cp2@cave, cp3@cave}]}]},\n {sync_nodes_mandatory, [cp2@cave, cp3@cave]},\n {sync_nodes_timeout, 5000}\n ]\n }\n].";
 
-/// A configuration, if it is accepted.
+/// A configuration, or `None` if it's refused.
 pub fn config(alloc: Global, text: &[u8]) -> Option<Config> {
     read_config(alloc, text).ok()
 }
 
-/// Whether this is the fault that comes of a text.
+/// True if the fault has this kind and place.
 pub fn is_fault(fault: Option<ConfigFault>, kind: FaultKind, at: usize) -> bool {
     fault == Some(ConfigFault { kind, at })
 }

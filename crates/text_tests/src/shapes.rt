@@ -1,4 +1,4 @@
-//! Configuration files: which are read, and the first fault of the others at its place.
+//! Configuration files: which are accepted, and the first fault of the others.
 use crate::sample::{EXAMPLE, is_fault};
 use dac_first_fault::read_draft;
 use dac_shapes::{MAX_APPS, MAX_NAME, MAX_NODES, MAX_TEXT, SyncWait};
@@ -9,7 +9,7 @@ fn fault_of(alloc: Global, text: &[u8]) -> Option<ConfigFault> {
     read_draft(alloc, text).err()
 }
 
-/// Files, each with how many applications, permissions and nodes it names, and how long its nodes wait.
+/// File, its numbers of applications, permissions and nodes, and its start-gate wait.
 const FILES: &[(&[u8], (usize, usize, usize, SyncWait))] = &[
     (EXAMPLE, (1, 0, 3, SyncWait::Ms(5000))),
     (
@@ -24,7 +24,7 @@ const FILES: &[(&[u8], (usize, usize, usize, SyncWait))] = &[
         b"[{sasl,[{f,\"x.log\"}]},{kernel,[{distributed,[{myapp,['n-1@h.example',{a@h}]}]}]}].",
         (1, 0, 2, SyncWait::NoSync),
     ),
-    // Terms in terms, strings in a row, a large number; parameters and sections that aren't read may repeat.
+    // Nested terms, adjacent strings, a large number; unused parameters and sections can repeat.
     (
         b"[{k,{-99999999999,[],{}}},{'kernel',[{f,\"a\" \"b\"},{f,[{b,[1,\"\"]},c]},{distributed,[{x,[n]}]}]},{k,x}].",
         (1, 0, 1, SyncWait::NoSync),
@@ -35,7 +35,7 @@ const FILES: &[(&[u8], (usize, usize, usize, SyncWait))] = &[
     ),
 ];
 
-/// Whether a file is read and names so many applications, permissions and nodes, which wait so long.
+/// True if a file is accepted with these numbers and wait.
 fn is_read(alloc: Global, text: &[u8], wanted: (usize, usize, usize, SyncWait)) -> bool {
     match read_draft(alloc, text) {
         Ok(draft) => {
@@ -58,7 +58,7 @@ fn files_that_are_read(rt: HostRuntime) {
     }
 }
 
-/// Files, each with the first fault and its place.
+/// File, and its first fault with its place.
 const FAULTS: &[(&str, FaultKind, usize)] = &[
     (
         "[{kernel,[{distributed,[{a,[b@h,{c@h,b@h}]}]}]}].",
@@ -190,7 +190,7 @@ fn faults_at_their_places(rt: HostRuntime) {
     }
 }
 
-/// So many names of two letters, `aa`, `ab` and so on, each between these bytes, with commas between them.
+/// `count` names `aa`, `ab` and so on, each between `open` and `close`, separated by commas.
 fn names(alloc: Global, count: u8, open: &[u8], close: &[u8]) -> Result<Vec<u8>, AllocError> {
     let mut names = Vec::new(alloc);
     for i in 0..count {
@@ -205,7 +205,7 @@ fn names(alloc: Global, count: u8, open: &[u8], close: &[u8]) -> Result<Vec<u8>,
     Ok(names)
 }
 
-/// The fault of a text whose parameter `distributed` lists these bytes, between others.
+/// The fault of a text with these bytes in its parameter `distributed`.
 fn fault_of_list(
     alloc: Global,
     open: &[u8],
@@ -219,27 +219,27 @@ fn fault_of_list(
     Ok(fault_of(alloc, &text))
 }
 
-/// The fault of so many applications.
+/// The fault of a text with `count` applications.
 fn fault_of_apps(alloc: Global, count: u8) -> Result<Option<ConfigFault>, AllocError> {
     fault_of_list(alloc, b"", &names(alloc, count, b"{", b",[n]}")?, b"")
 }
 
-/// The fault of so many nodes in a list.
+/// The fault of a text with `count` nodes in a list.
 fn fault_of_nodes(alloc: Global, count: u8) -> Result<Option<ConfigFault>, AllocError> {
     fault_of_list(alloc, b"{a,[", &names(alloc, count, b"", b"")?, b"]}")
 }
 
-/// The fault of a name of so many bytes.
+/// The fault of a text with a name of `length` bytes.
 fn fault_of_name(alloc: Global, length: usize) -> Result<Option<ConfigFault>, AllocError> {
     fault_of_list(alloc, b"{", &vec![in alloc; b'a'; length]?, b",[b]}")
 }
 
-/// The fault of so many spaces.
+/// The fault of `count` spaces.
 fn fault_of_spaces(alloc: Global, count: usize) -> Result<Option<ConfigFault>, AllocError> {
     Ok(fault_of(alloc, &vec![in alloc; b' '; count]?))
 }
 
-/// Whether there was memory, and this is the fault.
+/// True if the fault has this kind and place.
 fn is_told(fault: Result<Option<ConfigFault>, AllocError>, kind: FaultKind, at: usize) -> bool {
     match fault {
         Ok(fault) => is_fault(fault, kind, at),
@@ -256,10 +256,10 @@ fn most_that_may_be(rt: HostRuntime) {
 
 #[test]
 fn one_more_than_may_be(rt: HostRuntime) {
-    // The 65th application stands behind 64 of 8 bytes with their commas.
+    // The 65th application follows 64 of 8 bytes and a comma each.
     let place = 24 + 64 * 9 + 1;
     assert!(rt; is_told(fault_of_apps(rt.alloc(), 65), FaultKind::TooManyApps, place));
-    // So does the 65th node behind 64 of 2.
+    // The 65th node follows 64 of 2 bytes and a comma each.
     let place = 28 + 64 * 3;
     assert!(rt;
         is_told(

@@ -1,4 +1,4 @@
-//! Tokens: a text of each kind, and how faults are printed.
+//! Tokens of each kind, and their faults.
 use crate::sample::is_fault;
 use dac_base::NoMemory;
 use dac_tokens::{ConfigFault, FaultKind, Located, MAX_DEPTH, Symbol, Token, Tokens};
@@ -19,7 +19,7 @@ fn fault_of(text: &[u8]) -> Option<ConfigFault> {
     None
 }
 
-/// Texts, each with the first fault of its tokens and the fault's place.
+/// Text, and the first fault of its tokens with its place.
 const FAULTS: &[(&[u8], FaultKind, usize)] = &[
     (b"[{kernel,[;", FaultKind::BadToken, 10),
     (b"[].a", FaultKind::BadToken, 2),
@@ -43,7 +43,6 @@ fn faults_of_tokens(rt: HostRuntime) {
     }
 }
 
-/// Texts whose tokens have no fault.
 const ACCEPTED: &[&[u8]] = &[
     b"['fun',funs,'','a\"% \x80\xff'a].% end",
     b"[\"\",\"'%;\n\x80\"\"b\"]",
@@ -66,7 +65,7 @@ fn brackets_may_be_64_deep(rt: HostRuntime) {
 
 const TEXT: &[u8] = b" [{a1,-05 ]\"a\". ";
 
-/// The tokens of the text, each with its place. The end comes again.
+/// The tokens of the text with their places. After the end, the end is returned again.
 const TOKENS: &[(Token<'static>, usize)] = &[
     (Token::Symbol(Symbol::OpenList), 1),
     (Token::Symbol(Symbol::OpenTuple), 2),
@@ -86,7 +85,6 @@ const TOKENS: &[(Token<'static>, usize)] = &[
     (Token::End, 16),
 ];
 
-/// Whether the next token is this one.
 fn comes(tokens: &mut Tokens<'_>, token: Token<'_>, at: usize) -> bool {
     tokens.next() == Ok(Located { token, at })
 }
@@ -99,7 +97,7 @@ fn tokens_in_order(rt: HostRuntime) {
     }
 }
 
-/// The kinds of faults by their numbers, each with its name.
+/// The kinds of faults in the order of their numbers, with their names.
 const KINDS: &[(FaultKind, &str)] = &[
     (FaultKind::TooLong, "TooLong"),
     (FaultKind::BadToken, "BadToken"),
@@ -117,7 +115,7 @@ const KINDS: &[(FaultKind, &str)] = &[
     (FaultKind::NoMemory, "NoMemory"),
 ];
 
-/// Whether a kind has this number and this name, by which it is also printed.
+/// True if a kind has this number and name, and is printed by the name.
 fn is_named(alloc: Global, kind: FaultKind, number: usize, name: &str) -> Option<bool> {
     let printed = format!(in alloc; "{kind}").ok()?;
     Some(usize::from(kind.number()) == number && kind.name() == name && printed.as_str() == name)
@@ -133,7 +131,6 @@ fn kinds_by_number_and_name(rt: HostRuntime) {
     }
 }
 
-/// How a fault is printed.
 fn print_fault(alloc: Global, kind: FaultKind, at: usize) -> Option<String> {
     let fault = ConfigFault { kind, at };
     format!(in alloc; "{fault}").ok()

@@ -1,7 +1,7 @@
-//! Bytes that spell states and packets.
+//! Bytes of states and packets.
 use crate::sample::{OTHER, config, message};
 use crate::states::{all_of, of_state};
-use crate::trial::{Bench, Said, of_bytes};
+use crate::trial::{Fixture, Said, of_bytes};
 use dac_base::NoMemory;
 use dac_bytes::{ByteWriter, Version};
 use dac_config::Config;
@@ -11,7 +11,7 @@ use dac_state::{State, StateFault, StateFaultKind};
 use dac_wire::{Packet, WireFault, WireFaultKind, decode, encode};
 use std::alloc::Global;
 
-/// What is asked of a state or its bytes.
+/// A call of a state or its bytes.
 #[derive(Clone, Copy, Debug, PartialEq, Eq)]
 pub enum OfStateBytes {
     Encode,
@@ -22,7 +22,7 @@ pub enum OfStateBytes {
 
 /// A state with its bytes in both versions.
 #[derive(Drop)]
-pub struct StateBytesBench {
+pub struct StateBytesFixture {
     alloc: Global,
     asked: OfStateBytes,
     config: Config,
@@ -31,17 +31,17 @@ pub struct StateBytesBench {
     older: Vec<u8>,
 }
 
-/// The state in version 1.
+/// The bytes of a state in version 1.
 fn in_version_one(alloc: Global, state: &State) -> Result<Vec<u8>, NoMemory> {
     let writer = state.write(ByteWriter::new(alloc), Version::One)?;
     Ok(writer.into_bytes())
 }
 
-/// The bench of a call.
-pub fn state_bytes(alloc: Global, asked: OfStateBytes) -> Option<StateBytesBench> {
+/// The fixture of a state's bytes.
+pub fn state_bytes(alloc: Global, asked: OfStateBytes) -> Option<StateBytesFixture> {
     let config = config(alloc)?;
     let state = all_of(alloc, OTHER)?;
-    Some(StateBytesBench {
+    Some(StateBytesFixture {
         alloc,
         asked,
         bytes: state.encode().ok()?,
@@ -51,7 +51,7 @@ pub fn state_bytes(alloc: Global, asked: OfStateBytes) -> Option<StateBytesBench
     })
 }
 
-/// What a state answers that is read from its bytes.
+/// The outcome of decoding a state.
 fn of_read(answer: Result<State, StateFault>) -> Said {
     match answer {
         Err(fault) if fault.kind != StateFaultKind::NoMemory => Said::Other,
@@ -59,7 +59,7 @@ fn of_read(answer: Result<State, StateFault>) -> Said {
     }
 }
 
-impl Bench for StateBytesBench {
+impl Fixture for StateBytesFixture {
     fn call(&mut self) -> Said {
         let alloc = self.alloc;
         match self.asked {
@@ -75,7 +75,7 @@ impl Bench for StateBytesBench {
     }
 }
 
-/// What is asked of a packet or its bytes.
+/// A call of a packet or its bytes.
 #[derive(Clone, Copy, Debug, PartialEq, Eq)]
 pub enum OfPacket {
     Encode,
@@ -84,7 +84,7 @@ pub enum OfPacket {
 
 /// A packet with its bytes.
 #[derive(Drop)]
-pub struct PacketBench {
+pub struct PacketFixture {
     alloc: Global,
     asked: OfPacket,
     config: Config,
@@ -92,12 +92,12 @@ pub struct PacketBench {
     bytes: Vec<u8>,
 }
 
-/// The bench of a call.
-pub fn packets(alloc: Global, asked: OfPacket) -> Option<PacketBench> {
+/// The fixture of a packet's bytes.
+pub fn packets(alloc: Global, asked: OfPacket) -> Option<PacketFixture> {
     let config = config(alloc)?;
     let state = all_of(alloc, OTHER)?;
     let packet = Packet::Msg(message(Body::Whole(state), 1));
-    Some(PacketBench {
+    Some(PacketFixture {
         alloc,
         asked,
         bytes: encode(alloc, &config, &packet).ok()?,
@@ -106,7 +106,7 @@ pub fn packets(alloc: Global, asked: OfPacket) -> Option<PacketBench> {
     })
 }
 
-/// What an answer of bytes of a packet says.
+/// The outcome of encoding a packet.
 fn of_packet_bytes(answer: Result<Vec<u8>, WireFault>) -> Said {
     match answer {
         Err(fault) if fault.kind != WireFaultKind::NoMemory => Said::Other,
@@ -114,7 +114,7 @@ fn of_packet_bytes(answer: Result<Vec<u8>, WireFault>) -> Said {
     }
 }
 
-/// Whether both are the same message.
+/// The outcome of comparing a decoded message.
 fn are_same(read: &Packet, wanted: &Packet) -> Said {
     match read {
         Packet::Msg(read) => match wanted {
@@ -125,7 +125,7 @@ fn are_same(read: &Packet, wanted: &Packet) -> Said {
     }
 }
 
-/// What an answer of a packet says.
+/// The outcome of decoding a packet.
 fn of_packet(answer: Result<Packet, WireFault>, packet: &Packet) -> Said {
     match answer {
         Ok(read) => are_same(&read, packet),
@@ -134,7 +134,7 @@ fn of_packet(answer: Result<Packet, WireFault>, packet: &Packet) -> Said {
     }
 }
 
-impl Bench for PacketBench {
+impl Fixture for PacketFixture {
     fn call(&mut self) -> Said {
         let alloc = self.alloc;
         match self.asked {

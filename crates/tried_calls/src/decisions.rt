@@ -1,6 +1,6 @@
-//! Waits and boards, by which decisions are kept, and pages, which show them.
+//! Waits, boards and pages.
 use crate::sample::{APP, Does, ME, OTHER, config, meaning};
-use crate::trial::{Bench, Said, of_any, of_bytes};
+use crate::trial::{Fixture, Said, of_any, of_bytes};
 use dac_base::NoMemory;
 use dac_board::Board;
 use dac_config::Config;
@@ -9,7 +9,7 @@ use dac_state::State;
 use dac_status::{Summary, header, page};
 use std::alloc::Global;
 
-/// What is asked.
+/// A call of waits, boards or pages.
 #[derive(Clone, Copy, Debug, PartialEq, Eq)]
 pub enum OfDecision {
     NewWaits,
@@ -20,9 +20,9 @@ pub enum OfDecision {
     Page,
 }
 
-/// A configuration and a state, and what decisions by them are kept in.
+/// A configuration and a state, with waits and a board.
 #[derive(Drop)]
-pub struct DecisionBench {
+pub struct DecisionFixture {
     alloc: Global,
     asked: OfDecision,
     config: Config,
@@ -31,11 +31,11 @@ pub struct DecisionBench {
     board: Board,
 }
 
-/// The bench of a call.
-pub fn decisions(alloc: Global, asked: OfDecision) -> Option<DecisionBench> {
+/// The fixture of decisions.
+pub fn decisions(alloc: Global, asked: OfDecision) -> Option<DecisionFixture> {
     let config = config(alloc)?;
     let state = meaning(alloc, OTHER, Does::Up)?;
-    Some(DecisionBench {
+    Some(DecisionFixture {
         alloc,
         asked,
         waits: Waits::new(alloc, &config).ok()?,
@@ -45,7 +45,7 @@ pub fn decisions(alloc: Global, asked: OfDecision) -> Option<DecisionBench> {
     })
 }
 
-/// What an answer of a board says: how many applications run at the other node.
+/// The outcome of a call that returns a board: the number of applications at the other node.
 fn of_board(answer: Result<Board, NoMemory>) -> Said {
     match answer {
         Ok(board) => Said::Well(u64::from(board.load(APP, OTHER))),
@@ -53,8 +53,8 @@ fn of_board(answer: Result<Board, NoMemory>) -> Said {
     }
 }
 
-impl DecisionBench {
-    /// The first line of the node's page.
+impl DecisionFixture {
+    /// Writes the header of a page.
     fn head(&self) -> Said {
         if ME.0 < self.config.nodes() {
             of_bytes(header(self.alloc, &self.config, ME, None))
@@ -63,14 +63,14 @@ impl DecisionBench {
         }
     }
 
-    /// The rest of it.
+    /// Writes a page.
     fn rest(&self) -> Said {
         let summary = Summary::of(&self.config, &self.state);
         of_bytes(page(self.alloc, &self.config, &summary))
     }
 }
 
-impl Bench for DecisionBench {
+impl Fixture for DecisionFixture {
     fn call(&mut self) -> Said {
         match self.asked {
             OfDecision::NewWaits => of_any(Waits::new(self.alloc, &self.config)),

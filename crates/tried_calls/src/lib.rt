@@ -1,8 +1,8 @@
-//! Calls that are tried with memory refused.
+//! Calls that allocate, tried while allocations fail.
 //!
-//! A [`Bench`](trial::Bench) has what a call is made of. [`try_call`](trial::try_call) makes the call, and prints what came of it. Here
-//! are the calls of configurations, contexts, lattices, states and messages. The program `growths` has those of nodes, sites and
-//! worlds, and the table of them all.
+//! A [`Fixture`](trial::Fixture) is the fixture of a call. [`try_call`](trial::try_call) makes the call and prints the
+//! outcome. This crate has the calls of configurations, contexts, lattices, states and messages. The program `growths`
+//! has those of nodes, sites and worlds, and the table of all calls.
 #![tactic(auto)]
 
 pub mod bytes;

@@ -1,12 +1,12 @@
-//! Copies of messages, events and replies, and of lists in them.
+//! Copies of messages, events, replies and their lists.
 use crate::sample::{APP, Does, ME, message, operation};
-use crate::trial::{Bench, Said, of_any};
+use crate::trial::{Fixture, Said, of_any};
 use dac_lattice::Bottom;
 use dac_messages::{AppList, Body, Event, Message, OpList, Reply};
 use dac_state::State;
 use std::alloc::Global;
 
-/// What is asked of a message.
+/// A call of a message.
 #[derive(Clone, Copy, Debug, PartialEq, Eq)]
 pub enum OfMessage {
     Copy,
@@ -15,23 +15,23 @@ pub enum OfMessage {
     CopyReply,
 }
 
-/// A message with a state, an event that brings it, and a reply.
+/// A message with a state, its delivery, and a reply.
 #[derive(Drop)]
-pub struct MessageBench {
+pub struct MessageFixture {
     asked: OfMessage,
     message: Message,
     event: Event,
     reply: Reply,
 }
 
-/// A message with a state whose copy takes memory, as that of any other doesn't.
+/// A message with the only state whose copy allocates.
 fn whole(alloc: Global) -> Message {
     message(Body::Whole(State::bottom(alloc)), 1)
 }
 
-/// The bench of a call.
-pub fn messages(alloc: Global, asked: OfMessage) -> Option<MessageBench> {
-    Some(MessageBench {
+/// The fixture of messages.
+pub fn messages(alloc: Global, asked: OfMessage) -> Option<MessageFixture> {
+    Some(MessageFixture {
         asked,
         reply: Reply::Issued(operation(alloc, ME, Does::Stop)?),
         message: whole(alloc),
@@ -39,7 +39,7 @@ pub fn messages(alloc: Global, asked: OfMessage) -> Option<MessageBench> {
     })
 }
 
-impl Bench for MessageBench {
+impl Fixture for MessageFixture {
     fn call(&mut self) -> Said {
         match self.asked {
             OfMessage::Copy => of_any(self.message.copy()),
@@ -54,16 +54,16 @@ impl Bench for MessageBench {
     }
 }
 
-/// What is asked of the lists of a reply.
+/// A call of a reply's lists.
 #[derive(Clone, Copy, Debug, PartialEq, Eq)]
 pub enum OfList {
     CopyOps,
     CopyApps,
 }
 
-/// The operations of a tick, and the applications that it looked at.
+/// The operations and applications of a tick's reply.
 #[derive(Drop)]
-pub struct ListBench {
+pub struct ListFixture {
     asked: OfList,
     ops: OpList,
     apps: AppList,
@@ -77,17 +77,17 @@ fn ops(alloc: Global) -> Option<OpList> {
     Some(OpList::new(ops))
 }
 
-/// The bench of a call.
-pub fn lists(alloc: Global, asked: OfList) -> Option<ListBench> {
+/// The fixture of a reply's lists.
+pub fn lists(alloc: Global, asked: OfList) -> Option<ListFixture> {
     let apps = Vec::from_slice(alloc, &[APP]).ok()?;
-    Some(ListBench {
+    Some(ListFixture {
         asked,
         ops: ops(alloc)?,
         apps: AppList::new(apps),
     })
 }
 
-impl Bench for ListBench {
+impl Fixture for ListFixture {
     fn call(&mut self) -> Said {
         match self.asked {
             OfList::CopyOps => of_any(self.ops.copy()),

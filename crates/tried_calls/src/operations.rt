@@ -1,10 +1,10 @@
-//! Copies of operations, and what pieces see of them.
+//! Copies of operations, and their acts on pieces.
 use crate::sample::{Does, ME, dot, operation};
-use crate::trial::{Bench, Said, of_any};
+use crate::trial::{Fixture, Said, of_any};
 use dac_state::{DotList, Op};
 use std::alloc::Global;
 
-/// What is asked of an operation.
+/// A call of an operation.
 #[derive(Clone, Copy, Debug, PartialEq, Eq)]
 pub enum OfOperation {
     Copy,
@@ -15,20 +15,20 @@ pub enum OfOperation {
     SeeDrain,
 }
 
-/// A stop, and the dots that it replaces.
+/// A stop, and a list of two dots.
 #[derive(Drop)]
-pub struct OperationBench {
+pub struct OperationFixture {
     alloc: Global,
     asked: OfOperation,
     op: Op,
     dots: DotList,
 }
 
-/// The bench of a call.
-pub fn operations(alloc: Global, asked: OfOperation) -> Option<OperationBench> {
+/// The fixture of operations.
+pub fn operations(alloc: Global, asked: OfOperation) -> Option<OperationFixture> {
     let dots = [dot(ME, 1), dot(ME, 2)];
     let dots = Vec::from_slice(alloc, &dots).ok()?;
-    Some(OperationBench {
+    Some(OperationFixture {
         alloc,
         asked,
         op: operation(alloc, ME, Does::Stop)?,
@@ -36,7 +36,7 @@ pub fn operations(alloc: Global, asked: OfOperation) -> Option<OperationBench> {
     })
 }
 
-impl Bench for OperationBench {
+impl Fixture for OperationFixture {
     fn call(&mut self) -> Said {
         match self.asked {
             OfOperation::Copy => of_any(self.op.copy()),

@@ -1,6 +1,6 @@
-//! Calls of lattices: pieces of states, stores, and maps.
+//! Lattices: pieces of states, stores, and maps.
 use crate::sample::{APP, ME, OTHER, dot, key, origin};
-use crate::trial::{Bench, Said, of_any};
+use crate::trial::{Fixture, Said, of_any};
 use dac_base::{AppId, NoMemory, NodeId};
 use dac_chains::{Claim, ClaimAct, Claims, How, Life, LifeAct, Lives};
 use dac_dots::Context;
@@ -10,31 +10,31 @@ use dac_store::{Causal, DotFun, DotMap, DotSet, DotStore};
 use dac_wishes::{DotList, DrainAct, Drains, Permissions, PermitAct, WishAct, Wishes};
 use std::alloc::Global;
 
-/// What is asked of a lattice.
+/// A call of a lattice.
 #[derive(Clone, Copy, Debug, PartialEq, Eq)]
 pub enum OfLattice {
     Join,
     Copy,
 }
 
-/// Two values of a lattice, and what one of them was.
+/// Two values of a lattice, and a copy of the first.
 #[derive(Drop)]
-pub struct LatticeBench<L: Lattice> {
+pub struct LatticeFixture<L: Lattice> {
     asked: OfLattice,
     one: L,
     other: L,
     kept: L,
 }
 
-/// The bench of two values of a lattice, if there was memory for both.
+/// The fixture of two values of a lattice.
 fn both<L: Lattice>(
     asked: OfLattice,
     one: Result<L, NoMemory>,
     other: Result<L, NoMemory>,
-) -> Option<LatticeBench<L>> {
+) -> Option<LatticeFixture<L>> {
     let one = one.ok()?;
     let kept = one.copy().ok()?;
-    Some(LatticeBench {
+    Some(LatticeFixture {
         asked,
         other: other.ok()?,
         one,
@@ -42,7 +42,7 @@ fn both<L: Lattice>(
     })
 }
 
-impl<L: Lattice> Bench for LatticeBench<L> {
+impl<L: Lattice> Fixture for LatticeFixture<L> {
     fn call(&mut self) -> Said {
         match self.asked {
             OfLattice::Join => match self.one.join(&self.other) {
@@ -64,7 +64,6 @@ impl<L: Lattice> Bench for LatticeBench<L> {
     }
 }
 
-/// A rising list of dots.
 fn dots(alloc: Global, list: &[Dot]) -> Result<DotList, NoMemory> {
     Ok(DotList::new(Vec::from_slice(alloc, list)?))
 }
@@ -77,8 +76,8 @@ fn lives_of(alloc: Global, node: NodeId) -> Result<Lives, NoMemory> {
     Lives::one(alloc, node, life)
 }
 
-/// The bench of a call.
-pub fn lives(alloc: Global, asked: OfLattice) -> Option<LatticeBench<Lives>> {
+/// The fixture of lives.
+pub fn lives(alloc: Global, asked: OfLattice) -> Option<LatticeFixture<Lives>> {
     both(asked, lives_of(alloc, ME), lives_of(alloc, OTHER))
 }
 
@@ -92,8 +91,8 @@ fn claims_of(alloc: Global, app: u16) -> Result<Claims, NoMemory> {
     Claims::one(alloc, AppId(app), claim)
 }
 
-/// The bench of a call.
-pub fn claims(alloc: Global, asked: OfLattice) -> Option<LatticeBench<Claims>> {
+/// The fixture of claims.
+pub fn claims(alloc: Global, asked: OfLattice) -> Option<LatticeFixture<Claims>> {
     both(asked, claims_of(alloc, 0), claims_of(alloc, 1))
 }
 
@@ -105,8 +104,8 @@ fn start_at(alloc: Global, at: Dot) -> Result<Wishes, NoMemory> {
     Wishes::delta(alloc, at, &act)
 }
 
-/// The bench of a call.
-pub fn wishes(alloc: Global, asked: OfLattice) -> Option<LatticeBench<Wishes>> {
+/// The fixture of wishes.
+pub fn wishes(alloc: Global, asked: OfLattice) -> Option<LatticeFixture<Wishes>> {
     both(
         asked,
         start_at(alloc, dot(ME, 2)),
@@ -123,8 +122,8 @@ fn permit_at(alloc: Global, at: Dot) -> Result<Permissions, NoMemory> {
     Permissions::delta(alloc, at, &act)
 }
 
-/// The bench of a call.
-pub fn permissions(alloc: Global, asked: OfLattice) -> Option<LatticeBench<Permissions>> {
+/// The fixture of permissions.
+pub fn permissions(alloc: Global, asked: OfLattice) -> Option<LatticeFixture<Permissions>> {
     both(
         asked,
         permit_at(alloc, dot(ME, 2)),
@@ -141,8 +140,8 @@ fn drain_at(alloc: Global, at: Dot) -> Result<Drains, NoMemory> {
     Drains::delta(alloc, at, &act)
 }
 
-/// The bench of a call.
-pub fn drains(alloc: Global, asked: OfLattice) -> Option<LatticeBench<Drains>> {
+/// The fixture of drains.
+pub fn drains(alloc: Global, asked: OfLattice) -> Option<LatticeFixture<Drains>> {
     both(
         asked,
         drain_at(alloc, dot(ME, 2)),
@@ -154,8 +153,8 @@ fn map_of(alloc: Global, key: u64) -> Result<MapOf<u64, Max<u64>>, NoMemory> {
     MapOf::one(alloc, key, Max::new(7))
 }
 
-/// The bench of a call.
-pub fn maps(alloc: Global, asked: OfLattice) -> Option<LatticeBench<MapOf<u64, Max<u64>>>> {
+/// The fixture of maps.
+pub fn maps(alloc: Global, asked: OfLattice) -> Option<LatticeFixture<MapOf<u64, Max<u64>>>> {
     both(asked, map_of(alloc, 1), map_of(alloc, 2))
 }
 
@@ -163,11 +162,11 @@ fn pair_of(alloc: Global, key: u64) -> Result<Pair<MapOf<u64, Max<u64>>, Max<u64
     Ok(Pair::new(map_of(alloc, key)?, Max::new(key)))
 }
 
-/// The bench of a call.
+/// The fixture of pairs.
 pub fn pairs(
     alloc: Global,
     asked: OfLattice,
-) -> Option<LatticeBench<Pair<MapOf<u64, Max<u64>>, Max<u64>>>> {
+) -> Option<LatticeFixture<Pair<MapOf<u64, Max<u64>>, Max<u64>>>> {
     both(asked, pair_of(alloc, 1), pair_of(alloc, 2))
 }
 
@@ -180,7 +179,7 @@ pub fn context(alloc: Global, list: &[Dot]) -> Result<Context, NoMemory> {
     Ok(all)
 }
 
-/// Values at two dots of a node, at a key, beside what was heard.
+/// Values at dots, by key.
 type FlagMap = DotMap<u64, DotFun<Flag>>;
 
 fn votes_of(alloc: Global, node: NodeId) -> Result<DotFun<Flag>, NoMemory> {
@@ -198,21 +197,21 @@ fn causal_of(alloc: Global, node: NodeId, key: u64) -> Result<Causal<FlagMap>, N
     }
 }
 
-/// The bench of a call.
-pub fn causals(alloc: Global, asked: OfLattice) -> Option<LatticeBench<Causal<FlagMap>>> {
+/// The fixture of stores paired with their contexts.
+pub fn causals(alloc: Global, asked: OfLattice) -> Option<LatticeFixture<Causal<FlagMap>>> {
     both(asked, causal_of(alloc, ME, 1), causal_of(alloc, OTHER, 2))
 }
 
-/// What is asked of a store.
+/// A call of a store.
 #[derive(Clone, Copy, Debug, PartialEq, Eq)]
 pub enum OfStore {
     Join,
     Copy,
 }
 
-/// Two stores, each beside what was heard.
+/// Two stores, each paired with its context.
 #[derive(Drop)]
-pub struct StoreBench<S: DotStore> {
+pub struct StoreFixture<S: DotStore> {
     asked: OfStore,
     one: S,
     heard: Context,
@@ -225,10 +224,10 @@ fn stores<S: DotStore>(
     asked: OfStore,
     one: Result<S, NoMemory>,
     other: Result<S, NoMemory>,
-) -> Option<StoreBench<S>> {
+) -> Option<StoreFixture<S>> {
     let mine = [dot(ME, 1), dot(ME, 2), dot(ME, 3)];
     let theirs = [dot(OTHER, 1), dot(OTHER, 2), dot(OTHER, 3)];
-    Some(StoreBench {
+    Some(StoreFixture {
         asked,
         one: one.ok()?,
         heard: context(alloc, &mine).ok()?,
@@ -237,7 +236,7 @@ fn stores<S: DotStore>(
     })
 }
 
-impl<S: DotStore> Bench for StoreBench<S> {
+impl<S: DotStore> Fixture for StoreFixture<S> {
     fn call(&mut self) -> Said {
         match self.asked {
             OfStore::Join => {
@@ -261,13 +260,13 @@ fn set_of(alloc: Global, node: NodeId) -> Result<DotSet, NoMemory> {
     Ok(set)
 }
 
-/// The bench of a call.
-pub fn dot_sets(alloc: Global, asked: OfStore) -> Option<StoreBench<DotSet>> {
+/// The fixture of sets of dots.
+pub fn dot_sets(alloc: Global, asked: OfStore) -> Option<StoreFixture<DotSet>> {
     stores(alloc, asked, set_of(alloc, ME), set_of(alloc, OTHER))
 }
 
-/// The bench of a call.
-pub fn dot_funs(alloc: Global, asked: OfStore) -> Option<StoreBench<DotFun<Flag>>> {
+/// The fixture of functions of dots.
+pub fn dot_funs(alloc: Global, asked: OfStore) -> Option<StoreFixture<DotFun<Flag>>> {
     stores(alloc, asked, votes_of(alloc, ME), votes_of(alloc, OTHER))
 }
 
@@ -275,12 +274,12 @@ fn map_at(alloc: Global, node: NodeId, key: u64) -> Result<FlagMap, NoMemory> {
     DotMap::one(alloc, key, votes_of(alloc, node)?)
 }
 
-/// The bench of a call.
-pub fn dot_maps(alloc: Global, asked: OfStore) -> Option<StoreBench<FlagMap>> {
+/// The fixture of maps of dots.
+pub fn dot_maps(alloc: Global, asked: OfStore) -> Option<StoreFixture<FlagMap>> {
     stores(alloc, asked, map_at(alloc, ME, 1), map_at(alloc, OTHER, 2))
 }
 
-/// A vote at each of 40 keys, as a join makes the map: 24 entries stand in two blocks.
+/// A value at each of 40 keys, as joins build the map: 24 entries are in two blocks.
 fn map_in_blocks(alloc: Global) -> Result<FlagMap, NoMemory> {
     let mut pushed = DotMap::empty(alloc);
     for key in 1..41u64 {
@@ -290,12 +289,12 @@ fn map_in_blocks(alloc: Global) -> Result<FlagMap, NoMemory> {
     pushed.join_in(&nothing, &DotMap::empty(alloc), &nothing)
 }
 
-/// The bench of a call.
-pub fn block_maps(alloc: Global, asked: OfStore) -> Option<StoreBench<FlagMap>> {
+/// The fixture of maps of dots in blocks.
+pub fn block_maps(alloc: Global, asked: OfStore) -> Option<StoreFixture<FlagMap>> {
     stores(alloc, asked, map_in_blocks(alloc), map_at(alloc, OTHER, 41))
 }
 
-/// What is made anew.
+/// A call that makes a value from plain arguments.
 #[derive(Clone, Copy, Debug, PartialEq, Eq)]
 pub enum Made {
     OneLife,
@@ -307,19 +306,19 @@ pub enum Made {
     ClaimDelta,
 }
 
-/// What is made of nothing else.
+/// The arguments of such a call.
 #[derive(Drop)]
-pub struct MakingBench {
+pub struct MakingFixture {
     alloc: Global,
     made: Made,
 }
 
-/// The bench of a call.
-pub fn making(alloc: Global, made: Made) -> Option<MakingBench> {
-    Some(MakingBench { alloc, made })
+/// The fixture of values from plain arguments.
+pub fn making(alloc: Global, made: Made) -> Option<MakingFixture> {
+    Some(MakingFixture { alloc, made })
 }
 
-/// What a claim adds.
+/// The delta of a claim.
 fn claim_delta(alloc: Global) -> Result<Claims, NoMemory> {
     let act = ClaimAct::Claim {
         app: APP,
@@ -330,7 +329,7 @@ fn claim_delta(alloc: Global) -> Result<Claims, NoMemory> {
     Claims::delta(alloc, dot(ME, 2), &act)
 }
 
-impl Bench for MakingBench {
+impl Fixture for MakingFixture {
     fn call(&mut self) -> Said {
         let alloc = self.alloc;
         match self.made {
@@ -349,7 +348,7 @@ impl Bench for MakingBench {
     }
 }
 
-/// Whose delta is made.
+/// A piece whose delta is made.
 #[derive(Clone, Copy, Debug, PartialEq, Eq)]
 pub enum OfAct {
     Wish,
@@ -359,7 +358,7 @@ pub enum OfAct {
 
 /// Acts that replace two dots.
 #[derive(Drop)]
-pub struct ActBench {
+pub struct ActFixture {
     alloc: Global,
     asked: OfAct,
     wish: WishAct,
@@ -372,9 +371,9 @@ fn replaced_dots(alloc: Global) -> Option<DotList> {
     dots(alloc, &[dot(ME, 1), dot(OTHER, 1)]).ok()
 }
 
-/// The bench of a call.
-pub fn acts(alloc: Global, asked: OfAct) -> Option<ActBench> {
-    Some(ActBench {
+/// The fixture of deltas.
+pub fn acts(alloc: Global, asked: OfAct) -> Option<ActFixture> {
+    Some(ActFixture {
         alloc,
         asked,
         wish: WishAct::Start {
@@ -392,7 +391,7 @@ pub fn acts(alloc: Global, asked: OfAct) -> Option<ActBench> {
     })
 }
 
-impl Bench for ActBench {
+impl Fixture for ActFixture {
     fn call(&mut self) -> Said {
         match self.asked {
             OfAct::Wish => of_any(Wishes::delta(self.alloc, dot(ME, 2), &self.wish)),
@@ -406,7 +405,7 @@ impl Bench for ActBench {
     }
 }
 
-/// What is pushed behind all that a store has, or made of a store.
+/// A call that appends to a store, or makes a map of a store.
 #[derive(Clone, Copy, Debug, PartialEq, Eq)]
 pub enum Pushed {
     ToSet,
@@ -415,9 +414,9 @@ pub enum Pushed {
     OneAtKey,
 }
 
-/// A set and a function of one dot, a map of none, and stores that are put at a key.
+/// A set and a function of one dot, an empty map, and stores to put at a key.
 #[derive(Drop)]
-pub struct PushBench {
+pub struct PushFixture {
     alloc: Global,
     pushed: Pushed,
     set: DotSet,
@@ -426,12 +425,12 @@ pub struct PushBench {
     more: Vec<DotFun<Flag>>,
 }
 
-/// The bench of a call.
-pub fn pushes(alloc: Global, pushed: Pushed) -> Option<PushBench> {
+/// The fixture of appends.
+pub fn pushes(alloc: Global, pushed: Pushed) -> Option<PushFixture> {
     let mut more = Vec::new(alloc);
     more.push(votes_of(alloc, OTHER).ok()?).ok()?;
     more.push(votes_of(alloc, OTHER).ok()?).ok()?;
-    Some(PushBench {
+    Some(PushFixture {
         alloc,
         pushed,
         set: DotSet::one(alloc, dot(ME, 1)).ok()?,
@@ -441,7 +440,7 @@ pub fn pushes(alloc: Global, pushed: Pushed) -> Option<PushBench> {
     })
 }
 
-/// What an answer says of a push.
+/// The outcome of an append.
 fn of_push(answer: Result<bool, NoMemory>) -> Said {
     match answer {
         Ok(is_pushed) => Said::Well(u64::from(is_pushed)),
@@ -449,8 +448,8 @@ fn of_push(answer: Result<bool, NoMemory>) -> Said {
     }
 }
 
-impl PushBench {
-    /// Puts a store behind the last key of the map, or makes a map of it.
+impl PushFixture {
+    /// Appends a store to the map at the next key, or makes a map of it.
     fn put_store(&mut self) -> Said {
         let Some(store) = self.more.pop() else {
             return Said::Other;
@@ -462,7 +461,7 @@ impl PushBench {
     }
 }
 
-impl Bench for PushBench {
+impl Fixture for PushFixture {
     fn call(&mut self) -> Said {
         match self.pushed {
             Pushed::ToSet => of_push(self.set.push(dot(OTHER, 1))),

@@ -6,19 +6,19 @@ use dac_origins::{Dot, Origin};
 use dac_state::{Act, DotList, How, Key, Op, State};
 use std::alloc::Global;
 
-/// Three nodes and two applications, the second at the second node alone.
+/// Three nodes and two applications, the second at the second node only.
 pub const TWO: &[u8] = b"[{kernel,[{distributed,[{a,5000,[c1@h,{c2@h,c3@h}]},{b,[c2@h]}]}]}].";
 
-/// The node that is asked.
+/// The node under test.
 pub const ME: NodeId = NodeId(0);
 
-/// The one whose operations and messages come to it.
+/// The node whose operations and messages it receives.
 pub const OTHER: NodeId = NodeId(1);
 
 /// The application that is started.
 pub const APP: AppId = AppId(0);
 
-/// The configuration of them.
+/// The configuration `TWO`.
 pub fn config(alloc: Global) -> Option<Config> {
     read_config(alloc, TWO).ok()
 }
@@ -28,7 +28,7 @@ pub fn origin(node: NodeId) -> Origin {
     Origin { node, inc: 1 }
 }
 
-/// A dot of the first incarnation of a node.
+/// A dot of a node's first incarnation.
 pub fn dot(node: NodeId, n: u64) -> Dot {
     Dot {
         origin: origin(node),
@@ -36,7 +36,7 @@ pub fn dot(node: NodeId, n: u64) -> Dot {
     }
 }
 
-/// The first application at the first incarnation of a node.
+/// The application `APP` at a node's first incarnation.
 pub fn key(node: NodeId) -> Key {
     Key {
         app: APP,
@@ -45,7 +45,7 @@ pub fn key(node: NodeId) -> Key {
     }
 }
 
-/// What an operation does.
+/// The kind of an operation.
 #[derive(Clone, Copy, Debug, PartialEq, Eq)]
 pub enum Does {
     Up,
@@ -57,7 +57,7 @@ pub enum Does {
     Drain,
 }
 
-/// All of them, in the order of the counters that they have.
+/// All kinds, in the order of their counters.
 pub const ALL: [Does; 7] = [
     Does::Up,
     Does::Start,
@@ -68,7 +68,7 @@ pub const ALL: [Does; 7] = [
     Does::Down,
 ];
 
-/// The counter of what a node does.
+/// The counter of a kind.
 fn counter(does: Does) -> u64 {
     match does {
         Does::Up => 1,
@@ -81,7 +81,7 @@ fn counter(does: Does) -> u64 {
     }
 }
 
-/// The dots that it replaces: a stop that of the start.
+/// The dots that the operation replaces: for a stop, that of the start.
 fn over(alloc: Global, node: NodeId, does: Does) -> Option<DotList> {
     let mut dots = Vec::new(alloc);
     if does == Does::Stop {
@@ -90,7 +90,7 @@ fn over(alloc: Global, node: NodeId, does: Does) -> Option<DotList> {
     Some(DotList::new(dots))
 }
 
-/// What a node's first incarnation does.
+/// The operation of this kind by a node's first incarnation.
 pub fn operation(alloc: Global, node: NodeId, does: Does) -> Option<Op> {
     let over = over(alloc, node, does)?;
     let key = key(node);
@@ -123,12 +123,12 @@ pub fn operation(alloc: Global, node: NodeId, does: Does) -> Option<Op> {
     Op::new(dot(node, counter(does)), act).ok()
 }
 
-/// What one operation means.
+/// The delta of an operation.
 pub fn meaning(alloc: Global, node: NodeId, does: Does) -> Option<State> {
     State::delta_of(alloc, &operation(alloc, node, does)?).ok()
 }
 
-/// A message of the other node with this body, which acknowledges so many deltas.
+/// A message of the other node with this body, which acknowledges `acks` deltas.
 pub fn message(body: Body, acks: u64) -> Message {
     let only = match &body {
         Body::Whole(_) => None,

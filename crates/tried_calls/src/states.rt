@@ -1,12 +1,12 @@
 //! Calls of states.
 use crate::sample::{ALL, Does, ME, OTHER, meaning, operation};
-use crate::trial::{Bench, Said, short};
+use crate::trial::{Fixture, Said, short};
 use dac_base::NodeId;
 use dac_lattice::{Bottom, Lattice};
 use dac_state::{Op, State};
 use std::alloc::Global;
 
-/// What is asked of a state.
+/// A call of a state.
 #[derive(Clone, Copy, Debug, PartialEq, Eq)]
 pub enum OfState {
     Join,
@@ -14,9 +14,9 @@ pub enum OfState {
     DeltaOf,
 }
 
-/// A state of one node, what is joined to it, the least one, and an operation.
+/// A state with a copy, one to join, the least state, and an operation.
 #[derive(Drop)]
-pub struct StateBench {
+pub struct StateFixture {
     alloc: Global,
     asked: OfState,
     state: State,
@@ -26,7 +26,7 @@ pub struct StateBench {
     op: Op,
 }
 
-/// All that a node does, together.
+/// The join of all of a node's operations.
 pub fn all_of(alloc: Global, node: NodeId) -> Option<State> {
     let mut all = State::bottom(alloc);
     for i in 0..ALL.len() {
@@ -35,10 +35,10 @@ pub fn all_of(alloc: Global, node: NodeId) -> Option<State> {
     Some(all)
 }
 
-/// The bench of a call.
-pub fn states(alloc: Global, asked: OfState) -> Option<StateBench> {
+/// The fixture of states.
+pub fn states(alloc: Global, asked: OfState) -> Option<StateFixture> {
     let state = all_of(alloc, OTHER)?;
-    Some(StateBench {
+    Some(StateFixture {
         alloc,
         asked,
         kept: state.copy().ok()?,
@@ -49,7 +49,7 @@ pub fn states(alloc: Global, asked: OfState) -> Option<StateBench> {
     })
 }
 
-/// What an answer of a state says.
+/// The outcome of a call that returns a state.
 pub fn of_state<E: Drop>(answer: Result<State, E>) -> Said {
     match answer {
         Ok(state) => {
@@ -61,11 +61,11 @@ pub fn of_state<E: Drop>(answer: Result<State, E>) -> Said {
     }
 }
 
-impl Bench for StateBench {
+impl Fixture for StateFixture {
     fn call(&mut self) -> Said {
         match self.asked {
             OfState::Join => of_state(self.state.join(&self.other)),
-            // A copy of any other state takes no memory.
+            // Only a copy of the least state allocates.
             OfState::Copy => of_state(self.least.copy()),
             OfState::DeltaOf => of_state(State::delta_of(self.alloc, &self.op)),
         }

@@ -1,60 +1,60 @@
-//! One call that is made, and made again where memory was refused.
+//! A call made while allocations fail, and repeated.
 use std::io::Print;
 
-/// What a call answered.
+/// The outcome of a call.
 #[derive(Clone, Copy, Debug, PartialEq, Eq)]
 pub enum Said {
-    /// It was well. The number tells answers apart.
+    /// It succeeded. The number identifies its result.
     Well(u64),
-    /// Memory was refused.
+    /// It failed because an allocation failed.
     NoMemory,
-    /// Anything else.
+    /// It had any other outcome.
     Other,
 }
 
-/// What a call is made of.
-pub trait Bench: Drop {
+/// The fixture of a call.
+pub trait Fixture: Drop {
     /// Makes the call.
     fn call(&mut self) -> Said;
 
-    /// Whether all is as it was when the bench was made, as far as readers show it.
+    /// Returns whether all readers show the values from before the call.
     fn is_as_before(&self) -> bool;
 }
 
-/// What came of a try.
+/// The outcome of a trial.
 #[derive(Clone, Copy, Debug, PartialEq, Eq)]
 pub enum Came {
-    /// What the call needs couldn't be made.
+    /// The fixture couldn't be made.
     SetUp,
-    /// No growth of the call was refused, and it was well.
+    /// The call succeeded, and none of its allocations failed.
     Well(u64),
-    /// It answered that memory was refused, and left all as it was. Made again, it was well.
+    /// The call failed because an allocation failed, changed nothing, and succeeded the second time.
     Refused(u64),
-    /// Anything else.
+    /// The trial had any other outcome.
     Wrong,
 }
 
-/// Makes the call again, after memory was refused.
-fn made_again<B: Bench>(bench: &mut B) -> Came {
-    if !bench.is_as_before() {
+/// Makes the call again after an allocation failed.
+fn made_again<B: Fixture>(fixture: &mut B) -> Came {
+    if !fixture.is_as_before() {
         return Came::Wrong;
     }
-    match bench.call() {
+    match fixture.call() {
         Said::Well(number) => Came::Refused(number),
         _ => Came::Wrong,
     }
 }
 
-/// Makes the call, and once more where memory was refused.
-fn made<B: Bench>(bench: &mut B) -> Came {
-    match bench.call() {
+/// Makes the call, and again if an allocation failed.
+fn made<B: Fixture>(fixture: &mut B) -> Came {
+    match fixture.call() {
         Said::Well(number) => Came::Well(number),
         Said::Other => Came::Wrong,
-        Said::NoMemory => made_again(bench),
+        Said::NoMemory => made_again(fixture),
     }
 }
 
-/// Prints what is said of a call. It ends what is counted of the call.
+/// Prints the outcome, which ends the part of the output in which allocations are counted.
 pub fn ended<T: Print>(rt: &T, came: Came) -> Came {
     match came {
         Came::SetUp => None,
@@ -65,18 +65,18 @@ pub fn ended<T: Print>(rt: &T, came: Came) -> Came {
     came
 }
 
-/// Makes the call, and once more where memory was refused. A colon is printed first, from which on growths are the call's. What
-/// came of it is printed before all that the call was made of goes.
-pub fn try_call<T: Print, B: Bench>(rt: &T, bench: Option<B>) -> Came {
-    let Some(mut bench) = bench else {
+/// Makes the call, and again if an allocation failed. Allocations are counted after the printed colon. The outcome is
+/// printed before the fixture is dropped.
+pub fn try_call<T: Print, B: Fixture>(rt: &T, fixture: Option<B>) -> Came {
+    let Some(mut fixture) = fixture else {
         return Came::SetUp;
     };
     print!(rt; ": ").ok();
-    let came = made(&mut bench);
+    let came = made(&mut fixture);
     ended(rt, came)
 }
 
-/// What bytes are told apart by.
+/// A hash of bytes, which identifies a result.
 pub fn sum_of(bytes: &[u8]) -> u64 {
     let mut sum = 0u64;
     for byte in bytes {
@@ -85,7 +85,7 @@ pub fn sum_of(bytes: &[u8]) -> u64 {
     sum
 }
 
-/// What an answer of bytes says.
+/// The outcome of a call that returns bytes.
 pub fn of_bytes<E: Drop>(answer: Result<Vec<u8>, E>) -> Said {
     match answer {
         Ok(bytes) => Said::Well(sum_of(bytes.as_slice())),
@@ -93,7 +93,7 @@ pub fn of_bytes<E: Drop>(answer: Result<Vec<u8>, E>) -> Said {
     }
 }
 
-/// What an answer says that isn't looked at.
+/// The outcome of a call whose value isn't compared.
 pub fn of_any<T: Drop, E: Drop>(answer: Result<T, E>) -> Said {
     match answer {
         Ok(_) => Said::Well(0),
@@ -101,7 +101,7 @@ pub fn of_any<T: Drop, E: Drop>(answer: Result<T, E>) -> Said {
     }
 }
 
-/// A number that fits.
+/// The number, or the greatest `u64` if it's greater.
 pub fn short(number: u128) -> u64 {
     u64::try_from(number).unwrap_or(u64::MAX)
 }

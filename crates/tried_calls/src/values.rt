@@ -1,7 +1,7 @@
-//! Calls of configurations, contexts, lists of keys, numbers as bytes, and buffers of deltas.
+//! Calls of configurations, contexts, lists of keys, byte writers, and delta logs.
 use crate::pieces::context;
 use crate::sample::{ME, OTHER, TWO, config, dot, origin};
-use crate::trial::{Bench, Said, of_any, of_bytes, short};
+use crate::trial::{Fixture, Said, of_any, of_bytes, short};
 use dac_base::NoMemory;
 use dac_bytes::{ByteReader, ByteWriter, ReadFaultKind, Version};
 use dac_config::{Config, FaultKind, printed_name, read_config};
@@ -12,7 +12,7 @@ use dac_origins::Origin;
 use dac_origins::keys::insert_key;
 use std::alloc::Global;
 
-/// What is asked of a configuration.
+/// A call of a configuration.
 #[derive(Clone, Copy, Debug, PartialEq, Eq)]
 pub enum OfConfig {
     Read,
@@ -23,22 +23,22 @@ pub enum OfConfig {
 
 /// A configuration.
 #[derive(Drop)]
-pub struct ConfigBench {
+pub struct ConfigFixture {
     alloc: Global,
     asked: OfConfig,
     config: Config,
 }
 
-/// The bench of a call.
-pub fn configs(alloc: Global, asked: OfConfig) -> Option<ConfigBench> {
-    Some(ConfigBench {
+/// The fixture of configurations.
+pub fn configs(alloc: Global, asked: OfConfig) -> Option<ConfigFixture> {
+    Some(ConfigFixture {
         alloc,
         asked,
         config: config(alloc)?,
     })
 }
 
-/// What a configuration says that is read again.
+/// The outcome of reading a configuration.
 fn read(alloc: Global) -> Said {
     match read_config(alloc, TWO) {
         Ok(config) => Said::Well(config.mark()),
@@ -47,7 +47,7 @@ fn read(alloc: Global) -> Said {
     }
 }
 
-impl Bench for ConfigBench {
+impl Fixture for ConfigFixture {
     fn call(&mut self) -> Said {
         match self.asked {
             OfConfig::Read => read(self.alloc),
@@ -65,7 +65,7 @@ impl Bench for ConfigBench {
     }
 }
 
-/// What is asked of a context.
+/// A call of a context.
 #[derive(Clone, Copy, Debug, PartialEq, Eq)]
 pub enum OfContext {
     Insert,
@@ -80,9 +80,9 @@ pub enum OfContext {
     ShareUnion,
 }
 
-/// A context, what is united with it, and its bytes. None of the others shares its rows, so that they show what became of it.
+/// A context, one to unite with it, and its bytes. The other contexts don't share its rows, so they show changes of it.
 #[derive(Drop)]
-pub struct ContextBench {
+pub struct ContextFixture {
     alloc: Global,
     asked: OfContext,
     context: Context,
@@ -99,12 +99,12 @@ fn bytes_of(alloc: Global, context: &Context) -> Result<Vec<u8>, NoMemory> {
     Ok(writer.into_bytes())
 }
 
-/// The bench of a call.
-pub fn contexts(alloc: Global, asked: OfContext) -> Option<ContextBench> {
+/// The fixture of contexts.
+pub fn contexts(alloc: Global, asked: OfContext) -> Option<ContextFixture> {
     let mine = [dot(ME, 1), dot(ME, 2), dot(ME, 5), dot(ME, 9)];
     let theirs = [dot(OTHER, 1), dot(OTHER, 2), dot(ME, 3), dot(ME, 7)];
     let all = context(alloc, &mine).ok()?;
-    Some(ContextBench {
+    Some(ContextFixture {
         alloc,
         asked,
         kept: context(alloc, &mine).ok()?,
@@ -116,7 +116,7 @@ pub fn contexts(alloc: Global, asked: OfContext) -> Option<ContextBench> {
     })
 }
 
-/// What an answer of a shared context says.
+/// The outcome of a call that returns a shared context.
 fn of_shared(answer: Result<SharedContext, NoMemory>) -> Said {
     match answer {
         Ok(shared) => Said::Well(short(shared.context().len())),
@@ -124,7 +124,7 @@ fn of_shared(answer: Result<SharedContext, NoMemory>) -> Said {
     }
 }
 
-/// What an answer of a context says.
+/// The outcome of a call that returns a context.
 fn of_context(answer: Result<Context, NoMemory>) -> Said {
     match answer {
         Ok(context) => Said::Well(short(context.len())),
@@ -132,8 +132,8 @@ fn of_context(answer: Result<Context, NoMemory>) -> Said {
     }
 }
 
-impl ContextBench {
-    /// Reads its bytes.
+impl ContextFixture {
+    /// Reads the context from its bytes.
     fn read(&self) -> Said {
         match ByteReader::new(&self.bytes).read_context(self.alloc, Version::Two, 3) {
             Ok((context, _)) => Said::Well(short(context.len())),
@@ -142,7 +142,7 @@ impl ContextBench {
         }
     }
 
-    /// Lists the further counters of its row.
+    /// Lists the cloud of the first row.
     fn further(&self) -> Said {
         match self.context.row(0) {
             Some((_, _, further)) => of_any(further.list(self.alloc)),
@@ -150,7 +150,7 @@ impl ContextBench {
         }
     }
 
-    /// Puts a dot into it, or a row behind it.
+    /// Inserts a dot or appends a row.
     fn grow(&mut self) -> Said {
         let answer = if self.asked == OfContext::Insert {
             self.context.insert(dot(OTHER, 4))
@@ -167,7 +167,7 @@ impl ContextBench {
     }
 }
 
-impl Bench for ContextBench {
+impl Fixture for ContextFixture {
     fn call(&mut self) -> Said {
         match self.asked {
             OfContext::Insert | OfContext::PushRow => self.grow(),
@@ -187,7 +187,7 @@ impl Bench for ContextBench {
     }
 }
 
-/// What is written, or put into a list.
+/// A value to write, or a key to insert.
 #[derive(Clone, Copy, Debug, PartialEq, Eq)]
 pub enum Written {
     Bytes,
@@ -204,20 +204,20 @@ pub enum Written {
     Key,
 }
 
-/// What is written behind nothing.
+/// The argument of a writer.
 #[derive(Drop)]
-pub struct WritingBench {
+pub struct WritingFixture {
     alloc: Global,
     written: Written,
 }
 
-/// The bench of a call.
-pub fn writing(alloc: Global, written: Written) -> Option<WritingBench> {
-    Some(WritingBench { alloc, written })
+/// The fixture of writers.
+pub fn writing(alloc: Global, written: Written) -> Option<WritingFixture> {
+    Some(WritingFixture { alloc, written })
 }
 
-impl WritingBench {
-    /// Writes it behind nothing.
+impl WritingFixture {
+    /// Writes the value to an empty writer.
     fn write(&self, writer: ByteWriter) -> Result<ByteWriter, NoMemory> {
         match self.written {
             Written::Bytes => writer.write_bytes(b"abc"),
@@ -235,7 +235,7 @@ impl WritingBench {
     }
 }
 
-/// Puts a key into an empty list.
+/// Inserts a key into an empty list.
 fn insert_one(alloc: Global) -> Said {
     let mut keys = Vec::new(alloc);
     match insert_key(&mut keys, 7u64) {
@@ -244,7 +244,7 @@ fn insert_one(alloc: Global) -> Said {
     }
 }
 
-impl Bench for WritingBench {
+impl Fixture for WritingFixture {
     fn call(&mut self) -> Said {
         if self.written == Written::Key {
             return insert_one(self.alloc);
@@ -260,7 +260,7 @@ impl Bench for WritingBench {
     }
 }
 
-/// What is asked of a buffer, or of what was acknowledged.
+/// A call of a delta log or of acknowledgements.
 #[derive(Clone, Copy, Debug, PartialEq, Eq)]
 pub enum OfBuffer {
     Push,
@@ -276,9 +276,9 @@ pub enum OfBuffer {
 /// A number at a key.
 type Delta = MapOf<u64, Max<u64>>;
 
-/// A buffer of 31 deltas or 32, with more to be pushed, and sixteen acknowledgements.
+/// A log of 31 or 32 deltas, deltas to append, and sixteen acknowledgements.
 #[derive(Drop)]
-pub struct BufferBench {
+pub struct BufferFixture {
     alloc: Global,
     asked: OfBuffer,
     buffer: Buffer<Delta>,
@@ -287,7 +287,7 @@ pub struct BufferBench {
     count: u64,
 }
 
-/// Pushes a delta, if there may be one more.
+/// Appends a delta, if the log isn't at its limit.
 fn push(alloc: Global, buffer: &mut Buffer<Delta>, number: u64) -> Result<(), NoMemory> {
     if buffer.count() < 1 << 62 {
         buffer.push(MapOf::one(alloc, number, Max::new(number))?)?;
@@ -295,7 +295,6 @@ fn push(alloc: Global, buffer: &mut Buffer<Delta>, number: u64) -> Result<(), No
     Ok(())
 }
 
-/// Three deltas.
 fn three(alloc: Global) -> Option<Vec<Delta>> {
     let mut three = Vec::new(alloc);
     for number in [7u64, 1000, 8] {
@@ -306,7 +305,7 @@ fn three(alloc: Global) -> Option<Vec<Delta>> {
     Some(three)
 }
 
-/// Twice three deltas, since they may have to be pushed again.
+/// Three deltas twice, because the call may be repeated.
 fn threes(alloc: Global) -> Option<Vec<Vec<Delta>>> {
     let mut all = Vec::new(alloc);
     all.push(three(alloc)?).ok()?;
@@ -314,7 +313,7 @@ fn threes(alloc: Global) -> Option<Vec<Vec<Delta>>> {
     Some(all)
 }
 
-/// What sixteen incarnations acknowledged: as many as there is room for.
+/// The acknowledgements of sixteen incarnations, which fill their capacity.
 fn full_acks(alloc: Global) -> Option<Acks> {
     let mut acks = Acks::new(alloc);
     for inc in 1..17u64 {
@@ -323,7 +322,7 @@ fn full_acks(alloc: Global) -> Option<Acks> {
     Some(acks)
 }
 
-/// So many deltas.
+/// A log of `count` deltas.
 fn deltas(alloc: Global, count: u64) -> Option<Buffer<Delta>> {
     let mut buffer = Buffer::new(alloc);
     for number in 0..count {
@@ -332,8 +331,8 @@ fn deltas(alloc: Global, count: u64) -> Option<Buffer<Delta>> {
     Some(buffer)
 }
 
-/// The deltas of a bench, with the joins of their blocks, unless these are asked for. A push finds as many deltas as there is
-/// room for. Of several pushes the first one finds room, and the second one none.
+/// The log of a call, with its blocks joined unless the call itself joins them. A push meets a full capacity. Of
+/// several pushes, only the second does.
 fn deltas_for(alloc: Global, asked: OfBuffer) -> Option<Buffer<Delta>> {
     let count: u64 = if asked == OfBuffer::Push { 32 } else { 31 };
     let mut buffer = deltas(alloc, count)?;
@@ -343,10 +342,10 @@ fn deltas_for(alloc: Global, asked: OfBuffer) -> Option<Buffer<Delta>> {
     Some(buffer)
 }
 
-/// The bench of a call.
-pub fn buffers(alloc: Global, asked: OfBuffer) -> Option<BufferBench> {
+/// The fixture of delta logs.
+pub fn buffers(alloc: Global, asked: OfBuffer) -> Option<BufferFixture> {
     let buffer = deltas_for(alloc, asked)?;
-    Some(BufferBench {
+    Some(BufferFixture {
         alloc,
         asked,
         more: threes(alloc)?,
@@ -356,8 +355,7 @@ pub fn buffers(alloc: Global, asked: OfBuffer) -> Option<BufferBench> {
     })
 }
 
-impl BufferBench {
-    /// Pushes several.
+impl BufferFixture {
     fn push_three(&mut self) -> Said {
         let Some(more) = self.more.pop() else {
             return Said::Other;
@@ -369,7 +367,7 @@ impl BufferBench {
         }
     }
 
-    /// The join of the deltas from the third on, or its blocks.
+    /// Joins the deltas after the third, or lists their blocks.
     fn join_from_third(&self) -> Said {
         if self.buffer.count() < 3 {
             return Said::Other;
@@ -382,7 +380,7 @@ impl BufferBench {
     }
 }
 
-impl Bench for BufferBench {
+impl Fixture for BufferFixture {
     fn call(&mut self) -> Said {
         match self.asked {
             OfBuffer::Push => of_any(push(self.alloc, &mut self.buffer, 99)),

@@ -1,5 +1,6 @@
-//! States that may be forged: well-formed ones that no operations of a world mean. They are joined, compared, spelled, decided
-//! on and printed, and heard by each of three nodes, which then ticks, ships and takes every command.
+//! Checks that every call accepts a forged state: a well-formed one that no operations of a world mean. The state is
+//! joined, compared, encoded, decided on and printed, and each of three nodes receives it, then ticks, ships and takes
+//! every command.
 use dac_base::{AppId, NodeId};
 use dac_config::Config;
 use dac_core::{Body, Command, Event, Message, Node, Refusal, Reply};
@@ -12,7 +13,7 @@ use dac_status::{Summary, page};
 use dac_wire::{Packet, decode, encode};
 use std::alloc::Global;
 
-/// Whether the states are joined and compared as values of a lattice.
+/// True if the states command_effect the laws of a lattice.
 fn are_ordered(alloc: Global, state: &State, other: &State) -> Option<bool> {
     let both = state.join(other).ok()?;
     let turned = other.join(state).ok()?;
@@ -26,14 +27,14 @@ fn are_ordered(alloc: Global, state: &State, other: &State) -> Option<bool> {
     )
 }
 
-/// Whether the state is read from its bytes.
+/// True if decoding the state's bytes returns it.
 fn is_spelled(alloc: Global, config: &Config, state: &State) -> Option<bool> {
     let bytes = state.encode().ok()?;
     let read = State::decode(alloc, config, bytes.as_slice()).ok()?;
     Some(read.equal(state))
 }
 
-/// Decides about an application, now and later, if the configuration has it.
+/// Runs every decision about a configured application, now and later.
 fn decides(config: &Config, state: &State, waits: &Waits, app: AppId) {
     if app.0 >= config.apps() {
         return;
@@ -46,7 +47,7 @@ fn decides(config: &Config, state: &State, waits: &Waits, app: AppId) {
     }
 }
 
-/// Whether the state is decided on and printed.
+/// True if the state can be decided on and printed.
 fn is_shown(alloc: Global, config: &Config, state: &State) -> Option<bool> {
     let mut waits = Waits::new(alloc, config).ok()?;
     waits.note(config, state, 3);
@@ -58,12 +59,12 @@ fn is_shown(alloc: Global, config: &Config, state: &State) -> Option<bool> {
     Some(!text.as_slice().is_empty())
 }
 
-/// Whether a step is answered, whatever it is, and not for want of memory.
+/// True if the step returns any result but `NoMemory`.
 fn is_answered(config: &Config, node: &mut Node, me: NodeId, event: Event) -> bool {
     node.step(config, me, event).err() != Some(Refusal::NoMemory)
 }
 
-/// Whether every command about a node and an application is answered.
+/// True if no command about a node and an application fails with `NoMemory`.
 fn takes_commands(config: &Config, node: &mut Node, me: NodeId, app: AppId, about: NodeId) -> bool {
     [
         Command::Permit {
@@ -84,7 +85,7 @@ fn takes_commands(config: &Config, node: &mut Node, me: NodeId, app: AppId, abou
     .all(|command| is_answered(config, node, me, Event::Command(*command)))
 }
 
-/// Whether what the node ships to another, if anything, is read from its bytes.
+/// True if the message that the node ships, if any, can be decoded.
 fn ships(alloc: Global, config: &Config, node: &mut Node, me: NodeId, to: NodeId) -> Option<bool> {
     match node.step(config, me, Event::Ship { to }) {
         Ok(Reply::Shipped(message)) => {
@@ -96,7 +97,7 @@ fn ships(alloc: Global, config: &Config, node: &mut Node, me: NodeId, to: NodeId
     }
 }
 
-/// A message that brings the state to a node.
+/// A message with the state as its body.
 fn message(state: &State, to: NodeId) -> Option<Message> {
     Some(Message {
         from: Origin {
@@ -111,7 +112,7 @@ fn message(state: &State, to: NodeId) -> Option<Message> {
     })
 }
 
-/// Whether a node hears the state, and answers all that it is asked then.
+/// True if a booted node accepts the state and returns from every event after it.
 fn hears(alloc: Global, config: &Config, state: &State, me: NodeId) -> Option<bool> {
     let mut node = Node::off(alloc, 0);
     let _up = node.step(config, me, Event::Boot { now: 0 }).ok()?;
@@ -129,8 +130,8 @@ fn hears(alloc: Global, config: &Config, state: &State, me: NodeId) -> Option<bo
     Some(all && is_spelled(alloc, config, node.state()?)?)
 }
 
-/// Whether a state is borne beside another one, under a configuration of three nodes and two applications. `None` where memory
-/// ran out.
+/// Returns whether every call accepts the state, together with another one, under a configuration of three nodes and
+/// two applications. `None` if an allocation fails.
 pub fn is_borne(alloc: Global, config: &Config, state: &State, other: &State) -> Option<bool> {
     let mut all = are_ordered(alloc, state, other)? && is_spelled(alloc, config, state)?;
     all = all && is_shown(alloc, config, state)?;

@@ -1,6 +1,6 @@
-//! States that may be forged, and whether every call bears them.
+//! Forged states, and whether every call accepts them.
 //!
-//! The tests of the controller ask it of states that are written out, and the program `growths` of random ones.
+//! The tests of the controller pass states written by hand, and the program `growths` random ones.
 #![tactic(auto)]
 
 pub use bearing::is_borne;

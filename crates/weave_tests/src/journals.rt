@@ -1,26 +1,25 @@
-//! Journals that are made by asking them.
+//! Journals recorded by calls.
 use dac_base::NodeId;
 use dac_config::{Config, read_config};
 use dac_journal::{Answer, Closed, Journal};
 use dac_messages::{Event, Reply};
 use std::alloc::Global;
 
-/// The documented example: three nodes, of which two must be there before an application starts.
+/// The documented example: three nodes, two of them mandatory.
 const EXAMPLE: &[u8] =
     b"[{kernel, [{distributed, [{myapp, 5000, [cp1@cave, {cp2@cave, cp3@cave}]}]}, {sync_nodes_mandatory, [cp2@cave, cp3@cave]}, {sync_nodes_timeout, 5000}]}].";
 
-/// The configuration of the example.
 pub(crate) fn example(alloc: Global) -> Option<Config> {
     read_config(alloc, EXAMPLE).ok()
 }
 
-/// A journal of a node after so many incarnations.
+/// An empty journal of a node after `last` incarnations.
 pub(crate) fn journal(alloc: Global, node: u8, last: u64) -> Option<Journal> {
     let config = example(alloc)?;
     Some(Journal::new(alloc, config, NodeId(node), last))
 }
 
-/// Asks a node by its first seat.
+/// Runs an event at a node through its first seat.
 pub(crate) fn ask(journal: &mut Journal, event: Event) -> Option<Answer> {
     if journal.is_full() {
         return None;
@@ -30,7 +29,7 @@ pub(crate) fn ask(journal: &mut Journal, event: Event) -> Option<Answer> {
     Some(answer)
 }
 
-/// Ships from one node to another, which hears it. A node that has all ships nothing.
+/// Ships from one node to another, which receives the message. Nothing happens if the receiver is up to date.
 pub(crate) fn tell(from: &mut Journal, to: &mut Journal, to_node: u8) -> Option<()> {
     let answer = ask(
         from,
@@ -45,7 +44,6 @@ pub(crate) fn tell(from: &mut Journal, to: &mut Journal, to_node: u8) -> Option<
     Some(())
 }
 
-/// These journals, closed.
 pub(crate) fn close_all<const N: usize>(
     alloc: Global,
     journals: [Journal; N],

@@ -1,4 +1,4 @@
-//! Tests of the weave: journals of three nodes, journals that no run gives, and none at all.
+//! Tests of the weave: journals of three nodes, journals that no run reproduces, and no journals.
 #![tactic(auto)]
 
 #[cfg(test)]

@@ -1,4 +1,4 @@
-//! Journals that no run gives, and none.
+//! Journals that no run reproduces, and no journals.
 use crate::journals::{ask, close_all, example, journal};
 use dac_base::NodeId;
 use dac_events::WorldEvent;
@@ -9,13 +9,12 @@ use dac_weave::{WeaveFault, weave};
 use std::alloc::Global;
 use std::test::Fail;
 
-/// What is woven of some journals under the example's configuration.
+/// The result of weaving under the example's configuration.
 fn woven(alloc: Global, journals: &[Closed]) -> Option<Result<Vec<WorldEvent>, WeaveFault>> {
     let config = example(alloc)?;
     Some(weave(alloc, &config, journals))
 }
 
-/// The fault of some journals, if there is one.
 fn fault_of(alloc: Global, journals: &[Closed]) -> Option<WeaveFault> {
     woven(alloc, journals)?.err()
 }
@@ -35,7 +34,7 @@ fn strange_message() -> Message {
     }
 }
 
-/// The second node hears a message that was made by hand; the first one's journal is empty.
+/// The fault if a node receives a message that no node shipped.
 fn by_hand(alloc: Global) -> Option<WeaveFault> {
     let p = journal(alloc, 0, 0)?;
     let mut q = journal(alloc, 1, 0)?;
@@ -45,7 +44,7 @@ fn by_hand(alloc: Global) -> Option<WeaveFault> {
     fault_of(alloc, journals.as_slice())
 }
 
-/// The fault of journals without records, of these nodes after so many incarnations.
+/// The fault of empty journals of these nodes after these incarnations.
 fn of_empty(alloc: Global, nodes: &[(u8, u64)]) -> Option<WeaveFault> {
     let mut journals = Vec::new(alloc);
     for (node, last) in nodes {
@@ -55,8 +54,8 @@ fn of_empty(alloc: Global, nodes: &[(u8, u64)]) -> Option<WeaveFault> {
     fault_of(alloc, journals.as_slice())
 }
 
-/// A node that the configuration hasn't, with a record.
-fn stranger(alloc: Global) -> Option<WeaveFault> {
+/// The fault of a journal with a record of an unconfigured node.
+fn unseated_record(alloc: Global) -> Option<WeaveFault> {
     let p = journal(alloc, 0, 0)?;
     let q = journal(alloc, 1, 0)?;
     let mut other = journal(alloc, 9, 0)?;
@@ -72,7 +71,7 @@ fn unwoven(node: u8, place: u64) -> WeaveFault {
     }
 }
 
-/// Journals without records, by node and number of incarnations, and the node of which the fault is.
+/// Node and number of incarnations of empty journals, and the node of the fault.
 const EMPTY: &[(&[(u8, u64)], Option<u8>)] = &[
     // A journal after five incarnations.
     (&[(1, 5)], Some(1)),
@@ -80,14 +79,14 @@ const EMPTY: &[(&[(u8, u64)], Option<u8>)] = &[
     // Two journals of one node.
     (&[(1, 0), (1, 0)], Some(1)),
     (&[(2, 0), (1, 0), (2, 0)], Some(2)),
-    // The least-named of both.
+    // The least node of both faults.
     (&[(2, 0), (1, 7), (2, 0)], Some(1)),
     // Each node once.
     (&[(0, 0)], None),
     (&[(2, 0), (1, 0), (0, 0)], None),
 ];
 
-/// Whether the fault of such journals is of this node, at place 0.
+/// True if the fault of these empty journals names this node and place 0.
 fn is_of(alloc: Global, nodes: &[(u8, u64)], node: Option<u8>) -> bool {
     let wanted = match node {
         Some(node) => Some(unwoven(node, 0)),
@@ -96,7 +95,7 @@ fn is_of(alloc: Global, nodes: &[(u8, u64)], node: Option<u8>) -> bool {
     of_empty(alloc, nodes) == wanted
 }
 
-/// How many events are woven of no journals.
+/// The number of events woven from no journals.
 fn of_none(alloc: Global) -> Option<usize> {
     let journals: Vec<Closed> = Vec::new(alloc);
     let events = woven(alloc, journals.as_slice())?.ok()?;
@@ -119,7 +118,7 @@ fn journals_without_records(rt: HostRuntime) -> Result<(), Fail> {
 
 #[test]
 fn an_unknown_node(rt: HostRuntime) -> Result<(), Fail> {
-    assert_eq!(rt; stranger(rt.alloc()), Some(unwoven(9, 1)));
+    assert_eq!(rt; unseated_record(rt.alloc()), Some(unwoven(9, 1)));
     Ok(())
 }
 

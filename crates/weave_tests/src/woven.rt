@@ -1,4 +1,4 @@
-//! Journals that are woven.
+//! Journals that can be woven.
 use crate::journals::{ask, close_all, example, journal, tell};
 use dac_base::{AppId, NodeId};
 use dac_events::{Command, What, WorldEvent};
@@ -8,7 +8,7 @@ use dac_weave::weave;
 use std::alloc::Global;
 use std::test::Fail;
 
-/// Each of three nodes tells each other one.
+/// An anti-entropy round of three nodes.
 fn tell_all(p: &mut Journal, q: &mut Journal, r: &mut Journal) -> Option<()> {
     tell(p, q, 1)?;
     tell(p, r, 2)?;
@@ -18,7 +18,7 @@ fn tell_all(p: &mut Journal, q: &mut Journal, r: &mut Journal) -> Option<()> {
     tell(r, q, 1)
 }
 
-/// A phase's ships: five of each link, each heard before the next one.
+/// The ships of a phase: five rounds.
 fn ship_phase(p: &mut Journal, q: &mut Journal, r: &mut Journal) -> Option<()> {
     for _time in 0..5u32 {
         tell_all(p, q, r)?;
@@ -52,7 +52,7 @@ fn permit(journal: &mut Journal, node: u8, value: bool) -> Option<()> {
     )
 }
 
-/// Each of three nodes boots at moment 0.
+/// Boots each of three nodes at time 0.
 fn boot_all(p: &mut Journal, q: &mut Journal, r: &mut Journal) -> Option<()> {
     let _up = ask(p, Event::Boot { now: 0 })?;
     let _up = ask(q, Event::Boot { now: 0 })?;
@@ -60,7 +60,7 @@ fn boot_all(p: &mut Journal, q: &mut Journal, r: &mut Journal) -> Option<()> {
     Some(())
 }
 
-/// Each of three nodes is started and permits another one, or forbids itself.
+/// Starts the application at each of three nodes, and permits or forbids it at each.
 fn wish_all(p: &mut Journal, q: &mut Journal, r: &mut Journal) -> Option<()> {
     start(p, 0)?;
     permit(p, 2, true)?;
@@ -70,8 +70,8 @@ fn wish_all(p: &mut Journal, q: &mut Journal, r: &mut Journal) -> Option<()> {
     permit(r, 0, true)
 }
 
-/// What the script `PHASES` of `program_tests` leaves in the journals, in one order of its threads: three nodes boot, wish and
-/// permit, and two tick.
+/// The journals of the script `PHASES` of `program_tests` in one order of its threads: three nodes boot, are commanded,
+/// and two of them tick.
 fn three_phases(alloc: Global) -> Option<Vec<Closed>> {
     let mut p = journal(alloc, 0, 0)?;
     let mut q = journal(alloc, 1, 0)?;
@@ -86,7 +86,7 @@ fn three_phases(alloc: Global) -> Option<Vec<Closed>> {
     close_all(alloc, [r, p, q])
 }
 
-/// How many records the three journals have, and how many events are woven of them.
+/// The number of records in the three journals, and of events woven from them.
 fn count_three(alloc: Global) -> Option<(usize, usize)> {
     let config = example(alloc)?;
     let journals = three_phases(alloc)?;
@@ -98,8 +98,8 @@ fn count_three(alloc: Global) -> Option<(usize, usize)> {
     Some((records, events.len()))
 }
 
-/// The events of two nodes, of which the second one's journal comes first: it hears what the first ships, and is
-/// handed the operation of its boot.
+/// The events of two nodes, the receiver's journal first. It receives the other's message, and the operation of its
+/// boot on its own.
 fn two_nodes(alloc: Global) -> Option<Vec<WorldEvent>> {
     let config = example(alloc)?;
     let mut p = journal(alloc, 0, 0)?;
@@ -112,7 +112,7 @@ fn two_nodes(alloc: Global) -> Option<Vec<WorldEvent>> {
     weave(alloc, &config, journals.as_slice()).ok()
 }
 
-/// Hands a node the operation of a boot.
+/// Delivers the operation of a boot on its own.
 fn hand(journal: &mut Journal, booted: &Answer) -> Option<()> {
     if let Ok(Reply::Booted(operation)) = booted {
         let copied = operation.copy().ok()?;
@@ -129,7 +129,7 @@ fn event(node: u8, what: What) -> WorldEvent {
     }
 }
 
-/// Whether they are these events, in this order: a journal is gone on with while its next record can be placed.
+/// True if these are the wanted events, in order: the weave stays with a journal as long as possible.
 fn are_five(events: &[WorldEvent]) -> bool {
     let wanted = [
         event(1, What::Boot { now: 5 }),

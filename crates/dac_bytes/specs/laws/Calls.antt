@@ -1,4 +1,4 @@
--- What a call that reads says of its result, by the laws of what it reads.
+-- From the laws of the definitions to the result of a call that reads.
 use Rattle.std.specs.Prelude.{◌≡◌, ℕ, List, Result, Ok, Err}
 use Rattle.std.proofs.Common.{sym, ap, subst, ◌∙◌}
 use Rattle.dac_bytes.specs.declared.fault.ReadFault.{ReadFault}
@@ -6,7 +6,7 @@ use Rattle.dac_bytes.specs.Reading.{Rest, Field, Gives, IsOfBytes}
 use Rattle.dac_bytes.specs.laws.Items.{Fails-from}
 use Rattle.dac_bytes.specs.Takes.{TakesAs, Again, IsFoundAs, IsReadAgain}
 
--- a call that takes no memory gives what is read
+-- a call that allocates nothing returns the result of the definition
 pub exact_gives : {X : Type 0} (result read : Field X) → result ≡ read → IsOfBytes result → Gives (λ x. x) result read
 exact_gives (Ok x) read is real = sym is
 exact_gives (Err e) read is real = Fails-from e.kind e read real (sym is)

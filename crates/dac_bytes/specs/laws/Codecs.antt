@@ -1,4 +1,4 @@
--- How fields whose values and spellings are one to one are made of others.
+-- Codecs that are composed of other codecs.
 use Rattle.std.specs.Prelude.{◌≡◌, ℕ, ◌+◌, Bool, true, false, cond, List, ◌++◌, length, Result, Ok, Err, refl}
 use Rattle.std.proofs.Common.{sym, ap, subst, ◌∙◌}
 use Rattle.dac_bytes.specs.declared.fault.ReadFault.{ReadFault}
@@ -6,7 +6,7 @@ use Rattle.dac_bytes.specs.Reading.{Rest, Field, ◌>>=◌}
 use Rattle.dac_bytes.specs.Takes.{IsCodec, Passes, Takes, Again}
 use Rattle.dac_bytes.specs.laws.Takes.{TakesAs-more, TakesAs-made, TakesAs-both, Again-made, Again-both, bind_ok}
 
--- what reads alike is one to one alike
+-- a codec by a reader with equal results
 pub codec_alike : {X : Type 0} (read other : Rest → Field X) (text : X → List ℕ) (Is : X → Type 0) → ((r : Rest) → other r ≡ read r) → IsCodec read text Is → IsCodec other text Is
 codec_alike read other text Is alike codec = record {
   takes = λ r x fits e. codec.takes r x fits (sym (alike r) ∙ e);
@@ -19,11 +19,11 @@ bind_bind (Ok x) f g = refl
 bind_bind (Err e) f g = refl
 
 module _ {X : Type 0} (read : Rest → Field X) (text : X → List ℕ) (Is : X → Type 0) (codec : IsCodec read text Is) where
-  -- the same form in other words
+  -- a codec for an equivalent form
   pub codec_same : (More : X → Type 0) → ((x : X) → Is x → More x) → ((x : X) → More x → Is x) → IsCodec read text More
   codec_same More to back = record { takes = TakesAs-more read text Is More codec.takes to; again = λ x is. codec.again x (back x is) }
 
-  -- a field that has to pass a test
+  -- a field that must pass a test
   module _ (good : X → Bool) (wrong : Rest → X × Rest → ReadFault) where
     abbrev pub wanted_at : Rest → Field X
     wanted_at r = read r >>= λ x. cond (good x.0) (Ok x) (Err (wrong r x))
@@ -46,7 +46,7 @@ module _ {X : Type 0} (read : Rest → Field X) (text : X → List ℕ) (Is : X 
           ∙ ap (λ (b : Bool). cond b (Ok (x, end)) (Err (wrong r (x, end)))) is.1;
     }
 
-  -- a field of which something is made
+  -- a field whose value is converted
   module _ {Y : Type 0} (make : X → Y) (spelled : Y → List ℕ) (More : Y → Type 0) where
     pub codec_made : ((x : X) → Is x → (text x ≡ spelled (make x)) × More (make x)) → ((y : Y) → More y → (x : X) × Is x × (make x ≡ y))
         → IsCodec (λ r. read r >>= λ x. Ok (make x.0, x.1)) spelled More
@@ -59,7 +59,7 @@ module _ {X : Type 0} (read : Rest → Field X) (text : X → List ℕ) (Is : X 
           (subst (λ (t : List ℕ). Again read_made t (make b.0)) (to b.0 b.1).0 (Again-made read make (text b.0) b.0 (codec.again b.0 b.1)));
     }
 
-  -- two fields of which something is made; what is read first may decide what is read next
+  -- two fields whose values are combined; the first can determine how the second is read
   module _ {Y Z : Type 0} (next : X → Rest → Field Y) (text_next : X → Y → List ℕ) (IsNext : X → Y → Type 0) (codec_next : (x : X) → Is x → IsCodec (next x) (text_next x) (IsNext x))
       (make : X → Y → Z) (spelled : Z → List ℕ) (More : Z → Type 0) where
     pub codec_both : ((x : X) (y : Y) → Is x → IsNext x y → (text x ++ text_next x y ≡ spelled (make x y)) × More (make x y))
@@ -74,7 +74,6 @@ module _ {X : Type 0} (read : Rest → Field X) (text : X → List ℕ) (Is : X 
           (Again-both read next make (text b.0) (text_next b.0 b.1) b.0 b.1 (codec.again b.0 b.2) ((codec_next b.0 b.2).again b.1 b.3)));
     }
 
-  -- two fields, as a pair
   module _ {Y : Type 0} (next : X → Rest → Field Y) (text_next : X → Y → List ℕ) (IsNext : X → Y → Type 0) (codec_next : (x : X) → Is x → IsCodec (next x) (text_next x) (IsNext x)) where
     abbrev pub pair_bytes : X × Y → List ℕ
     pair_bytes p = text p.0 ++ text_next p.0 p.1

@@ -1,4 +1,5 @@
--- What is read as a context is the one spelling of a set of dots in range. Each such set is read from its spelling.
+-- The codec of contexts: a context that is read is in range and has these bytes as its spelling, and each one in range
+-- is read from its spelling.
 use Rattle.std.specs.Prelude.{◌≡◌, ℕ, ◌+◌, ◌-◌, ◌<◌, ◌≤◌, ◌^◌, true, false, cond, nat_lt, nat_eq, List, [], ◌∷◌, ◌++◌, length, Option, Some, None, Ok, refl}
 use Rattle.std.specs.List.{flat_map, AllByRecursion}
 use Rattle.std.specs.Int.{w16, w64}
@@ -60,14 +61,14 @@ regroup : (a b c d : List ℕ) → a ++ (b ++ (c ++ d)) ≡ ((a ++ b) ++ c) ++ d
 regroup a b c d = sym (simp append_assoc)
 
 module _ (version : Version) (nodes : ℕ) where
-  -- a row of an origin above the one before it
+  -- a row of an origin greater than the previous one
   abbrev IsNext : Option Origin → Row → Type 0
   IsNext = IsNextAbove origin_cmp (λ (row : Row). row.origin) (IsRow version nodes)
 
   abbrev made : Origin → ℕ → List ℕ → Row
   made origin upto further = record { origin = origin; upto = upto; further = further }
 
-  -- the four fields of a row, one after the other
+  -- the four fields of a row in sequence
   row_spelled : (origin : Origin) (upto : ℕ) (further : List ℕ) (r a b c end : Rest)
       → Takes r (origin_bytes version origin) a → Takes a (u64_bytes upto) b → Takes b (u32_bytes (length further)) c → Takes c (flat_map u64_bytes further) end → Takes r (row_bytes version (made origin upto further)) end
   unfolding row_bytes
@@ -120,7 +121,7 @@ module _ (version : Version) (nodes : ℕ) where
       let a = bind_ok (origin_above_at version nodes before r) (λ origin. range_at w64 0 MAX_COUNTER origin.1 >>= λ upto. further_count_at upto.0 upto.1 >>= λ count. items_at further_at (λ n. n) count.0 (upto.0 + 1) count.1 >>= λ further. Ok (made origin.0 upto.0 further.0, further.1)) x e in
       row_rest before r a.0 x (origin_above_takes version nodes before r a.0 fits a.1) a.2
 
-  -- the set of rows that were read is spelled by them
+  -- the rows of the context that was read are the rows that were read
   rows_are : (rows : List Row) → AreRising origin_cmp (λ (row : Row). row.origin) (IsRow version nodes) None rows → rows_of (dots_in rows) ≡ rows
   rows_are rows h = rows_are_read version nodes rows h.each h.rising
 
@@ -128,7 +129,7 @@ module _ (version : Version) (nodes : ℕ) where
   counts [] all = tt
   counts (row ∷ rows) all = (all.0.count, counts rows all.1)
 
-  -- What is read is spelled so, and can be read.
+  -- A context that is read has these bytes as its spelling, and is in range.
   pub context_takes : TakesAs (context_at version nodes) (context_bytes version) (IsContext version nodes)
   unfolding context_at rows_at context_bytes
   context_takes r x fits e =
@@ -171,7 +172,7 @@ module _ (version : Version) (nodes : ℕ) where
         (origin_above_again version nodes one_byte_each before o is.origin h.1) upto in
         subst (λ (t : List ℕ). Again (row_at version nodes before) t row) (regroup (origin_bytes version o) (u64_bytes v) (u32_bytes count) (flat_map u64_bytes ns)) read
 
-    -- What can be read is read from its spelling.
+    -- A context in range is read from its spelling.
     pub context_again : (dots : Dots) → IsContext version nodes dots → Again (context_at version nodes) (context_bytes version dots) dots
     unfolding context_at rows_at context_bytes
     context_again dots is =

@@ -1,4 +1,5 @@
--- The laws of each field: what is read is spelled so and in range, and what is in range is read from its spelling.
+-- The codecs of fields: a value that is read is in range and has these bytes as its spelling, and each one in range is
+-- read from its spelling.
 use Rattle.std.specs.Prelude.{◌≡◌, ℕ, ◌+◌, ◌^◌, ◌<◌, ◌≤◌, Bool, true, false, ◌||◌, ◌%◌, cond, List, [], ◌∷◌, ◌++◌, length, take, Option, Ok, nat_lt, refl}
 use Rattle.std.specs.Int.{Width, w8, w16, w32, w64, byte_len, from_be_bytes, to_be_bytes}
 use Rattle.std.proofs.Common.{sym, ap, subst, ◌∙◌, arith}
@@ -23,7 +24,7 @@ use Rattle.dac_bytes.specs.laws.Takes.{IsBytes-take, Takes-front, bind_ok, guard
 
 -- ---- numbers
 
--- numbers below a limit and their bytes are one to one
+-- numbers below a limit correspond one to one to their bytes
 pub record IsWide (w : Width) (limit : ℕ) : Type 0 where
   pub len : (n : ℕ) → length (to_be_bytes w n) ≡ byte_len w
   pub back : (bytes : List ℕ) → length bytes ≡ byte_len w → IsBytes bytes → to_be_bytes w (from_be_bytes w bytes) ≡ bytes
@@ -84,7 +85,7 @@ module _ (w : Width) (limit : ℕ) (wide : IsWide w limit) where
       let long : nat_lt (length (to_be_bytes w n ++ rest)) (byte_len w) ≡ false = le-ltb _ _ (omega (arith, length-append (to_be_bytes w n) rest)) in
       rw (long, take_at (to_be_bytes w n) rest (byte_len w) len, drop_at (to_be_bytes w n) rest (byte_len w) len, wide.again n lt, len) refl
 
-  -- a number from low to high
+  -- a number from `low` to `high`
   module _ (low high : ℕ) where
     out : ℕ → Bool
     out n = nat_lt n low || nat_lt high n
@@ -151,12 +152,12 @@ module _ (low high : ℕ) where
   unfolding u64_bytes
   u64_in_again = range_again w64 (2 ^ 64) wide64 low high
 
--- what no number of an incarnation's bytes reaches
+-- an exclusive bound of the numbers in an incarnation's bytes
 abbrev pub beyond_incarnation : Version → ℕ
 beyond_incarnation One = 2 ^ 32
 beyond_incarnation Two = 2 ^ 64
 
--- ---- names
+-- ---- nodes, origins and dots
 
 abbrev node_bytes : NodeId → List ℕ
 node_bytes node = u8_bytes node.0
@@ -164,7 +165,7 @@ node_bytes node = u8_bytes node.0
 abbrev named : ℕ → NodeId
 named n = record { 0 = n }
 
--- an incarnation is as wide as the version says, and within that
+-- an incarnation has the version's width
 pub wide_incarnation : (version : Version) → IsWide (incarnation_width version) (beyond_incarnation version)
 wide_incarnation One = wide32
 wide_incarnation Two = wide64
@@ -230,7 +231,7 @@ module _ (version : Version) (nodes : ℕ) where
   unfolding dot_above_at
   dot_above_takes before = TakesAs-wanted (dot_at version nodes) (dot_bytes version) (IsDot version nodes) (is_above dot_cmp before) BadOrder dot_takes
 
-  -- node numbers are of one byte
+  -- node numbers fit one byte
   module _ (one_byte_each : nodes ≤ 2 ^ 8) where
     pub node_again : (node : NodeId) → node.0 < nodes → Again (node_at nodes) (u8_bytes node.0) node
     unfolding node_at

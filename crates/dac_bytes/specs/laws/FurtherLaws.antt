@@ -1,4 +1,4 @@
--- Further counters: what is read in order, and which counters a row has.
+-- Further counters: the order in which they are read, and the counters of a row.
 use Rattle.std.specs.Prelude.{◌≡◌, ℕ, ◌<◌, true, List, [], ◌∷◌, refl}
 use Rattle.std.specs.Ordering.{nat_cmp, eq_by_cmp}
 use Rattle.std.proofs.Common.{inl, inr, sym, subst, arith}
@@ -8,7 +8,7 @@ use Rattle.dac_dots.specs.laws.CounterLaws.{less, is_less, same, is_same, below_
 use Rattle.dac_bytes.specs.Items.{Chain}
 use Rattle.dac_bytes.specs.Ranges.{IsFurther}
 
--- what is known of further counters that were read in order
+-- the facts about further counters that were read in order
 pub record AreFurther (low : ℕ) (ns : List ℕ) : Type 0 where
   pub above : is_below_all nat_cmp low ns ≡ true
   pub rising : IsRising nat_cmp ns
@@ -28,7 +28,7 @@ further_of_chain low (x ∷ ns) c =
       ];
     }
 
--- a counter of a list that another is below
+-- a counter of a list is greater than a lower bound of the list
 beyond : (x : ℕ) (ns : List ℕ) (n : ℕ) → is_below_all nat_cmp x ns ≡ true → has_key nat_cmp ns n ≡ true → x < n
 beyond x [] n h e = absurd (false≢true e)
 beyond x (y ∷ ns) n h e = elim (or_cases (eq_by_cmp nat_cmp n y) (has_key nat_cmp ns n) e) [

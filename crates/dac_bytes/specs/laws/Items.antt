@@ -16,7 +16,7 @@ regroup : {X : Type 0} (front : List X) (x : X) (read : Field (List X)) → with
 regroup {X = X} front x (Ok y) = ap (λ (xs : List X). Ok (xs, y.1)) (simp append_assoc)
 regroup front x (Err e) = refl
 
--- a fault of one step is that of another
+-- a fault of one step is the fault of another
 pub Fails-on : {A B : Type 0} (kind : ReadFaultKind) (e : ReadFault) (a : Result A ReadFault) (b : Result B ReadFault) → Fails kind e a → (a ≡ Err e → b ≡ Err e) → Fails kind e b
 Fails-on NoMemory e a b h on = h
 Fails-on Short e a b h on = on h
@@ -27,7 +27,7 @@ Fails-on NotInList e a b h on = on h
 Fails-on NotKnown e a b h on = on h
 Fails-on Trailing e a b h on = on h
 
--- a step that takes no memory fails with its fault
+-- a step that allocates nothing fails with its own fault
 pub Fails-from : {A : Type 0} (kind : ReadFaultKind) (e : ReadFault) (a : Result A ReadFault) → ¬ (kind ≡ NoMemory) → a ≡ Err e → Fails kind e a
 Fails-from NoMemory e a real h = absurd (real refl)
 Fails-from Short e a real h = h
@@ -41,7 +41,7 @@ Fails-from Trailing e a real h = h
 module _ {S X : Type 0} (item : S → Rest → Field X) (next : X → S) where
   -- ---- a loop
 
-  -- one item more was read
+  -- one more item was read
   pub goes_on : (front : List X) (count i : ℕ) (s : S) (r : Rest) (x : X) (end : Rest) (total : Field (List X)) → i < count → item s r ≡ Ok (x, end)
       → with_front front (items_at item next (count - i) s r) ≡ total → with_front (front ++ x ∷ []) (items_at item next (count - (i + 1)) (next x) end) ≡ total
   unfolding items_at

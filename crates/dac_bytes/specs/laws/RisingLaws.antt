@@ -1,4 +1,4 @@
--- Items that are read in rising order, each above the one before it.
+-- Items that are read in ascending order, each with a greater key than the previous one.
 use Rattle.std.specs.Prelude.{◌≡◌, Bool, true, List, [], ◌∷◌, map, Option, Some, None, refl}
 use Rattle.std.specs.List.{AllByRecursion}
 use Rattle.std.specs.declared.cmp.Ordering.{Ordering}
@@ -9,16 +9,16 @@ use Rattle.dac_origins.specs.laws.InOrder.{less, below_more}
 use Rattle.dac_bytes.specs.Reading.{is_above}
 use Rattle.dac_bytes.specs.Items.{Chain}
 
--- whether the one before, where there is one, is below all keys
+-- whether the previous key, if any, is less than all keys
 abbrev pub starts_above : {K : Type 0} → (K → K → Ordering) → Option K → List K → Bool
 starts_above R None ks = true
 starts_above R (Some before) ks = is_below_all R before ks
 
--- what an item is, and its key above the one before it
+-- an item that satisfies `Is`, with a key greater than the previous one
 abbrev pub IsNextAbove : {X K : Type 0} → (K → K → Ordering) → (X → K) → (X → Type 0) → Option K → X → Type 0
 IsNextAbove R key Is before x = Is x × (is_above R before (key x) ≡ true)
 
--- each item is so, and their keys rise
+-- each item satisfies `Is`, and their keys ascend
 pub record AreRising {X K : Type 0} (R : K → K → Ordering) (key : X → K) (Is : X → Type 0) (before : Option K) (xs : List X) : Type 0 where
   pub each : AllByRecursion Is xs
   pub rising : IsRising R (map key xs)
@@ -37,7 +37,7 @@ module _ {X K : Type 0} {R : K → K → Ordering} (o : IsTotalOrder R) (key : X
   starts_none None = refl
   starts_none (Some b) = refl
 
-  -- what is read one above the other rises
+  -- items that are read one by one ascend
   pub rising_of : (before : Option K) (xs : List X) → Chain (IsNextAbove R key Is) (λ x. Some (key x)) before xs → AreRising R key Is before xs
   rising_of before [] c = record { each = tt; rising = refl; above = starts_none before }
   rising_of before (x ∷ xs) c =
@@ -48,7 +48,7 @@ module _ {X K : Type 0} {R : K → K → Ordering} (o : IsTotalOrder R) (key : X
         above = starts_more before (key x) (map key xs) c.0.1 rest.above;
       }
 
-  -- what rises can be read one above the other
+  -- items that ascend can be read one by one
   pub chain_of : (before : Option K) (xs : List X) → AreRising R key Is before xs → Chain (IsNextAbove R key Is) (λ x. Some (key x)) before xs
   chain_of before [] h = tt
   chain_of before (x ∷ xs) h =

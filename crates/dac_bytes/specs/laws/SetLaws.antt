@@ -1,4 +1,4 @@
--- Rows that were read are the rows of the set of their dots, and the rows of a set can be read.
+-- Rows that were read are the rows of the set of their dots, and the rows of a set in range can be read.
 use Rattle.std.specs.Prelude.{◌≡◌, ℕ, ◌+◌, ◌<◌, ◌≤◌, ◌^◌, true, ◌&&◌, nat_le, List, [], ◌∷◌, length}
 use Rattle.std.specs.List.{AllByRecursion}
 use Rattle.std.specs.Ordering.{nat_cmp, eq_by_cmp}
@@ -16,7 +16,7 @@ use Rattle.dac_bytes.specs.declared.version.Version.{Version}
 use Rattle.dac_bytes.specs.laws.FurtherLaws.{further_of_chain, chain_of_further}
 use Rattle.dac_bytes.specs.Ranges.{IsOrigin, IsDot, InRange, IsRow, IsFurther}
 
--- ---- rows that were read tell their set
+-- ---- rows that were read determine their set
 
 module _ (version : Version) (nodes : ℕ) where
   kept_row : (row : Row) → IsRow version nodes row → IsKept row × HasSome row
@@ -34,7 +34,7 @@ module _ (version : Version) (nodes : ℕ) where
   pub rows_are_read : (rows : List Row) → AllByRecursion (IsRow version nodes) rows → IsRising origin_cmp (origins rows) → rows_of (dots_in rows) ≡ rows
   rows_are_read rows is rising = kept_are rows (record { each = kept_rows rows is; rising = rising })
 
-  -- each dot of rows that were read is one that there can be
+  -- each dot of rows that were read is in range
   dot_in_range : (rows : List Row) → AllByRecursion (IsRow version nodes) rows → (q : Dot) → any_row rows q ≡ true → IsDot version nodes q
   dot_in_range [] is q e = absurd (false≢true e)
   dot_in_range (row ∷ rows) is q e = elim (or_cases (eq_by_cmp origin_cmp q.origin row.origin && has_counter row q.n) (any_row rows q) e) [

@@ -47,7 +47,7 @@ exact_options None (Some y) e = cc
 exact_options (Some x) None e = cc
 exact_options (Some x) (Some y) e = ap (λ n. Some n) (exact_nodes x y e)
 
--- only equal claims tie, where only equal ways to claim do
+-- only equal claims tie, if only equal ways tie
 pub exact_claims : (hows : How → How → Ordering) → CmpEqualImpliesEq hows
     → CmpEqualImpliesEq (λ (a b : Claim). ordering_then (nat_cmp a.term b.term) (ordering_then (origin_cmp a.origin b.origin) (manner_cmp hows (a.how, a.from) (b.how, b.from))))
 exact_claims hows exact a b h =

@@ -49,7 +49,7 @@ any None = tt
 any (Some v) = tt
 
 module _ {K T : Type 0} {R : K → K → Ordering} (keys : IsTotalOrder R) (exact_keys : CmpEqualImpliesEq R) where
-  -- what the greater of two maps has at a key
+  -- the value of the greater map at a key
   pub get-greater : (cmp : T → T → Ordering) (s t : map.FinMap R T) (k : K) → map.get (greater cmp s t) k ≡ join_options (ord_max cmp) (map.get s k) (map.get t k)
   unfolding greater
   get-greater cmp s t k =
@@ -58,7 +58,7 @@ module _ {K T : Type 0} {R : K → K → Ordering} (keys : IsTotalOrder R) (exac
       ∙ (λ i. join_options (ord_max cmp) (sym (map.get-entries s k) i) (sym (map.get-entries t k) i))
 
 module _ {K T : Type 0} {R : K → K → Ordering} {cmp : T → T → Ordering} (keys : IsTotalOrder R) (exact_keys : CmpEqualImpliesEq R) (o : IsTotalOrder cmp) (exact : CmpEqualImpliesEq cmp) where
-  -- maps are a lattice, in which the greater map is the least upper bound
+  -- maps are a lattice, with the greater map as least upper bound
   pub greatest_laws : IsLattice {T = map.FinMap R T} IsAny (AreNotAbove cmp) (greater cmp)
   greatest_laws =
       let values = optional_laws (chain_laws o exact) in
@@ -72,7 +72,7 @@ module _ {K T : Type 0} {R : K → K → Ordering} {cmp : T → T → Ordering} 
         least = λ s t u _ _ _ p q k. subst (λ x. IsOptionBelow (IsAtMost cmp) x (map.get u k)) (sym (get-greater keys exact_keys cmp s t k)) (values.least (map.get s k) (map.get t k) (map.get u k) (any _) (any _) (any _) (p k) (q k));
       }
 
-  -- a map without keys is below all
+  -- the empty map is below all
   pub empty_is_least : (s : map.FinMap R T) → AreNotAbove cmp map.empty s
   empty_is_least s k = subst (λ x. IsOptionBelow (IsAtMost cmp) x (map.get s k)) (sym (map.get-empty R k)) tt
 
@@ -92,7 +92,7 @@ module _ {K T : Type 0} {R : K → K → Ordering} {cmp : T → T → Ordering} 
       key_of : (w : T) → Some e ≡ Some (k, w) → e.0 ≡ k
       key_of w same = cc
 
-  -- what one operation says of a key is the greatest that it says of it
+  -- the report of one operation is the greatest that it makes
   alone_says : (e : Option (K × T)) (k : K) → IsGreatest cmp (λ v. e ≡ Some (k, v)) (map.get (alone {R = R} e) k)
   alone_says None k = subst (IsGreatest cmp (λ v. None ≡ Some (k, v))) (sym (map.get-empty R k)) (λ v same. nothing v same)
     where
@@ -118,7 +118,7 @@ module _ {K T : Type 0} {R : K → K → Ordering} {cmp : T → T → Ordering} 
         (subst (IsGreatest cmp (λ v. IsSaid said os k v ⊎ (said p.0 p.1 ≡ Some (k, v)))) (sym (get-greater keys exact_keys cmp m (alone (said p.0 p.1)) k))
         (greatest_either o exact (IsSaid said os k) (λ v. said p.0 p.1 ≡ Some (k, v)) (map.get m k) (map.get (alone (said p.0 p.1)) k) (h k) (alone_says (said p.0 p.1) k)))
 
-    -- to add an operation is to take the greater of what it says
+    -- adding an operation takes the greater of its report and the map
     pub greatest_piece : {fits : Dot → A → Type 0} → IsPiece {V = map.FinMap R T} IsAny (greater cmp) map.empty fits (λ d a. alone (said d a)) (AreGreatest cmp said)
     greatest_piece = record {
       delta_value = λ d a. tt;

@@ -1,4 +1,4 @@
--- The derived order of the ways to claim is the one that is meant.
+-- The derived order of ways to claim is the intended one.
 use Rattle.std.specs.Prelude.{◌≡◌, refl}
 use Rattle.std.proofs.Common.{sym, ◌∙◌}
 use Rattle.std.proofs.lemmas.Map.Lookups.{CmpEqualImpliesEq}

@@ -1,4 +1,4 @@
--- The orders of claims and of lives are what their words say.
+-- The orders of claims and of lives equal their spelled-out forms.
 use Rattle.std.proofs.Common.{◌≡◌, ◌⊎◌, ℕ, ◌<◌, Option, Some, None, inl, inr, refl, sym, ap, subst, ◌∙◌}
 use Rattle.std.specs.Prelude.{◌↔◌}
 use Rattle.std.specs.declared.cmp.Ordering.{Ordering}
@@ -18,14 +18,14 @@ use Rattle.dac_chains.specs.declared.claims.How.TheVariants.{Normal, Failover, T
 use Rattle.dac_chains.specs.Claims.{how_cmp, manner_cmp}
 use Rattle.dac_chains.specs.Orders.{IsHowAbove, IsFromAbove, ClaimsInWords, LivesInWords}
 
--- ---- one part after another
+-- ---- lexicographic orders
 less_is : (x y : ℕ) → (nat_cmp x y ≡ Less) ↔ (x < y)
 less_is x y = (λ e. ranked x y Less (sym e), λ h. sym (nat_cmp_is x y Less h))
 
 same_is : (x y : ℕ) → (nat_cmp x y ≡ Equal) ↔ (x ≡ y)
 same_is x y = (λ e. ranked x y Equal (sym e), λ h. sym (nat_cmp_is x y Equal h))
 
--- the first parts decide, and where they are the same the rest does
+-- the first components decide, and if they are equal the rest does
 then_less : (r rest : Ordering) → (ordering_then r rest ≡ Less) ↔ ((r ≡ Less) ⊎ ((r ≡ Equal) × (rest ≡ Less)))
 then_less r rest = (to r, λ h. elim h [ inl less ↦ ap (λ k. ordering_then k rest) less | inr same ↦ ap (λ k. ordering_then k rest) same.0 ∙ same.1 ])
   where
@@ -34,7 +34,7 @@ then_less r rest = (to r, λ h. elim h [ inl less ↦ ap (λ k. ordering_then k 
     to Equal e = inr (refl, e)
     to Greater e = cc
 
--- the same of parts in words
+-- a lexicographic order, given each component's order spelled out
 by_parts : {A E B : Type 0} (r rest : Ordering) → (r ≡ Less) ↔ A → (r ≡ Equal) ↔ E → (rest ≡ Less) ↔ B → (ordering_then r rest ≡ Less) ↔ (A ⊎ (E × B))
 by_parts r rest less same more = (
   λ e. elim ((then_less r rest).0 e) [ inl h ↦ inl (less.0 h) | inr h ↦ inr (same.0 h.0, more.0 h.1) ],

@@ -1,4 +1,4 @@
--- The test of lives in words, for every value.
+-- The test of live incarnations, for every value.
 use Rattle.std.specs.Prelude.{◌≡◌, ◌↔◌, ℕ, Option, None, Some}
 use Rattle.std.proofs.Common.{ap}
 use Rattle.std.specs.Option.{is_some, option_and_then, option_map}
@@ -22,6 +22,6 @@ module _ (lives : Lives) (node : NodeId) where
   by_life None inc e = absurd (false≢true (ap is_some e))
   by_life (Some life) inc e = by_flag life.inc inc life.flag e
 
-  -- an incarnation of the node is found live exactly where it is
+  -- the test returns an incarnation exactly if it is live
   pub live_is : (inc : ℕ) → (live_at lives node ≡ Some inc) ↔ IsLive lives node inc
   live_is inc = (by_life (map.get lives node) inc, ap live_in)

@@ -16,6 +16,6 @@ use Rattle.dac_chains.specs.Lives.{life_cmp}
 pub lives_total : IsTotalOrder life_cmp
 lives_total = then_total (on_total (λ (l : Life). l.inc) nat_cmp_total) (on_total (λ (l : Life). l.flag) flags_total)
 
--- only equal lives tie, where only equal flags do
+-- only equal lives tie, if only equal flags tie
 pub exact_lives : (flags : Flag → Flag → Ordering) → CmpEqualImpliesEq flags → CmpEqualImpliesEq (λ (a b : Life). ordering_then (nat_cmp a.inc b.inc) (flags a.flag b.flag))
 exact_lives flags exact a b h = ap (λ (p : ℕ × Flag). record { inc = p.0; flag = p.1 }) (exact_pairs nat_cmp flags exact_unsigned exact (a.inc, a.flag) (b.inc, b.flag) h)

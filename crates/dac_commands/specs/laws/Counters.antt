@@ -1,4 +1,4 @@
--- The greatest counter of an origin in a set of dots, and the dot that comes next.
+-- The greatest counter of an origin in a set of dots, and the next dot.
 use Rattle.std.proofs.Common.{◌≡◌, ◌↔◌, ℕ, ◌<◌, ◌≤◌, ◌+◌, ◌-◌, Bool, true, false, cond, ◌||◌, ◌⊎◌, inl, inr, List, [], ◌∷◌, Option, Some, None, refl, sym, ap, subst, ◌∙◌, arith, true≢false, max, is_eq}
 use Rattle.std.specs.Prelude.{nat_le, MatchOption}
 use Rattle.std.specs.Option.{is_none}
@@ -99,7 +99,7 @@ le_through a b c h k = omega arith
 past : (m g n : ℕ) → m ≤ g → n ≡ g + 1 → n ≤ m → ⊥
 past m g n h e k = omega arith
 
--- there is no next dot exactly where the greatest counter is the last one
+-- there is no next dot exactly when the greatest counter is the last one
 pub next_none : (dots : Dots) (o : Origin) (next : Option Dot) → MatchOption next (IsUsedUp dots o) (IsNext dots o) → is_none next ≡ nat_le MAX_COUNTER (greatest_counter o dots)
 next_none dots o None h = sym (le-leb MAX_COUNTER (greatest_counter o dots) (let most : h.n ≤ greatest_counter o dots = counter-greatest dots (dot o h.n) h.there in let high : MAX_COUNTER ≤ h.n = h.high in le_through MAX_COUNTER h.n (greatest_counter o dots) high most))
 next_none dots o (Some d) h = sym (false_from_ne_true (nat_le MAX_COUNTER (greatest_counter o dots)) (λ t.
@@ -107,7 +107,7 @@ next_none dots o (Some d) h = sym (false_from_ne_true (nat_le MAX_COUNTER (great
     let number : d.n ≡ greatest_counter o dots + 1 = ap (λ (x : Dot). x.n) (next-is dots o d h) in
     past MAX_COUNTER (greatest_counter o dots) d.n high number h.at_most))
 
--- the counters of an origin are used up exactly where it has a dot that no later one can follow
+-- the counters of an origin are used up exactly when it has a dot that no later one can follow
 pub used_up_is : (dots : Dots) (o : Origin) → (nat_le MAX_COUNTER (greatest_counter o dots) ≡ true) ↔ IsUsedUp dots o
 used_up_is dots o = (
   λ e. by_greatest (leb-true MAX_COUNTER (greatest_counter o dots) e) (greatest-there o (set.items dots)),
@@ -121,7 +121,7 @@ used_up_is dots o = (
     by_greatest high (inl none) = absurd (below_none MAX_COUNTER (greatest_counter o dots) high none (ltb-true 0 MAX_COUNTER refl))
     by_greatest high (inr there) = record { n = greatest_counter o dots; there = set.contains-items dots (dot o (greatest_counter o dots)) ∙ there; high = high }
 
--- where a counter is left, the one after the greatest is the next
+-- if a counter is left, the next dot has the one after the greatest
 pub next_of_is : (dots : Dots) (o : Origin) → nat_le MAX_COUNTER (greatest_counter o dots) ≡ false → IsNext dots o (dot o (greatest_counter o dots + 1))
 next_of_is dots o left = record {
   same_origin = refl;

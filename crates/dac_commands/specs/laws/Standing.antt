@@ -42,7 +42,7 @@ module _ {K : Type 0} {R : K → K → Ordering} (total : IsTotalOrder R) (exact
   pub votes_at-rising : (key : K) (votes : Votes R) → IsRising dot_cmp (list_map (λ (e : Dot × Flag). e.0) (votes_at R key votes))
   votes_at-rising key votes = rising-keys (votes_at R key votes) ∙ holds _ (votes_at-sorted total exact key votes)
 
-  -- a dot is one of them exactly if its vote stands
+  -- a dot is in the list exactly when its vote stands
   pub votes_at-has : (key : K) (votes : Votes R) (d : Dot) → has_key dot_cmp (list_map (λ (e : Dot × Flag). e.0) (votes_at R key votes)) d ≡ is_some (map.get votes (keyed_write key d))
   votes_at-has key votes d = sym (is_some-find dot_cmp d (votes_at R key votes)) ∙ ap is_some (find-votes_at total exact key votes d)
 

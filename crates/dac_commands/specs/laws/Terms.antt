@@ -1,4 +1,4 @@
--- The next term of an application's claims, and the claim that has it.
+-- The next term of an application's claims, and the claim under it.
 use Rattle.std.proofs.Common.{◌≡◌, ◌↔◌, ℕ, ◌+◌, ◌<◌, ◌≤◌, true, false, Option, Some, None, refl, sym, subst, arith}
 use Rattle.std.specs.Prelude.{MatchOption}
 use Rattle.std.specs.Option.{option_map_or}
@@ -14,7 +14,7 @@ use Rattle.dac_commands.specs.Commands.{next_term, claim_act}
 use Rattle.dac_commands.specs.Causes.{terms_used_up}
 use Rattle.dac_commands.specs.Written.{IsNextTerm, HasLastTerm, IsNextClaim}
 
--- the term after this claim's, 1 where there is none
+-- the term after this claim's, or 1 without a claim
 abbrev term_after : Option Claim → ℕ
 term_after greatest = option_map_or (λ (c : Claim). c.term) greatest 0 + 1
 
@@ -26,7 +26,7 @@ after_only : (greatest : Option Claim) (term : ℕ) → MatchOption greatest (te
 after_only None term h = h
 after_only (Some c) term h = h
 
--- the term after a claim's is past the last exactly where the claim has the last one or a later one
+-- the term after a claim's is past the last exactly when the claim has the last one or a later one
 past_after : (greatest : Option Claim) → MAX_COUNTER < term_after greatest → (claim : Claim) × ((greatest ≡ Some claim) × (MAX_COUNTER ≤ claim.term))
 past_after None h = absurd (past_first MAX_COUNTER h (ltb-true 0 MAX_COUNTER refl))
   where
@@ -50,13 +50,13 @@ module _ (s : StateValue) (app : AppId) where
   pub next_term_only : (term : ℕ) → IsNextTerm s app term → term ≡ next_term s app
   next_term_only term h = after_only (map.get s.claims app) term h
 
-  -- the terms are used up exactly where the greatest claim has the last one or a later one
+  -- the terms are used up exactly when the greatest claim has the last one or a later one
   pub terms_used_up_is : (terms_used_up s app ≡ true) ↔ HasLastTerm s app
   terms_used_up_is = (
     λ e. past_after (map.get s.claims app) (ltb-true MAX_COUNTER (next_term s app) e),
     λ h. lt-ltb MAX_COUNTER (next_term s app) (after_last (map.get s.claims app) h.0 h.1.0 h.1.1),
   )
 
-  -- where a term is left, the claim has the next
+  -- if a term is left, the claim has the next one
   pub next_claim_is : (how : How) (from : Option NodeId) → terms_used_up s app ≡ false → IsNextClaim s app how from (claim_act s app how from)
   next_claim_is how from left = record { term = next_term s app; next = next_term_is; at_most = ltb-false MAX_COUNTER (next_term s app) left; is = refl }

@@ -1,4 +1,4 @@
--- What an accepted command issues is the operation that it says.
+-- An accepted command issues the operation that it describes.
 use Rattle.std.proofs.Common.{◌≡◌, ℕ, Bool, true, false, not, List, [], ◌∷◌, Option, Some, None, refl, sym, ◌∙◌, true≢false}
 use Rattle.std.specs.Prelude.{is_some, unwrap_or}
 use Rattle.dac_base.specs.declared.NodeId.{NodeId}
@@ -22,7 +22,7 @@ use Rattle.dac_events.specs.declared.refusal.Refusal.{Refusal}
 use Rattle.dac_events.specs.declared.refusal.Refusal.TheVariants.{DeclaredDown}
 use Rattle.dac_commands.specs.Commands.{live, live_or_none, live_key, live_origin, standing_starts, standing_permits, standing_drains, claim_act, act_of}
 use Rattle.dac_commands.specs.Causes.{first, causes_of, refusal_of_command, declared_down, not_live, terms_used_up, used_up}
-use Rattle.dac_commands.specs.Written.{IsKeyAt, StartStands, PermitStands, DrainStands, AreThose, TakesOver, SaysCommand, WritesWhatIsSaid}
+use Rattle.dac_commands.specs.Written.{IsKeyAt, StartStands, PermitStands, DrainStands, AreThose, TakesOver, SaysCommand, IssuesTheCommand}
 use Rattle.dac_commands.specs.laws.Counters.{next_of_is}
 use Rattle.dac_commands.specs.laws.Standing.{permits_at-has, drains_at-has}
 use Rattle.dac_commands.specs.laws.Terms.{next_claim_is}
@@ -33,7 +33,7 @@ abbrev pub NoneIs : List (Bool × Refusal) → Type 0
 NoneIs [] = Unit {0}
 NoneIs (c ∷ cs) = (c.0 ≡ false) × NoneIs cs
 
--- where none of the causes holds, the first doesn't, nor one after it
+-- if no cause holds, neither the first one nor any later one does
 first-none : (b : Bool) (why : Refusal) (cs : List (Bool × Refusal)) → first ((b, why) ∷ cs) ≡ None → (b ≡ false) × (first cs ≡ None)
 first-none true why cs e = cc
 first-none false why cs e = (refl, e)
@@ -42,7 +42,7 @@ pub none_is : (cs : List (Bool × Refusal)) → first cs ≡ None → NoneIs cs
 none_is [] e = tt
 none_is (c ∷ cs) e = let h = first-none c.0 c.1 cs e in (h.0, none_is cs h.1)
 
--- all causes why a command is refused
+-- all causes to refuse a command
 abbrev pub all_causes : Table → Origin → StateValue → Command → List (Bool × Refusal)
 all_causes t own s c = (declared_down own s, DeclaredDown) ∷ causes_of t own s c
 
@@ -56,8 +56,8 @@ module _ (t : Table) (own : Origin) (s : StateValue) where
   left (Drain node value) e = (none_is (all_causes t own s (Drain node value)) e).1.1.1.1.0
   left (Takeover app) e = (none_is (all_causes t own s (Takeover app)) e).1.1.1.1.1.1.1.1.0
 
-  -- ---- what is said
-  -- the number of a live incarnation
+  -- ---- the act of a command
+  -- the live incarnation of a node that is live
   pub live_there : (node : NodeId) → not_live s node ≡ false → IsLive s.lives node (live_or_none s node)
   live_there node h = by_live (live s node) refl h
     where
@@ -108,5 +108,5 @@ module _ (t : Table) (own : Origin) (s : StateValue) where
       let none = none_is (all_causes t own s (Takeover app)) e in
       takes app none.1.1.1.1.0 none.1.1.1.1.1.1.1.0
 
-pub writes_what_is_said : WritesWhatIsSaid
+pub writes_what_is_said : IssuesTheCommand
 writes_what_is_said t own s c e = record { dot = next_of_is s.known own (left t own s c e); says = says t own s c e }

@@ -1,17 +1,17 @@
-//! Whether two configurations list an application's nodes alike.
+//! Compares two configurations' lists of an application.
 ghost use Rattle.std.specs.Prelude.{◌≡◌, ◌<◌, ◌↔◌, IsTrue, map};
-ghost use Rattle.dac_config.specs.Table.{app_count, HaveOneList};
+ghost use Rattle.dac_config.specs.Table.{app_count, HaveEqualLists};
 
 use super::Config;
 use dac_base::AppId;
 
 impl Config {
-    /// Whether two configurations list the same nodes for an application, in the same groups, and permit it alike where no
-    /// one has said. The time it takes grows with the length of the list.
+    /// Whether both configurations list the same nodes for an application, in the same groups, with the same default
+    /// permission. The time grows with the length of the list.
     pub fn lists_alike(&self, other: &Config, app: AppId) -> bool
         requires one { app.0 < app_count self.now }
         requires other { app.0 < app_count other.now }
-        ensures { IsTrue result ↔ HaveOneList self.now other.now app }
+        ensures { IsTrue result ↔ HaveEqualLists self.now other.now app }
     {
         let (_, one) = self.entry(app);
         let (_, two) = other.entry(app);
@@ -19,7 +19,7 @@ impl Config {
     }
 }
 
-/// Whether two lists have the same groups in the same order.
+/// Whether both lists have the same groups in the same order.
 fn same_groups(one: &[Vec<u8>], two: &[Vec<u8>]) -> bool
     ensures { IsTrue result
         ↔ map (λ group. group.items) one.now ≡ map (λ group. group.items) two.now }
@@ -35,7 +35,7 @@ fn same_groups(one: &[Vec<u8>], two: &[Vec<u8>]) -> bool
     true
 }
 
-/// Whether two groups have the same nodes.
+/// Whether both groups have the same nodes.
 fn same_numbers(one: &[u8], two: &[u8]) -> bool
     ensures { IsTrue result ↔ one.now ≡ two.now }
 {

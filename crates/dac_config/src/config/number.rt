@@ -1,4 +1,4 @@
-//! Numbers in place of names.
+//! Replaces names by numbers.
 ghost use Rattle.std.specs.Prelude.{◌≡◌, ◌<◌, ◌≤◌, ◌==◌, ℕ, false, List, [], ◌∷◌, ◌++◌, map, length, position, All, IfOk, IfSome, OnOk};
 ghost use Rattle.std.specs.List.{list_any};
 ghost use Rattle.dac_shapes.specs.Views.{names_of, groups_of, app_of, permissions_of, draft_of};
@@ -16,7 +16,7 @@ use indexmap::IndexMap;
 use std::alloc::Global;
 use std::sync::Arc;
 
-/// Puts the names in byte order, each once.
+/// Sorts the names in byte order and removes duplicates.
 fn in_byte_order(names: &mut Vec<&[u8]>)
     ensures { names_of names.new.items ≡ in_byte_order (names_of names.old.items) }
 {
@@ -24,7 +24,7 @@ fn in_byte_order(names: &mut Vec<&[u8]>)
     names.dedup();
 }
 
-/// The node with this name.
+/// The row of the node with this name.
 fn node_of(alloc: Global, draft: &Draft<'_>, name: &[u8]) -> Result<Node, NoMemory>
     ensures { IfOk result (λ node. node_row node ≡ numbered_node (draft_of draft.now) name.now) }
 {
@@ -38,7 +38,7 @@ fn node_of(alloc: Global, draft: &Draft<'_>, name: &[u8]) -> Result<Node, NoMemo
     })
 }
 
-/// The nodes, in the order of their names in the draft.
+/// The rows of the nodes, in the order of the draft.
 fn nodes_of(alloc: Global, draft: &Draft<'_>) -> Result<Vec<Node>, NoMemory>
     ensures { IfOk result (λ nodes. map node_row nodes.items
         ≡ map (numbered_node (draft_of draft.now)) (draft_of draft.now).nodes) }
@@ -50,7 +50,7 @@ fn nodes_of(alloc: Global, draft: &Draft<'_>) -> Result<Vec<Node>, NoMemory>
     Ok(nodes)
 }
 
-/// The numbers of the nodes that the group names.
+/// The numbers of the nodes in a group.
 fn numbers_of(alloc: Global, nodes: &[Node], group: &[&[u8]]) -> Result<Vec<u8>, NoMemory>
     requires { length nodes.now ≤ MAX_NODES }
     ensures { IfOk result
@@ -65,7 +65,7 @@ fn numbers_of(alloc: Global, nodes: &[Node], group: &[&[u8]]) -> Result<Vec<u8>,
     Ok(numbers)
 }
 
-/// The groups by the numbers of their nodes.
+/// The groups with node numbers for names.
 fn groups_of(alloc: Global, nodes: &[Node], groups: &[Vec<&[u8]>]) -> Result<Vec<Vec<u8>>, NoMemory>
     requires { length nodes.now ≤ MAX_NODES }
     ensures { IfOk result (λ numbered. map (λ group. group.items) numbered.items
@@ -78,7 +78,7 @@ fn groups_of(alloc: Global, nodes: &[Node], groups: &[Vec<&[u8]>]) -> Result<Vec
     Ok(numbered)
 }
 
-/// The place of the first group that has the node.
+/// The index of the first group that contains the node.
 fn place_of_group(groups: &[Vec<u8>], node: u8) -> Option<usize>
     ensures place { result
         ≡ position (λ group. list_any (λ other. other == node) group.items) groups.now }
@@ -87,7 +87,7 @@ fn place_of_group(groups: &[Vec<u8>], node: u8) -> Option<usize>
     groups.iter().position(|group| group.contains(&node))
 }
 
-/// The same, or MAX_NODES where no group has the node.
+/// The index of the first group that contains the node, or MAX_NODES if none does.
 fn place_of(groups: &[Vec<u8>], node: u8) -> u8
     requires { length groups.now ≤ MAX_NODES }
     ensures { place_by result ≡ group_among (map (λ group. group.items) groups.now) node }
@@ -98,7 +98,7 @@ fn place_of(groups: &[Vec<u8>], node: u8) -> u8
     }
 }
 
-/// For each of so many nodes, the place of the first group that has it.
+/// For each node number below `nodes`, the index of the first group that contains it.
 fn places_of(alloc: Global, nodes: usize, groups: &[Vec<u8>]) -> Result<Vec<u8>, NoMemory>
     requires nodes { nodes ≤ MAX_NODES }
     requires groups { length groups.now ≤ MAX_NODES }
@@ -114,8 +114,7 @@ fn places_of(alloc: Global, nodes: usize, groups: &[Vec<u8>]) -> Result<Vec<u8>,
     Ok(places)
 }
 
-/// Whether an application of this name is permitted: as the first permission of its name says, or where there is
-/// none.
+/// Whether an application of this name is permitted: by the first permission of its name, or true if there is none.
 fn is_permitted(permissions: &[Permission<'_>], name: &[u8]) -> bool
     ensures { result ≡ permitted (permissions_of permissions.now) name.now }
 {
@@ -127,7 +126,7 @@ fn is_permitted(permissions: &[Permission<'_>], name: &[u8]) -> bool
     true
 }
 
-/// Gives the application the next number.
+/// Adds an application, with the next number.
 fn add_app(
     alloc: Global,
     draft: &Draft<'_>,
@@ -163,7 +162,7 @@ fn add_app(
 }
 
 impl Tables {
-    /// What a text says, with numbers in place of names. It puts the nodes of the draft in order where they lie.
+    /// The tables of a draft, whose nodes it sorts in place.
     fn of_draft(alloc: Global, draft: &mut Draft<'_>) -> Result<Self, NoMemory>
         requires limits { IsWithinLimits (draft_of draft.old) }
         requires said { (text : List ℕ) × IsTextOf text (draft_of draft.old) }
@@ -185,7 +184,7 @@ impl Tables {
 }
 
 impl Config {
-    /// What a text says, with numbers in place of names. It puts the nodes of the draft in order where they lie.
+    /// The configuration of a draft, whose nodes it sorts in place.
     pub(crate) fn of_draft(alloc: Global, draft: &mut Draft<'_>) -> Result<Config, NoMemory>
         requires limits { IsWithinLimits (draft_of draft.old) }
         requires said { (text : List ℕ) × IsTextOf text (draft_of draft.old) }

@@ -1,9 +1,9 @@
-//! The canonical text, piece by piece.
+//! Writes the canonical text in pieces.
 
 ghost use Rattle.std.specs.Prelude.{◌≡◌, ◌<◌, not, codes, map, filter, All};
 ghost use Rattle.std.specs.Fmt.{decimal};
 ghost use Rattle.dac_config.specs.Sinks.{Gains};
-ghost use Rattle.dac_config.specs.Canonical.{name_text, parted_behind, parted, node_name_text, group_text, app_text, ban_text, wait_texts, param_texts};
+ghost use Rattle.dac_config.specs.Canonical.{name_text, separated_after, parted, node_name_text, group_text, app_text, forbidden_text, wait_texts, param_texts};
 ghost use Rattle.dac_config.specs.Table.{node_count};
 ghost use Rattle.dac_config.specs.ConfigView.{node_row, named_row, HasMembersBelow, is_in};
 
@@ -30,7 +30,7 @@ fn put_node<S: Sink>(sink: &mut S, config: &Config, node: NodeId)
     put_name(sink, config.node_name(node));
 }
 
-/// Nodes by their names, with a comma between any two.
+/// The names of nodes, separated by commas.
 fn put_members<S: Sink>(sink: &mut S, config: &Config, group: &[u8])
     requires { All (λ number. number < node_count config.now) group.now }
     ensures { Gains S.holds sink.old sink.new
@@ -58,7 +58,7 @@ fn put_group<S: Sink>(sink: &mut S, config: &Config, group: &[u8])
     }
 }
 
-/// The groups of an application, with a comma between any two.
+/// The groups of an application, separated by commas.
 fn put_groups<S: Sink>(sink: &mut S, config: &Config, groups: &[Vec<u8>])
     requires { All (λ group. All (λ number. number < node_count config.now) group.items)
         groups.now }
@@ -87,7 +87,7 @@ fn put_app<S: Sink>(sink: &mut S, config: &Config, name: &[u8], app: &App)
     sink.put(b"]}");
 }
 
-/// The applications with their groups, with a comma between any two.
+/// The applications with their groups, separated by commas.
 fn put_apps<S: Sink>(sink: &mut S, config: &Config)
     ensures { Gains S.holds sink.old sink.new
         (parted (map (app_text config.now.nodes) config.now.apps)) }
@@ -101,10 +101,10 @@ fn put_apps<S: Sink>(sink: &mut S, config: &Config)
     }
 }
 
-/// The applications that aren't permitted where no one has said, with a comma between any two.
-fn put_bans<S: Sink>(sink: &mut S, config: &Config)
+/// The applications that aren't permitted by default, separated by commas.
+fn put_forbidden<S: Sink>(sink: &mut S, config: &Config)
     ensures { Gains S.holds sink.old sink.new (parted
-        (map (λ row. ban_text row.name) (filter (λ row. not row.permission) config.now.apps))) }
+        (map (λ row. forbidden_text row.name) (filter (λ row. not row.permission) config.now.apps))) }
 {
     let mut before: &[u8] = b"";
     for at in 0..config.apps() {
@@ -136,7 +136,7 @@ fn is_in(list: SyncList, node: &Node) -> bool
     }
 }
 
-/// The nodes in this list by their names, with a comma between any two.
+/// The names of the nodes in this list, separated by commas.
 fn put_sync_list<S: Sink>(sink: &mut S, config: &Config, list: SyncList)
     ensures { Gains S.holds sink.old sink.new
         (parted (map (λ row. name_text row.name) (filter (is_in list) config.now.nodes))) }
@@ -154,7 +154,7 @@ fn put_sync_list<S: Sink>(sink: &mut S, config: &Config, list: SyncList)
 }
 
 fn put_wait<S: Sink>(sink: &mut S, wait: SyncWait)
-    ensures { Gains S.holds sink.old sink.new (parted_behind (codes ",") (wait_texts wait)) }
+    ensures { Gains S.holds sink.old sink.new (separated_after (codes ",") (wait_texts wait)) }
 {
     match wait {
         SyncWait::NoSync => {}
@@ -167,14 +167,14 @@ fn put_wait<S: Sink>(sink: &mut S, wait: SyncWait)
     }
 }
 
-/// The parameters, with a comma between any two.
+/// The parameters, separated by commas.
 fn put_params<S: Sink>(sink: &mut S, config: &Config)
     ensures { Gains S.holds sink.old sink.new (parted (param_texts config.now)) }
 {
     sink.put(b"{distributed,[");
     put_apps(sink, config);
     sink.put(b"]},{permissions,[");
-    put_bans(sink, config);
+    put_forbidden(sink, config);
     sink.put(b"]},{sync_nodes_mandatory,[");
     put_sync_list(sink, config, SyncList::Mandatory);
     sink.put(b"]},{sync_nodes_optional,[");
@@ -186,7 +186,7 @@ fn put_params<S: Sink>(sink: &mut S, config: &Config)
 impl Config {
     ghost use Rattle.dac_config.specs.Canonical.{canonical_text};
 
-    /// The canonical text.
+    /// Writes the canonical text to a sink in pieces, so that a mark needs no memory.
     pub(super) fn put<S: Sink>(&self, sink: &mut S)
         ensures { Gains S.holds sink.old sink.new (canonical_text self.now) }
     {

@@ -1,4 +1,4 @@
--- Whether the nodes that a starting node waits for are live, by the tests of them all, and what becomes of it, in words.
+-- The tests of live nodes agree with `AllUp`, and the computed gate with `IsOpening`.
 use Rattle.std.proofs.Common.{◌≡◌, ℕ, ◌+◌, ◌<◌, Bool, true, false, cond, not, ◌&&◌, ◌||◌, [], ◌∷◌, Option, Some, None, get_or, refl, sym, ap, subst, ◌∙◌, arith, inl, inr}
 use Rattle.std.specs.Prelude.{nat_lt, map as list_map}
 use Rattle.std.specs.Option.{is_some, option_and_then}
@@ -24,7 +24,7 @@ use Rattle.dac_decide.specs.StartGate.{IsUpNow, AllUp, is_awaited, IsTimeLeft, I
 abbrev pub numbered : ℕ → NodeId
 numbered n = record { 0 = n }
 
--- ---- one node after another
+-- ---- a loop over nodes
 
 -- the first n nodes pass a test
 abbrev pub all_first : (NodeId → Bool) → ℕ → Bool
@@ -57,7 +57,7 @@ module _ (table : Table) (s : StateValue) where
   if_up_now : (node : NodeId) → IsUpNow s node → is_some (live_at s.lives node) ≡ true
   if_up_now node up = ap (λ (o : Option Life). is_some (option_and_then (λ (l : Life). if_up l.inc l.flag) o)) up.1
 
-  -- what the test of a node says
+  -- the test of a node means that it is live if awaited
   live_to : (a b : Bool) → (a || not b) ≡ true → b ≡ true → a ≡ true
   live_to true b h e = refl
   live_to false true h e = absurd (false≢true h)

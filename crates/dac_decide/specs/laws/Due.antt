@@ -1,4 +1,4 @@
--- The test of what is due, in words.
+-- The test of due verdicts agrees with `IsDue`.
 use Rattle.std.proofs.Common.{◌≡◌, ◌↔◌, ◌⊎◌, ℕ, ◌+◌, Bool, true, false, ◌||◌, List, Option, Some, None, refl, sym, ap, ap₂, ◌∙◌, inl, inr}
 use Rattle.std.specs.Prelude.{◌==◌}
 use Rattle.std.specs.Option.{option_map_or}
@@ -18,7 +18,7 @@ use Rattle.dac_decide.specs.laws.Lost.{same_to, same_itself, lost_to, to_lost}
 use Rattle.dac_decide.specs.laws.Rows.{noted_to, to_noted}
 
 module _ (table : Table) (notes : List Note) (s : StateValue) (app : AppId) (now : ℕ) where
-  -- ---- who held it
+  -- ---- the holder
   node_of : {a b : NodeId} → a.0 ≡ b.0 → a ≡ b
   node_of e = λ i. record { 0 = e i }
 
@@ -35,7 +35,7 @@ module _ (table : Table) (notes : List Note) (s : StateValue) (app : AppId) (now
     λ held. ap (λ o. option_map_or (λ (claim : Claim). claim.origin.node.0 == node.0) o false) held.1 ∙ ap (λ (n : NodeId). n.0 == node.0) held.2 ∙ itself node.0,
   )
 
-  -- ---- how long it waited
+  -- ---- the wait
   over_by : (lost : Option Claim) (n : Option Noted) → lost_in s app ≡ lost → noted_of app notes ≡ n → is_over_at (timeout_of table app) now lost n ≡ true → IsWaitOver table notes s app now
   over_by None n found kept h = absurd (false≢true h)
   over_by (Some claim) None found kept h = absurd (false≢true h)

@@ -1,4 +1,4 @@
--- What an operator counts on: the start gate doesn't open without a mandatory node, and no failover comes before its time.
+-- Guarantees for operators: the gate doesn't open without a mandatory node, and no failover happens before its timeout.
 use Rattle.std.proofs.Common.{◌≡◌, ℕ, ◌+◌, ◌<◌, ◌≤◌, true, Option, Some, sym, ap, subst, ◌∙◌, arith, inl, inr}
 use Rattle.std.specs.Prelude.{◌||◌}
 use Rattle.std.specs.FinMap as map

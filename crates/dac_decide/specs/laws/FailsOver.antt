@@ -1,4 +1,4 @@
--- The verdict is a failover where the greatest claim is lost.
+-- The verdict is a failover if the greatest claim is lost and there is a first choice.
 use Rattle.std.proofs.Common.{◌≡◌, ◌↔◌, Option, Some, None, refl, sym, ap, subst}
 use Rattle.std.proofs.lemmas.Bool.{false≢true}
 use Rattle.std.specs.Option.{is_some, option_map}

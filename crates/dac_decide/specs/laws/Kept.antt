@@ -1,4 +1,4 @@
--- What waits keep of each application of the configuration is what the notes say of it.
+-- Waits store the timer of each application of the configuration.
 use Rattle.std.proofs.Common.{◌≡◌, ℕ, ◌+◌, ◌<◌, List, [], ◌∷◌, ◌++◌, Option, None, length, map, get_or, ap, ◌∙◌, arith}
 use Rattle.std.specs.List.{range_with_len}
 use Rattle.std.proofs.lemmas.List.{length-map, map-append, get_or-map}
@@ -11,7 +11,7 @@ use Rattle.dac_decide.specs.FailoverWait.{Note, noted_of, waits_of, noted_at}
 abbrev pub numbered : ℕ → AppId
 numbered n = record { 0 = n }
 
--- what these notes say of n applications, from a on
+-- the timers of n applications, beginning with number a
 abbrev pub kept_of : List Note → ℕ → ℕ → List (Option Noted)
 kept_of notes a n = map (λ app. noted_of app notes) (map numbered (range_with_len a n))
 
@@ -31,6 +31,6 @@ module _ (table : Table) (notes : List Note) where
       get_or-map (λ app. noted_of app notes) (map numbered (range_with_len 0 n)) app.0 app None (omega (arith, length-map-range_with_len numbered 0 n))
       ∙ ap (λ app. noted_of app notes) (get_or-map-range_with_len numbered 0 n app.0 app.0 app lt (omega arith))
 
-  -- what is kept of an application
+  -- the place of an application
   pub kept_is : (app : AppId) → app.0 < app_count table → noted_at (waits_of table notes) app ≡ noted_of app notes
   kept_is app lt = at_app app (app_count table) lt

@@ -1,4 +1,4 @@
--- The tests of lost claims, in words.
+-- The tests of lost claims agree with `IsLost`.
 use Rattle.std.proofs.Common.{◌≡◌, Bool, true, false, cond, Option, Some, None, refl, sym, ap, ◌∙◌}
 use Rattle.std.specs.Option.{is_some, option_and_then}
 use Rattle.std.specs.Ordering.{is_eq}

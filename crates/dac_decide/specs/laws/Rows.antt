@@ -1,4 +1,4 @@
--- What is noted is the row of the newest notes that found one claim lost.
+-- The timer of an application starts with the unbroken run of newest notes that found one claim lost.
 use Rattle.std.proofs.Common.{◌≡◌, ℕ, true, false, cond, List, [], ◌∷◌, ◌++◌, Option, Some, None, refl, sym, ap, ap₂, subst, ◌∙◌, arith}
 use Rattle.std.specs.Option.{is_some}
 use Rattle.std.specs.List.{All}
@@ -17,7 +17,7 @@ module _ (app : AppId) where
   one : {a b : Noted} → ◌≡◌ {A = Option Noted} (Some a) (Some b) → a ≡ b
   one e = cc
 
-  -- the claim of what is noted next is the lost one
+  -- the next timer is for the lost claim
   since_claim : (before : Option Noted) (now : ℕ) (claim : Claim) → (since_of before now claim).claim ≡ claim
   since_claim None now claim = refl
   since_claim (Some b) now claim = elim (is_same b.claim claim) as (λ t. is_same b.claim claim ≡ t → (cond t b (noted claim now)).claim ≡ claim) [
@@ -29,7 +29,7 @@ module _ (app : AppId) where
   next_claim before None now n e = absurd (false≢true (ap is_some e))
   next_claim before (Some claim) now n e = ap (λ c. Some c) (sym (since_claim before now claim) ∙ ap (λ (x : Noted). x.claim) (one e))
 
-  -- what is noted is lost by the newest note, and what that finds lost is noted
+  -- the timer's claim is lost by the newest note, and a claim lost by that has a timer
   pub newest_lost : (notes : List Note) (n : Noted) → noted_of app notes ≡ Some n → IsLostByNewest notes app n.claim
   newest_lost [] n e = false≢true (ap is_some e)
   newest_lost (note ∷ older) n e = lost_to note.state app n.claim (next_claim (noted_of app older) (lost_in note.state app) note.moment n e)
@@ -40,12 +40,12 @@ module _ (app : AppId) where
       let n = since_of (noted_of app older) note.moment claim in
       (n, ap (λ lost. noted_next (noted_of app older) lost note.moment) (to_lost note.state app claim h), since_claim (noted_of app older) note.moment claim)
 
-  -- ---- from what is noted to the row
+  -- ---- from the timer to the run
 
   abbrev Since : List Note → Noted → Type 0
   Since notes n = IsNotedSince notes app n.claim n.since
 
-  -- a row of one note
+  -- a run of one note
   begun : (note : Note) (older : List Note) (claim : Claim) → IsLost note.state app claim → ¬ IsLostByNewest older app claim → Since (note ∷ older) (noted claim note.moment)
   begun note older claim lost begins = record {
     row = [];
@@ -57,7 +57,7 @@ module _ (app : AppId) where
     moment = refl;
   }
 
-  -- one note more of a row
+  -- a run with one more note
   goes_on : (note : Note) (older : List Note) (claim : Claim) (since : ℕ) → IsLost note.state app claim → IsNotedSince older app claim since → IsNotedSince (note ∷ older) app claim since
   goes_on note older claim since lost is = record {
     row = note ∷ is.row;
@@ -94,9 +94,9 @@ module _ (app : AppId) where
       let next : since_of (noted_of app older) note.moment n.claim ≡ n = one (sym (ap (λ lost. noted_next (noted_of app older) lost note.moment) found) ∙ e) in
       subst (Since (note ∷ older)) next (next_since note older n.claim (lost_to note.state app n.claim found) (noted_to older) (noted_of app older) refl)
 
-  -- ---- and back
+  -- ---- from the run to the timer
 
-  -- the row begins where nothing of the claim was noted before
+  -- a claim that the note before didn't find lost begins a run
   begins_at : (claim : Claim) (now : ℕ) (before : Option Noted) (older : List Note) → noted_of app older ≡ before → ¬ IsLostByNewest older app claim → since_of before now claim ≡ noted claim now
   begins_at claim now None older e begins = refl
   begins_at claim now (Some b) older e begins = elim (is_same b.claim claim) as (λ t. is_same b.claim claim ≡ t → cond t b (noted claim now) ≡ noted claim now) [

@@ -1,4 +1,4 @@
--- The join of some deltas, one after another, is the least value that is above each of them.
+-- The join of deltas, one after another, is the least value above each of them.
 use Rattle.std.specs.Prelude.{List, [], ◌∷◌, fold}
 use Rattle.std.proofs.Common.{zero, suc, arith}
 use Rattle.std.specs.List.{All}
@@ -10,7 +10,7 @@ module _ {L : Type 0} {is_value : L → Type 0} {below : L → L → Type 0} {jo
   joined_value [] x u h = u
   joined_value (d ∷ ds) x u h = joined_value ds (join x d) (laws.closed x d u (h 0 d (omega arith))) (λ k e p. h (suc k) e (omega arith))
 
-  -- what is below the first is below the join
+  -- a value below the first is below the join
   joined_keeps : (ds : List L) (x y : L) → is_value x → is_value y → All is_value ds → below y x → below y (fold join x ds)
   joined_keeps [] x y u v h p = p
   joined_keeps (d ∷ ds) x y u v h p =

@@ -20,7 +20,7 @@ module _ {L : Type 0} where
       let to : base + gone ≡ max base (length more - MAX_DELTAS) = omega arith in
       same_kept _ _ _ _ _ _ (sym all) to (ap (drop gone) (sym (drop-append-le base log (delta ∷ []) h)) ∙ (drop-drop gone base more ∙ ap (λ n. drop n more) to))
 
-  -- several pushes drop at last what each would drop in turn
+  -- dropping after several pushes equals dropping after each
   pub pushes_drop_together : (k : KeptDeltas L) (ds : List L) → length k.deltas ≤ MAX_DELTAS → fold pushed k ds ≡ cut (record { count = k.count + length ds; base = k.base; deltas = k.deltas ++ ds }) (length k.deltas + length ds - MAX_DELTAS)
   pushes_drop_together k [] few =
       let none : length k.deltas + 0 - MAX_DELTAS ≡ 0 = omega arith in

@@ -19,7 +19,7 @@ module _ (origin q : Origin) (n : ℕ) (P : ℕ → Type 0) where
   abbrev WithOne : ℕ → Type 0
   WithOne k = ((origin ≡ q) × (n ≡ k)) ⊎ P k
 
-  -- one number more of the same origin
+  -- one more number of the same origin
   same_origin : (before : Option ℕ) → q ≡ origin → IsGreatest P before → IsGreatest WithOne (Some (greater before n))
   same_origin None same h = (
     inl (sym same, refl),
@@ -42,7 +42,7 @@ module _ (origin q : Origin) (n : ℕ) (P : ℕ → Type 0) where
         | false ↦ λ e. let above = leb-false n g e in inl (sym same, omega arith)
       ] refl
 
-  -- one number more of another
+  -- one more number of another origin
   other_origin : (before : Option ℕ) → ¬ (q ≡ origin) → IsGreatest P before → IsGreatest WithOne before
   other_origin None other h = λ k s. elim s [ inl is ↦ other (sym is.0) | inr p ↦ h k p ]
   other_origin (Some g) other h = (inr h.0, λ k s. elim s [ inl is ↦ absurd (other (sym is.0)) | inr p ↦ h.1 k p ])

@@ -1,4 +1,4 @@
--- The counters of an origin's dots, how far they go, and the further ones.
+-- The counters of an origin's dots: those before the first gap, and the further ones.
 use Rattle.std.proofs.Common.{◌≡◌, ℕ, ◌+◌, ◌<◌, ◌≤◌, inl, inr, Bool, true, false, cond, ◌||◌, ◌&&◌, nat_eq, List, [], ◌∷◌, refl, sym, ap, ◌∙◌, map, arith}
 use Rattle.std.specs.declared.cmp.Ordering.{Ordering}
 use Rattle.std.specs.declared.cmp.Ordering.TheVariants.{Less, Equal, Greater}
@@ -39,7 +39,7 @@ pub below_more : (k n : ℕ) (ns : List ℕ) → k < n → is_below_all nat_cmp 
 below_more k n [] p h = refl
 below_more k n (x ∷ ns) p h = and_from _ _ (is_less k x (let q = less n x (and_parts _ _ h).0 in omega arith)) (below_more k n ns p (and_parts _ _ h).1)
 
--- ---- how far counters go
+-- ---- the counters before a gap
 
 pub grows : (v : ℕ) (ns : List ℕ) → v ≤ reach_from v ns
 grows v [] = omega arith
@@ -48,7 +48,7 @@ grows v (n ∷ ns) = elim (nat_eq n (v + 1)) as (λ b. nat_eq n (v + 1) ≡ b �
   | false ↦ λ e. grows v ns
 ] refl
 
--- each number on the way is one of the counters
+-- each number after v up to the one reached is among the counters
 pub on_the_way : (v m : ℕ) (ns : List ℕ) → v < m → m ≤ reach_from v ns → has_key nat_cmp ns m ≡ true
 on_the_way v m [] p q = absurd (omega arith)
 on_the_way v m (n ∷ ns) p q = elim (nat_eq n (v + 1)) as (λ b. nat_eq n (v + 1) ≡ b → m ≤ reach_from (cond b n v) ns → has_key nat_cmp (n ∷ ns) m ≡ true) [
@@ -59,7 +59,7 @@ on_the_way v m (n ∷ ns) p q = elim (nat_eq n (v + 1)) as (λ b. nat_eq n (v + 
   | false ↦ λ e q. or_right _ _ (on_the_way v m ns p q)
 ] refl q
 
--- nothing comes where all are beyond the next
+-- nothing is reached if all counters are beyond the next
 stays : (v : ℕ) (ns : List ℕ) → is_below_all nat_cmp (v + 1) ns ≡ true → reach_from v ns ≡ v
 stays v [] h = refl
 stays v (n ∷ ns) h = elim (nat_eq n (v + 1)) as (λ b. nat_eq n (v + 1) ≡ b → reach_from (cond b n v) ns ≡ v) [
@@ -67,7 +67,7 @@ stays v (n ∷ ns) h = elim (nat_eq n (v + 1)) as (λ b. nat_eq n (v + 1) ≡ b 
   | false ↦ λ e. stays v ns (and_parts _ _ h).1
 ] refl
 
--- a counter that isn't next, and below those after it, isn't the one after the last either
+-- a counter other than the next, and below those after it, isn't the one after the last reached either
 not_next : (v n : ℕ) (ns : List ℕ) → (n ≡ v + 1 → ⊥) → is_below_all nat_cmp n ns ≡ true → reach_from v ns + 1 ≡ n → ⊥
 not_next v n ns other above at = elim (cases_order n (v + 1)) [
   | inl is ↦ other is
@@ -75,7 +75,7 @@ not_next v n ns other above at = elim (cases_order n (v + 1)) [
   | inr (inr after) ↦ let still = stays v ns (below_more (v + 1) n ns after above) in omega arith
 ]
 
--- rising counters go no further: the next number isn't one of them
+-- the number after the last reached isn't among ascending counters
 pub ends_there : (v : ℕ) (ns : List ℕ) → IsRising nat_cmp ns → has_key nat_cmp ns (reach_from v ns + 1) ≡ false
 ends_there v [] h = refl
 ends_there v (n ∷ ns) h =
@@ -85,7 +85,7 @@ ends_there v (n ∷ ns) h =
       | false ↦ λ e. or_from _ _ (is_other _ n (not_next v n ns (eqb-false n (v + 1) e) parts.0)) (ends_there v ns parts.1)
     ] refl
 
--- ---- a part of the counters
+-- ---- filters
 
 kept : (px t pn h : Bool) → (t ≡ true → px ≡ pn) → cond px (t || (pn && h)) (pn && h) ≡ (pn && (t || h))
 kept true true true h e = refl
@@ -136,7 +136,7 @@ tied_origins a b = is_eq-then (nat_cmp a.node.0 b.node.0) (nat_cmp a.inc b.inc) 
 tied_dots : (o : Origin) (n : ℕ) (d : Dot) → eq_by_cmp dot_cmp (dot o n) d ≡ (is_of o d && eq_by_cmp nat_cmp n d.n)
 tied_dots o n d = is_eq-then (origin_cmp o d.origin) (nat_cmp n d.n) ∙ ap (λ b. b && eq_by_cmp nat_cmp n d.n) (tied_origins o d.origin)
 
--- an origin has a counter where the list has the dot
+-- an origin's counters contain a counter exactly if the list contains the dot
 pub has_key-counters : (o : Origin) (ds : List Dot) (n : ℕ) → has_key nat_cmp (counters_of o ds) n ≡ has_key dot_cmp ds (dot o n)
 has_key-counters o [] n = refl
 has_key-counters o (d ∷ ds) n =
@@ -146,7 +146,7 @@ has_key-counters o (d ∷ ds) n =
       | false ↦ λ e. has_key-counters o ds n ∙ ap (λ b. b || has_key dot_cmp ds (dot o n)) (sym (tied_dots o n d ∙ ap (λ b. b && eq_by_cmp nat_cmp n d.n) e))
     ] refl
 
--- of two dots of one origin in order, the counters are in order
+-- if two dots of one origin are in order, so are their counters
 below_dot : (o : Origin) (d e : Dot) → is_of o d ≡ true → is_of o e ≡ true → is_lt (dot_cmp d e) ≡ true → is_lt (nat_cmp d.n e.n) ≡ true
 below_dot o d e at too h =
     let one : d.origin ≡ e.origin = equal_origins d.origin o at ∙ sym (equal_origins e.origin o too) in

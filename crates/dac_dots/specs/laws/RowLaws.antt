@@ -1,4 +1,4 @@
--- The rows of a set of dots tell the set.
+-- The rows of a set of dots describe it exactly.
 use Rattle.std.proofs.Common.{◌≡◌, ℕ, ◌+◌, ◌<◌, ◌⊎◌, inl, inr, Bool, true, false, ◌||◌, ◌&&◌, nat_eq, nat_lt, nat_le, List, [], ◌∷◌, refl, sym, ap, ◌∙◌, subst, map, arith, eq-eqb}
 use Rattle.std.specs.FinSet as set
 use Rattle.std.specs.List.{AllByRecursion}
@@ -21,7 +21,7 @@ outside v n out = elim (and_cases (nat_le 1 n) (nat_le n v) out) [
   | inr high ↦ or_left _ _ (lt-ltb v n (leb-false n v high))
 ]
 
--- where 1 to v are there, what is there is 1 to v and the rest
+-- a set of counters that contains 1 to v is 1 to v and the rest
 pub splits : (v n : ℕ) (h : Bool) → ((nat_le 1 n && nat_le n v) ≡ true → h ≡ true) → h ≡ ((nat_le 1 n && nat_le n v) || ((nat_lt v n || nat_eq n 0) && h))
 splits v n h way = elim (cases_Bool (nat_le 1 n && nat_le n v)) [
   | inl inside ↦ way inside ∙ sym (or_left _ _ inside)

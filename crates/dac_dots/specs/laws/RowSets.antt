@@ -1,4 +1,4 @@
--- Rows as a context keeps them are the rows of the set of their dots, and a set has one list of rows.
+-- Rows that satisfy a context's invariant are the rows of the set of their dots, and each set has one list of rows.
 use Rattle.std.specs.Prelude.{◌≡◌, ℕ, zero, suc, ◌+◌, ◌<◌, ◌≤◌, Bool, true, false, ◌||◌, ◌&&◌, nat_le, nat_lt, List, [], ◌∷◌, ◌++◌, length, map, refl}
 use Rattle.std.specs.FinSet as set
 use Rattle.std.specs.List.{flat_map, AllByRecursion}
@@ -21,7 +21,7 @@ use Rattle.dac_dots.specs.laws.CounterLaws.{is_eq-then, is_same, is_less, below_
 use Rattle.dac_dots.specs.laws.RowLaws.{rows_tell}
 use Rattle.dac_dots.specs.Rows.{Row, IsRowOf, AreRowsOf, rows_of, one_to, dots_in_row, dots_in, has_counter, row_has, any_row, origins, rises_on, IsKept, HasSome, AreKept}
 
--- ---- 1 to n
+-- ---- the numbers 1 to n
 
 none_yet : (n : ℕ) → false ≡ (nat_le 1 n && nat_le n 0)
 none_yet n = grind (arith, nat_tests)
@@ -37,7 +37,7 @@ has_one_to (suc u) n =
     ∙ ap (λ b. b || (eq_by_cmp nat_cmp n (suc u) || false)) (has_one_to u n)
     ∙ one_more u n
 
--- ---- which dots rows have
+-- ---- the dots that rows contain
 
 and_none : (a : Bool) → false ≡ (a && false)
 and_none true = refl
@@ -75,11 +75,11 @@ pub contains-dots_in : (rows : List Row) (q : Dot) → set.contains (dots_in row
 unfolding dots_in
 contains-dots_in rows q = set.contains-from_list dots_total (flat_map dots_in_row rows) q ∙ has_rows rows q
 
--- a set is that of these rows
+-- a set with the dots of these rows is their set
 pub is_dots_in : (s : Dots) (rows : List Row) → ((q : Dot) → set.contains s q ≡ any_row rows q) → s ≡ dots_in rows
 is_dots_in s rows h = set.same_set dots_total exact_dots s (dots_in rows) (λ q. h q ∙ sym (contains-dots_in rows q))
 
--- ---- rows of rising origins
+-- ---- rows with ascending origins
 
 pub absent : (o : Origin) (n : ℕ) (rows : List Row) → is_below_all origin_cmp o (origins rows) ≡ true → any_row rows (dot o n) ≡ false
 absent o n [] h = refl
@@ -87,7 +87,7 @@ absent o n (row ∷ rows) h =
     let parts = and_parts _ _ h in
     ap (λ r. (is_eq r && has_counter row n) || any_row rows (dot o n)) (less _ parts.0) ∙ absent o n rows parts.1
 
--- of the rows, this one alone tells of its origin
+-- only this row has dots of its origin
 abbrev pub IsAlone : List Row → Row → Type 0
 IsAlone rows row = (n : ℕ) → any_row rows (dot row.origin n) ≡ has_counter row n
 
@@ -107,7 +107,7 @@ alone (row ∷ rows) h =
     ∙ or_none (has_counter row n) in
     (here, later row rows rows parts.0 (alone rows parts.1))
 
--- ---- rows that are kept tell their set
+-- ---- rows that satisfy the invariant describe their set
 
 pub some_counter : (row : Row) → HasSome row → (n : ℕ) × (has_counter row n ≡ true)
 some_counter row (inl more) = (1, or_left _ _ (and_from _ _ refl (le-leb 1 row.upto more)))
@@ -121,7 +121,7 @@ pub some_length : (ns : List ℕ) (n : ℕ) → has_key nat_cmp ns n ≡ true �
 some_length [] n e = absurd (false≢true e)
 some_length (x ∷ ns) n e = omega arith
 
--- the number after 1 to upto isn't there
+-- upto + 1 isn't in the row
 pub kept_ends : (row : Row) → IsKept row → has_counter row (row.upto + 1) ≡ false
 kept_ends row is = or_from _ _ (and_right _ _ (lt-leb (row.upto + 1) row.upto (omega arith)))
     (false_from_ne_true (has_key nat_cmp row.further (row.upto + 1)) (λ e. elim (is.apart (row.upto + 1) e) [ inl none ↦ omega arith | inr past ↦ omega arith ]))
@@ -156,7 +156,7 @@ kept_tell rows is =
       rising = is.rising;
     }
 
--- ---- a set has one list of rows
+-- ---- each set has one list of rows
 
 pub both_ways : (s t : Bool) → (s ≡ true → t ≡ true) → (t ≡ true → s ≡ true) → s ≡ t
 both_ways true t f g = sym (f refl)
@@ -190,7 +190,7 @@ module _ (dots : Dots) where
     | inr (inr beyond) ↦ absurd (not_less y x h g (sym same) beyond)
   ]
 
-  -- a further counter isn't 1 to upto
+  -- no further counter is in 1 to upto
   outside : (x : Row) → IsRowOf dots x → (n : ℕ) → (nat_le 1 n && nat_le n x.upto) ≡ true → has_key nat_cmp x.further n ≡ false
   outside x g n inside = false_from_ne_true (has_key nat_cmp x.further n) (λ e.
       let parts = and_parts _ _ inside in
@@ -228,7 +228,7 @@ module _ (dots : Dots) where
   pub same_rows : (xs ys : List Row) → AreRowsOf dots xs → AreRowsOf dots ys → xs ≡ ys
   same_rows xs ys g h = same_list xs ys g.each h.each (same_origins xs ys g h)
 
-  -- ---- the rows of a set tell it
+  -- ---- the set of a set's rows
 
   row_dot : (rows : List Row) → AllByRecursion (IsRowOf dots) rows → (q : Dot) → any_row rows q ≡ true → set.contains dots q ≡ true
   row_dot [] each q e = absurd (false≢true e)
@@ -253,17 +253,17 @@ module _ (dots : Dots) where
   rows_back rows h = set.same_set dots_total exact_dots (dots_in rows) dots (λ q.
       contains-dots_in rows q ∙ both_ways _ _ (row_dot rows h.each q) (λ e. dot_row rows h.each q (h.every q e) e))
 
--- rows that are kept are those of their set
+-- rows that satisfy the invariant are the rows of their set
 pub kept_are : (rows : List Row) → AreKept rows → rows_of (dots_in rows) ≡ rows
 kept_are rows is = same_rows (dots_in rows) (rows_of (dots_in rows)) rows (rows_tell (dots_in rows)) (kept_tell rows is)
 
--- the rows of a set are its dots
+-- the dots of a set's rows are the set
 pub dots_back : (dots : Dots) → dots_in (rows_of dots) ≡ dots
 dots_back dots = rows_back dots (rows_of dots) (rows_tell dots)
 
--- ---- numbers that rise
+-- ---- ascending numbers
 
--- each above the one before it, the first above low
+-- `rises_on` means a strictly sorted list with low in front
 pub rises_to : (low : ℕ) (ns : List ℕ) → rises_on low ns ≡ true → IsRising nat_cmp (low ∷ ns)
 rises_to low [] h = refl
 rises_to low (n ∷ ns) h =

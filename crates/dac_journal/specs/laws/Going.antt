@@ -1,4 +1,4 @@
--- A journal goes on by one record.
+-- A journal grows by one record.
 use Rattle.std.proofs.Common.{◌≡◌, ℕ, List, [], ◌∷◌, ◌++◌, map, Result, refl, sym, ap, subst, ◌∙◌}
 use Rattle.dac_messages.specs.declared.reply.Reply.{Reply}
 use Rattle.dac_messages.specs.declared.event.Event.{Event}
@@ -17,7 +17,7 @@ entries_push : (rs : List Record) (r : Record) → map entry_of (rs ++ r ∷ [])
 entries_push [] r = refl
 entries_push (x ∷ rs) r = ap (λ l. entry_of x ∷ l) (entries_push rs r)
 
--- a step of the program's node, recorded
+-- recording a step of the program's node leads from the end of a journal to its next end
 pub goes_on : (o : Beginning) (rs : List Record) (old new : NodeValue) (seat : ℕ) (event : Event) (answer : Result Reply Refusal) → EndsAt o rs old → Steps o.table o.node old event new answer
     → EndsAt o (rs ++ record_of seat event answer ∷ []) new
 goes_on o rs old new seat event answer ends step =
@@ -29,11 +29,11 @@ goes_on o rs old new seat event answer ends step =
       shows = by.0;
     }
 
--- where a journal ends it is a history
+-- a journal that ends at a node is a history
 pub is_history : (o : Beginning) (rs : List Record) (v : NodeValue) → EndsAt o rs v → AreHistory o rs
 is_history o rs v ends = record { final = ends.final; history = ends.history }
 
--- a history comes to one model node alone, and what shows as it is one node of the program's
+-- a history leads to only one model node, which shows as only one node of the program
 histories_alike : (t : Table) (me : NodeId) (d x y : ModelNode) (es : List Entry) → IsHistory t me d es x → IsHistory t me d es y → x ≡ y
 histories_alike t me d x y [] h k = h ∙ sym k
 histories_alike t me d x y (e ∷ es) h k = histories_alike t me (model_step t me d e.event).node x y es h.1 k.1

@@ -37,7 +37,7 @@ module _ {K X : Type 0} {R : K → K → Ordering} (o : IsTotalOrder R) (exact :
   below_more x y [] p h = tt
   below_more x y (e ∷ es) p h = both _ _ (subst (λ r. T (is_lt r)) (sym (o.trans x y e.0 p (less _ (first _ _ h)))) tt) (below_more x y es p (second _ _ h))
 
-  -- a key below all others isn't among them
+  -- a key less than all others isn't among them
   pub find_below : (q : K) (es : List (K × X)) → T (below_all R q es) → find R q es ≡ None
   find_below q [] h = refl
   find_below q (e ∷ es) h = ap (λ r. cond (is_eq r) (Some e.1) (find R q es)) (less _ (first _ _ h)) ∙ find_below q es (second _ _ h)
@@ -82,7 +82,7 @@ module _ {K X : Type 0} {R : K → K → Ordering} (o : IsTotalOrder R) (exact :
     sorted_right [] h = tt
     sorted_right (y ∷ ys) h = sorted_keep y.0 _ _ (below_right y.0 ys (first _ _ h)) (sorted_right ys (second _ _ h))
 
-    -- of what comes after x: it keeps order, and keeps above what is below both lists
+    -- x is below xs, and a merge with xs keeps the order
     record Follows (x : K × X) (xs : List (K × X)) : Type 0 where
       above : T (below_all R x.0 xs)
       sorted : (ys : List (K × X)) → T (is_sorted R ys) → T (is_sorted R (merge_entries R f xs ys))
@@ -165,7 +165,7 @@ module _ {K X : Type 0} {R : K → K → Ordering} (o : IsTotalOrder R) (exact :
                 ] refl
           ] refl
 
-      -- what the merge has at a key
+      -- the value of the merge at a key
       pub find_merge : (q : K) (xs ys : List (K × X)) → T (is_sorted R xs) → T (is_sorted R ys) → find R q (merge_entries R f xs ys) ≡ f q (find R q xs) (find R q ys)
       find_merge q [] ys g h = find_right q ys h
       find_merge q (x ∷ xs) ys g h =

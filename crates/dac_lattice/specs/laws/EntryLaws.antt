@@ -1,4 +1,4 @@
--- What is at a place of a list of entries in order. And how a loop over the entries shows what holds at each key.
+-- Entries at an index of a sorted list, and properties of each key, shown by a loop over the entries.
 use Rattle.std.specs.Prelude.{◌≡◌, ℕ, ◌+◌, ◌<◌, ◌≤◌, Bool, true, false, cond, ◌&&◌, T, List, [], ◌∷◌, length, Option, None, Some, refl}
 use Rattle.std.proofs.lemmas.List.{take_all}
 use Rattle.std.proofs.lemmas.List.Elements.{All-more}
@@ -36,7 +36,7 @@ module _ {K X : Type 0} {R : K → K → Ordering} (o : IsTotalOrder R) (exact :
   above_at x (e ∷ es) zero d h p = less _ (first _ _ h)
   above_at x (e ∷ es) (suc i) d h p = above_at x es i d (second _ _ h) (omega arith)
 
-  -- the entry at a place is what its key finds
+  -- a search for the key of an entry finds that entry
   pub find_at : (xs : List (K × X)) (i : ℕ) (d : K × X) → T (is_sorted R xs) → i < length xs → find R (get_or xs i d).0 xs ≡ Some (get_or xs i d).1
   find_at [] i d h p = absurd (omega arith)
   find_at (x ∷ xs) zero d h p = ap (λ r. cond (is_eq r) (Some x.1) (find R x.0 xs)) (tied_itself o x.0)
@@ -60,14 +60,14 @@ module _ {K X : Type 0} {R : K → K → Ordering} (o : IsTotalOrder R) (exact :
   pub each_entry : (xs : List (K × X)) → IsInOrder R xs → AtEachKey R P xs → AtEachEntry P xs
   each_entry xs h each i d p = subst (P _) (find_at o exact xs i d h p) (each _)
 
-  -- one entry more
+  -- a loop's step: one more entry has the property
   pub one_more : (xs : List (K × X)) (i : ℕ) (x : K × X) → i < length xs → x ≡ get_or xs i x → AtEachEntry P (take i xs) → P x.0 (Some x.1) → AtEachEntry P (take (i + 1) xs)
   one_more xs i x p is all here = All-more (λ e. P e.0 (Some e.1)) xs i x p all (subst (λ e. P e.0 (Some e.1)) is here)
 
-  -- all entries
+  -- a loop's end: all keys have the property
   pub no_more : ((k : K) → P k None) → (xs : List (K × X)) (i : ℕ) → length xs ≤ i → AtEachEntry P (take i xs) → AtEachKey R P xs
   no_more none xs i p all = each_key none xs (subst (AtEachEntry P) (take_all i xs p) all)
 
-  -- at one place
+  -- a property of each key holds of the entry at an index
   pub at_place : (xs : List (K × X)) (i : ℕ) (x : K × X) → IsInOrder R xs → i < length xs → x ≡ get_or xs i x → AtEachKey R P xs → P x.0 (Some x.1)
   at_place xs i x h p is each = subst (λ e. P e.0 (Some e.1)) (sym is) (each_entry xs h each i x p)

@@ -17,14 +17,14 @@ use Rattle.dac_lattice.specs.Flags.{IsFlagBelow, flag_cmp, height, join_flags}
 pub flags_total : IsTotalOrder flag_cmp
 flags_total = on_total height nat_cmp_total
 
--- an order that tells Up and Down apart so is the order of flags
+-- an order in which Up is below Down is the order of flags
 pub same_flag_cmp : (cmp : Flag → Flag → Ordering) → cmp Up Up ≡ Equal → cmp Up Down ≡ Less → cmp Down Up ≡ Greater → cmp Down Down ≡ Equal → (x y : Flag) → cmp x y ≡ flag_cmp x y
 same_flag_cmp cmp p q r s Up Up = p
 same_flag_cmp cmp p q r s Up Down = q
 same_flag_cmp cmp p q r s Down Up = r
 same_flag_cmp cmp p q r s Down Down = s
 
--- in an order that tells Up and Down apart, only equal flags tie
+-- in an order in which Up is below Down, only equal flags tie
 pub exact_flags : (cmp : Flag → Flag → Ordering) → cmp Up Down ≡ Less → cmp Down Up ≡ Greater → CmpEqualImpliesEq cmp
 exact_flags cmp p q Up Up e = refl
 exact_flags cmp p q Up Down e = absurd (false≢true (ap is_eq (sym p ∙ e)))

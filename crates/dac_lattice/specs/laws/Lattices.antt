@@ -3,7 +3,7 @@ use Rattle.std.specs.Prelude.{◌≡◌, Option, None, Some, refl}
 use Rattle.std.proofs.Common.{sym, ap, subst, ◌∙◌}
 use Rattle.dac_lattice.specs.Lattices.{IsOptionOf, IsLattice, IsOptionBelow, join_options}
 
--- the laws of a wrapper from those of what it wraps
+-- a type isomorphic to a lattice is a lattice
 pub wrapped_laws : {S T : Type 0} {is_value : T → Type 0} {below : T → T → Type 0} {join : T → T → T} (out : S → T) (into : T → S)
     → ((s : S) → into (out s) ≡ s) → ((t : T) → out (into t) ≡ t) → IsLattice is_value below join
     → IsLattice (λ s. is_value (out s)) (λ x y. below (out x) (out y)) (λ x y. into (join (out x) (out y)))
@@ -17,7 +17,7 @@ wrapped_laws {is_value = is_value} {below = below} {join = join} out into back f
   least = λ x y z p q r a b. subst (λ j. below j (out z)) (sym (forth _)) (laws.least (out x) (out y) (out z) p q r a b);
 }
 
--- two lattices side by side
+-- the product of two lattices is a lattice
 pub paired_laws : {A B : Type 0} {V : A → Type 0} {W : B → Type 0} {below : A → A → Type 0} {under : B → B → Type 0} {join : A → A → A} {meet : B → B → B}
     → IsLattice V below join → IsLattice W under meet
     → IsLattice {T = A × B} (λ p. V p.0 × W p.1) (λ p q. below p.0 q.0 × under p.1 q.1) (λ p q. (join p.0 q.0, meet p.1 q.1))
@@ -70,6 +70,6 @@ module _ {T : Type 0} {is_value : T → Type 0} {below : T → T → Type 0} {jo
   o_least (Some x) (Some y) None u v w p q = absurd p
   o_least (Some x) (Some y) (Some z) u v w p q = laws.least x y z u v w p q
 
-  -- with a least value added
+  -- a lattice with a least value added is a lattice
   pub optional_laws : IsLattice (IsOptionOf is_value) (IsOptionBelow below) (join_options join)
   optional_laws = record { refl = o_refl; trans = o_trans; antisymm = o_antisymm; closed = o_closed; left = o_left; right = o_right; least = o_least }

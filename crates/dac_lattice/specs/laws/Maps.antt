@@ -12,7 +12,7 @@ use Rattle.dac_lattice.specs.laws.Entries.{sorted_merge, find_merge}
 use Rattle.dac_lattice.specs.Maps.{IsMap, IsMapBelow, join_maps}
 
 module _ {K X : Type 0} {R : K → K → Ordering} (o : IsTotalOrder R) (exact : CmpEqualImpliesEq R) {is_value : X → Type 0} {below : X → X → Type 0} {join : X → X → X} (laws : IsLattice is_value below join) where
-  -- what a join has at a key
+  -- the value of a join at a key
   pub find_join : (k : K) (xs ys : List (K × X)) → IsMap R is_value xs → IsMap R is_value ys → find R k (join_maps R join xs ys) ≡ join_options join (find R k xs) (find R k ys)
   find_join k xs ys u v = find_merge o exact (λ _. join_options join) (λ _. refl) k xs ys u.in_order v.in_order
 

@@ -1,4 +1,4 @@
--- What follows from the laws of a piece, once for all pieces.
+-- Consequences of the piece laws, proved once for all pieces.
 use Rattle.std.specs.Prelude.{◌≡◌, ℕ, ◌-◌, ◌<◌, ◌≤◌, length, List, [], ◌∷◌, ◌++◌}
 use Rattle.std.proofs.Common.{zero, suc, get_or, drop, arith, inl, inr, refl, sym, ap, subst, ◌∙◌}
 use Rattle.std.proofs.Math.Seq.{drop-cons}
@@ -20,7 +20,7 @@ module _ {A : Type 0} where
   in_drop o [] (suc i) h = h
   in_drop o (p ∷ os) (suc i) h = inr (in_drop o os i h)
 
-  -- some of the operations are operations
+  -- a subset of operations satisfies the same conditions
   pub of_within : (fits : Dot → A → Type 0) (os ps : List (Dot × A)) → AreGivenIn os ps → AreOperations fits ps → AreOperations fits os
   of_within fits os ps within h = record {
     fit = λ o i. h.fit o (within o i);
@@ -45,7 +45,7 @@ module _ {V : Type 0} {is_value : V → Type 0} {below : V → V → Type 0} {jo
     joined_value [] = value
     joined_value (o ∷ os) = laws.closed _ _ (joined_value os) (piece.delta_value o.0 o.1)
 
-    -- the joined deltas are what the operations mean
+    -- the joined deltas are the meaning of the operations
     pub joined_means : DeltasAreMeanings join bottom fits delta means
     joined_means [] h = piece.start
     joined_means (o ∷ os) h = piece.step os o _ (joined_value os) h (joined_means os (of_within fits os (o ∷ os) (λ p i. inr i) h))
@@ -72,7 +72,7 @@ module _ {V : Type 0} {is_value : V → Type 0} {below : V → V → Type 0} {jo
         let same = laws.antisymm _ _ (joined_value ps) (joined_value os) (joined_within ps os back) (joined_within os ps there) in
         subst (means ps) (same ∙ meaning_is os v u h m) (joined_means ps (of_within fits ps os back h))
 
-    -- what some operations mean, joined with the deltas of more
+    -- the join of a meaning with the deltas of more operations is the meaning of all
     more_joined : (os ps : List (Dot × A)) (w : V) → is_value w → AreOperations fits (os ++ ps) → means ps w → means (os ++ ps) (join w (joined join bottom delta os))
     more_joined [] ps w u h m = subst (means ps) (sym (join_bottom laws bottom value least w u)) m
     more_joined (o ∷ os) ps w u h m =

@@ -36,7 +36,7 @@ all_pass : {X : Type 0} (p : X → Bool) → ((x : X) → p x ≡ true) → (xs 
 all_pass p h [] = refl
 all_pass p h (x ∷ xs) = and_from _ _ (h x) (all_pass p h xs)
 
--- a key among the keys passes what each of them passes
+-- a key in the list passes if each key there does
 passes : {K : Type 0} {R : K → K → Ordering} → CmpEqualImpliesEq R → (p : K → Bool) (k : K) (ks : List K) → list_all p ks ≡ true → list_any (eq_by_cmp R k) ks ≡ true → p k ≡ true
 passes exact p k [] h there = absurd (true≢false (sym there))
 passes {R = R} exact p k (m ∷ ks) h there = elim (or_cases (eq_by_cmp R k m) (list_any (eq_by_cmp R k) ks) there) [

@@ -21,7 +21,7 @@ module _ {K T : Type 0} (said : Dot → Act → Option (K × T)) where
   pub is_said : (os : List Operation) (k : K) (v : T) → SaysFor said os k v → IsSaid said (pairs os) k v
   is_said os k v s = ((s.0.dot, s.0.act), (of_pairs s.0 os s.1.0, s.1.1))
 
-  -- what is said by some is said by more
+  -- more operations report more values
   said_within : (os ps : List Operation) → AreOperationsOf os ps → (k : K) (v : T) → IsSaid said (pairs os) k v → IsSaid said (pairs ps) k v
   said_within os ps within k v s = let o = of_said os k v s in is_said ps k v (o.0, (within o.0 o.1.0, o.1.1))
 
@@ -34,12 +34,12 @@ module _ {K T : Type 0} (said : Dot → Act → Option (K × T)) where
       ]
 
 module _ {K T : Type 0} {R : K → K → Ordering} {cmp : T → T → Ordering} (keys : IsTotalOrder R) (exact_keys : CmpEqualImpliesEq R) (o : IsTotalOrder cmp) (exact : CmpEqualImpliesEq cmp) (said : Dot → Act → Option (K × T)) where
-  -- the map of greatest values is what it is called
+  -- the map of greatest values has the greatest value at each key
   pub are_greatest : (os : List Operation) → AreGreatest cmp said (pairs os) (greatest_of {R = R} cmp said os)
   are_greatest [] = (greatest_piece keys exact_keys o exact said {fits = λ _ _. Unit {0}}).start
   are_greatest (p ∷ os) = one_more keys exact_keys o exact said (pairs os) (p.dot, p.act) (greatest_of cmp said os) (are_greatest os)
 
-  -- there is one such map
+  -- the map of greatest values is unique
   pub one_greatest : (os : List Operation) (m n : map.FinMap R T) → AreGreatest cmp said (pairs os) m → AreGreatest cmp said (pairs os) n → m ≡ n
   one_greatest os m n g h = (greatest_piece keys exact_keys o exact said {fits = λ _ _. Unit {0}}).one (pairs os) m n tt tt g h
 
@@ -63,6 +63,6 @@ module _ {K T : Type 0} {R : K → K → Ordering} {cmp : T → T → Ordering} 
       (greatest_either o exact (IsSaid said (pairs os) k) (IsSaid said (pairs ps) k) (map.get m k) (map.get n k) (are_greatest os k) (are_greatest ps k))))
       (are_greatest (os ++ ps))
 
-  -- what one operation says is its map
+  -- the map of one operation is its report
   pub greatest-one : (p : Operation) → alone {R = R} (said p.dot p.act) ≡ greatest_of cmp said (p ∷ [])
   greatest-one p = sym (join_above (greatest_laws keys exact_keys o exact) map.empty (alone (said p.dot p.act)) tt tt (empty_is_least keys exact_keys o exact (alone (said p.dot p.act))))

@@ -1,5 +1,5 @@
--- The laws of meanings. Order and repeats don't matter, and a meaning is a state. A join of meanings is the meaning
--- of all operations together.
+-- The laws of meanings: order and repetition don't matter, a meaning is a state, and the join of two meanings is the
+-- meaning of all the operations.
 use Rattle.std.proofs.Common.{◌≡◌, Bool, true, false, not, cond, ◌&&◌, ◌||◌, List, [], ◌∷◌, ◌++◌, Option, None, Some, is_some, refl, sym, ap, ◌∙◌, inl, inr}
 use Rattle.std.specs.List.{list_any}
 use Rattle.std.specs.declared.cmp.Ordering.{Ordering}
@@ -40,7 +40,7 @@ use Rattle.dac_operations.specs.declared.act.Act.{Act}
 use Rattle.dac_operations.specs.Operations.{Operation}
 use Rattle.dac_meaning.specs.StateValue.{IsState, permissions_of, wishes_of, drains_of, join}
 use Rattle.dac_meaning.specs.laws.StateLaws.{same_state, heard-join, permissions-join, wishes-join, lives-join, claims-join, drains-join}
-use Rattle.dac_meaning.specs.Meaning.{meaning_of, has_dot, replaces, is_replaced, names, wishes, is_start, flag_said, vote_says, is_vote, vote_said, vote_at, permit_vote, drain_vote, life_said, claim_said, AreOperationsOf, DotsDetermine}
+use Rattle.dac_meaning.specs.Meaning.{meaning_of, has_dot, replaces, is_replaced, names, wishes, is_start, flag_written, vote_says, is_vote, vote_flag, vote_at, permit_vote, drain_vote, life_said, claim_said, AreOperationsOf, DotsDetermine}
 use Rattle.dac_meaning.specs.laws.Members.{In-append_left, In-append_right, list_any-same, list_any-wider, shared}
 use Rattle.dac_meaning.specs.laws.Chained.{greatest-same, greatest-append}
 use Rattle.dac_meaning.specs.laws.Readers.{heard-meaning, known-meaning, starts-meaning, permits-meaning, lives-meaning, claims-meaning, drains-meaning}
@@ -70,30 +70,30 @@ module _ {K : Type 0} (R : K → K → Ordering) (vote : Act → Option (K × Bo
   vote_has_dot w v o t = (and_parts (vote_says R w.key v (vote o.act)) (has_dot w.dot o) t).1
 
   module _ (down : Bool) where
-    -- what is said has a dot of theirs
-    said_has_dot : (w : KeyedWrite K) (os : List Operation) → is_some (vote_said R vote down w os) ≡ true → list_any (has_dot w.dot) os ≡ true
+    -- if there is a flag, an operation with this dot wrote it
+    said_has_dot : (w : KeyedWrite K) (os : List Operation) → is_some (vote_flag R vote down w os) ≡ true → list_any (has_dot w.dot) os ≡ true
     said_has_dot w os h = elim (or_cases _ _ (either (list_any (is_vote R vote w down) os) (list_any (is_vote R vote w (not down)) os) h)) [
       | inl a ↦ list_any-wider (is_vote R vote w down) (has_dot w.dot) (vote_has_dot w down) os a
       | inr b ↦ list_any-wider (is_vote R vote w (not down)) (has_dot w.dot) (vote_has_dot w (not down)) os b
     ]
       where
-        either : (a b : Bool) → is_some (flag_said a b) ≡ true → (a || b) ≡ true
+        either : (a b : Bool) → is_some (flag_written a b) ≡ true → (a || b) ≡ true
         either true b h = refl
         either false true h = refl
         either false false h = h
 
     vote_at-same : (os ps : List Operation) → AreOperationsOf os ps → AreOperationsOf ps os → (w : KeyedWrite K) → vote_at R vote down os w ≡ vote_at R vote down ps w
-    vote_at-same os ps f g w = λ i. cond (list_any-same (replaces w.dot) os ps f g i) None (flag_said (list_any-same (is_vote R vote w down) os ps f g i) (list_any-same (is_vote R vote w (not down)) os ps f g i))
+    vote_at-same os ps f g w = λ i. cond (list_any-same (replaces w.dot) os ps f g i) None (flag_written (list_any-same (is_vote R vote w down) os ps f g i) (list_any-same (is_vote R vote w (not down)) os ps f g i))
 
-    -- a vote that stands has its dot known
+    -- the dot of a standing vote is known
     standing_known : (os : List Operation) (w : KeyedWrite K) → is_some (vote_at R vote down os w) ≡ true → set.contains (meaning_of os).known w.dot ≡ true
-    standing_known os w h = known_own os w.dot (said_has_dot w os (given (is_replaced w.dot os) (vote_said R vote down w os) h))
+    standing_known os w h = known_own os w.dot (said_has_dot w os (given (is_replaced w.dot os) (vote_flag R vote down w os) h))
       where
         given : (b : Bool) (v : Option Flag) → is_some (cond b None v) ≡ true → is_some v ≡ true
         given true v h = absurd (false≢true h)
         given false v h = h
 
--- the meaning depends on which operations there are, and on no more
+-- the meaning depends only on the set of operations
 pub meaning-same : (os ps : List Operation) → AreOperationsOf os ps → AreOperationsOf ps os → meaning_of os ≡ meaning_of ps
 meaning-same os ps f g = same_state (meaning_of os) (meaning_of ps)
     (same_dots _ _ (λ d. heard-meaning os d ∙ list_any-same (has_dot d) os ps f g ∙ sym (heard-meaning ps d)))
@@ -125,7 +125,7 @@ names-or d (o ∷ os) = ap (λ b. (has_dot d o || replaces d o) || b) (names-or 
     regroup false false true e = refl
     regroup false false false e = refl
 
--- a, b: started in either; r, q: replaced there; h, g: heard there
+-- a, b: started on each side; r, q: replaced there; h, g: heard there
 starts_stand : (a b r q h g : Bool) → (a ≡ true → g ≡ true → b ≡ true) → (b ≡ true → h ≡ true → a ≡ true) →
     (((a && not r) && ((b && not q) || not (q || g))) || ((b && not q) && ((a && not r) || not (r || h)))) ≡ ((a || b) && not (r || q))
 starts_stand true true true true h g f k = refl
@@ -143,7 +143,7 @@ starts_stand false true false false true g f k = absurd (false≢true (k refl re
 starts_stand false true false false false g f k = refl
 starts_stand false false r q h g f k = refl
 
--- u, v: said in either; r, q: replaced there; h, g: heard there
+-- u, v: the flag on each side; r, q: replaced there; h, g: heard there
 votes_stand : (r q h g : Bool) (u v : Option Flag) → (is_some u ≡ true → h ≡ true) → (is_some v ≡ true → g ≡ true) → (h ≡ true → g ≡ true → u ≡ v) →
     join_at join_flags (r || h) (q || g) (cond r None u) (cond q None v) ≡ cond (r || q) None (join_options join_flags u v)
 votes_stand true true h g u v a b same = refl
@@ -160,13 +160,13 @@ votes_stand false false true true None (Some y) a b same = absurd (false≢true 
 votes_stand false false true false None (Some y) a b same = absurd (false≢true (b refl))
 votes_stand false false h g (Some x) (Some y) a b same = refl
 
--- what is said by two lists together
-said-append : {K : Type 0} (R : K → K → Ordering) (vote : Act → Option (K × Bool)) (down : Bool) (w : KeyedWrite K) (os ps : List Operation) → vote_said R vote down w (os ++ ps) ≡ join_options join_flags (vote_said R vote down w os) (vote_said R vote down w ps)
+-- the flag of a vote from two lists together
+said-append : {K : Type 0} (R : K → K → Ordering) (vote : Act → Option (K × Bool)) (down : Bool) (w : KeyedWrite K) (os ps : List Operation) → vote_flag R vote down w (os ++ ps) ≡ join_options join_flags (vote_flag R vote down w os) (vote_flag R vote down w ps)
 said-append R vote down w os ps =
-    (λ i. flag_said (list_any-append (is_vote R vote w down) os ps i) (list_any-append (is_vote R vote w (not down)) os ps i))
+    (λ i. flag_written (list_any-append (is_vote R vote w down) os ps i) (list_any-append (is_vote R vote w (not down)) os ps i))
     ∙ both (list_any (is_vote R vote w down) os) (list_any (is_vote R vote w (not down)) os) (list_any (is_vote R vote w down) ps) (list_any (is_vote R vote w (not down)) ps)
   where
-    both : (a b c e : Bool) → flag_said (a || c) (b || e) ≡ join_options join_flags (flag_said a b) (flag_said c e)
+    both : (a b c e : Bool) → flag_written (a || c) (b || e) ≡ join_options join_flags (flag_written a b) (flag_written c e)
     both true b true e = refl
     both true b false true = refl
     both true b false false = refl
@@ -194,7 +194,7 @@ module _ (os ps : List Operation) (agree : DotsDetermine (os ++ ps)) where
       ∙ (λ i. heard-meaning os d i || heard-meaning ps d i)
       ∙ sym (list_any-append (has_dot d) os ps) ∙ sym (heard-meaning (os ++ ps) d))
 
-  -- which dots are known on either side
+  -- the known dots of each side
   known_os : (d : Dot) → set.contains (meaning_of os).known d ≡ (is_replaced d os || list_any (has_dot d) os)
   known_os d = known-meaning os d ∙ names-or d os
 
@@ -202,16 +202,16 @@ module _ (os ps : List Operation) (agree : DotsDetermine (os ++ ps)) where
   known_ps d = known-meaning ps d ∙ names-or d ps
 
   module _ {K : Type 0} {R : K → K → Ordering} (total : IsTotalOrder R) (exact : CmpEqualImpliesEq R) (vote : Act → Option (K × Bool)) (down : Bool) where
-    -- where both have the dot, they say the same
-    same_said : (w : KeyedWrite K) → list_any (has_dot w.dot) os ≡ true → list_any (has_dot w.dot) ps ≡ true → vote_said R vote down w os ≡ vote_said R vote down w ps
-    same_said w h g = λ i. flag_said (alike down i) (alike (not down) i)
+    -- if both sides have the dot, their flags are equal
+    same_said : (w : KeyedWrite K) → list_any (has_dot w.dot) os ≡ true → list_any (has_dot w.dot) ps ≡ true → vote_flag R vote down w os ≡ vote_flag R vote down w ps
+    same_said w h g = λ i. flag_written (alike down i) (alike (not down) i)
       where
         alike : (v : Bool) → list_any (is_vote R vote w v) os ≡ list_any (is_vote R vote w v) ps
         alike v = both_ways _ _
             (λ t. shared (is_vote R vote w v) w.dot (vote_has_dot R vote w v) os ps (os ++ ps) left right agree t g)
             (λ t. shared (is_vote R vote w v) w.dot (vote_has_dot R vote w v) ps os (os ++ ps) right left agree t h)
 
-    -- what stands of votes in two meanings joined is what stands in both together
+    -- the standing votes of two joined meanings are those of all the operations
     votes_together : (x y z : VotesValue R) → x.known ≡ (meaning_of os).known → y.known ≡ (meaning_of ps).known → z.known ≡ (meaning_of (os ++ ps)).known
         → ((w : KeyedWrite K) → map.get x.standing w ≡ vote_at R vote down os w) → ((w : KeyedWrite K) → map.get y.standing w ≡ vote_at R vote down ps w)
         → ((w : KeyedWrite K) → map.get z.standing w ≡ vote_at R vote down (os ++ ps) w) → join_votes R x y ≡ z
@@ -219,7 +219,7 @@ module _ (os ps : List Operation) (agree : DotsDetermine (os ++ ps)) where
         same_votes total exact (join_votes R x y) z (known-join_votes R x y ∙ (λ i. set.union (kx i) (ky i)) ∙ known_together ∙ sym kz) (λ w.
         standing-join_votes total exact x y w
         ∙ (λ i. join_at join_flags ((ap (λ (s : Dots). set.contains s w.dot) kx ∙ known_os w.dot) i) ((ap (λ (s : Dots). set.contains s w.dot) ky ∙ known_ps w.dot) i) (sx w i) (sy w i))
-        ∙ votes_stand (is_replaced w.dot os) (is_replaced w.dot ps) (list_any (has_dot w.dot) os) (list_any (has_dot w.dot) ps) (vote_said R vote down w os) (vote_said R vote down w ps)
+        ∙ votes_stand (is_replaced w.dot os) (is_replaced w.dot ps) (list_any (has_dot w.dot) os) (list_any (has_dot w.dot) ps) (vote_flag R vote down w os) (vote_flag R vote down w ps)
         (said_has_dot R vote down w os) (said_has_dot R vote down w ps) (same_said w)
         ∙ sym (λ i. cond (list_any-append (replaces w.dot) os ps i) None (said-append R vote down w os ps i))
         ∙ sym (sz w))

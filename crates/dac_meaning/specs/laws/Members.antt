@@ -1,4 +1,4 @@
--- Which operations are in a list, and what depends on that alone.
+-- Membership of operations in lists, and properties that depend only on it.
 use Rattle.std.proofs.Common.{◌≡◌, Bool, true, false, ◌⊎◌, List, [], ◌∷◌, ◌++◌, refl, sym, ap, ◌∙◌, inl, inr}
 use Rattle.std.specs.List.{list_any}
 use Rattle.std.proofs.lemmas.Bool.{false≢true, or_cases, or_left, or_right, false_from_ne_true}
@@ -27,7 +27,7 @@ In-append_cases o (x ∷ os) ps (inr h) = elim (In-append_cases o os ps h) [ inl
 pub Within-append : (os ps qs : List Operation) → AreOperationsOf os qs → AreOperationsOf ps qs → AreOperationsOf (os ++ ps) qs
 Within-append os ps qs f g o h = elim (In-append_cases o os ps h) [ inl a ↦ f o a | inr b ↦ g o b ]
 
--- what a test finds is one of the operations
+-- if a test finds an operation, that is in the list
 pub found : (p : Operation → Bool) (os : List Operation) → list_any p os ≡ true → (o : Operation) × (IsOperationOf o os × (p o ≡ true))
 found p [] h = absurd (false≢true h)
 found p (x ∷ os) h = elim (or_cases (p x) (list_any p os) h) [
@@ -35,7 +35,7 @@ found p (x ∷ os) h = elim (or_cases (p x) (list_any p os) h) [
   | inr r ↦ let f = found p os r in (f.0, (inr f.1.0, f.1.1))
 ]
 
--- a test that one of the operations passes finds one
+-- a test finds an operation if one in the list passes
 pub finds : (p : Operation → Bool) (os : List Operation) (o : Operation) → IsOperationOf o os → p o ≡ true → list_any p os ≡ true
 finds p [] o h t = absurd h
 finds p (x ∷ os) o (inl e) t = or_left (p x) (list_any p os) (ap p (sym e) ∙ t)
@@ -44,19 +44,19 @@ finds p (x ∷ os) o (inr h) t = or_right (p x) (list_any p os) (finds p os o h 
 list_any-Within : (p : Operation → Bool) (os ps : List Operation) → AreOperationsOf os ps → list_any p os ≡ true → list_any p ps ≡ true
 list_any-Within p os ps w h = let f = found p os h in finds p ps f.0 (w f.0 f.1.0) f.1.1
 
--- tests answer alike on lists of the same operations
+-- tests have equal results on lists of the same operations
 pub list_any-same : (p : Operation → Bool) (os ps : List Operation) → AreOperationsOf os ps → AreOperationsOf ps os → list_any p os ≡ list_any p ps
 list_any-same p os ps f g = both_ways (list_any p os) (list_any p ps) (list_any-Within p os ps f) (list_any-Within p ps os g)
 
--- what passes a test passes a wider one too
+-- if an operation passes a test, some operation passes a wider one
 pub list_any-wider : (p q : Operation → Bool) → ((o : Operation) → p o ≡ true → q o ≡ true) → (os : List Operation) → list_any p os ≡ true → list_any q os ≡ true
 list_any-wider p q f os h = let o = found p os h in finds q os o.0 o.1.0 (f o.0 o.1.1)
 
--- what none passes of a test none passes of a narrower one
+-- if no operation passes a test, none passes a narrower one
 pub list_any-narrower : (p q : Operation → Bool) → ((o : Operation) → p o ≡ true → q o ≡ true) → (os : List Operation) → list_any q os ≡ false → list_any p os ≡ false
 list_any-narrower p q f os h = false_from_ne_true (list_any p os) (λ t. false≢true (sym h ∙ list_any-wider p q f os t))
 
--- An operation of os that passes a test of one dot alone is one of ps, if those have the dot.
+-- An operation of os that passes a test for a single dot is in ps, if ps has the dot.
 pub shared : (p : Operation → Bool) (d : Dot) → ((o : Operation) → p o ≡ true → has_dot d o ≡ true) → (os ps all : List Operation) → AreOperationsOf os all → AreOperationsOf ps all → DotsDetermine all
     → list_any p os ≡ true → list_any (has_dot d) ps ≡ true → list_any p ps ≡ true
 shared p d narrow os ps all f g agree a b =

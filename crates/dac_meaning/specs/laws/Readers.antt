@@ -1,4 +1,4 @@
--- What a meaning shows, part by part.
+-- The parts of a meaning, one by one.
 use Rattle.std.proofs.Common.{◌≡◌, Bool, true, false, not, cond, ◌&&◌, ◌||◌, List, [], ◌∷◌, Option, None, Some, map as list_map, refl, sym, ap, ◌∙◌}
 use Rattle.std.specs.List.{list_any, flat_map}
 use Rattle.std.specs.declared.cmp.Ordering.{Ordering}
@@ -30,7 +30,7 @@ use Rattle.dac_operations.specs.declared.act.Act.{Act}
 use Rattle.dac_operations.specs.declared.act.Act.TheVariants.{Up, Down, Permit, Start, Stop, Drain, Claim}
 use Rattle.dac_operations.specs.Operations.{Operation, over_list}
 use Rattle.dac_meaning.specs.laws.Tables.{get-table, given_or_none}
-use Rattle.dac_meaning.specs.Meaning.{meaning_of, has_dot, is_replaced, names, starts_in, wishes, is_start, is_same, flag_said, vote_says, writes_by_vote, is_vote, vote_at, votes_of, permit_vote, permit_at, drain_vote, drain_at, pairs, life_said, claim_said, lives_of, claims_of}
+use Rattle.dac_meaning.specs.Meaning.{meaning_of, has_dot, is_replaced, names, starts_in, wishes, is_start, is_same, flag_written, vote_says, writes_by_vote, is_vote, vote_at, votes_of, permit_vote, permit_at, drain_vote, drain_at, pairs, life_said, claim_said, lives_of, claims_of}
 use Rattle.dac_meaning.specs.laws.Members.{list_any-narrower}
 use Rattle.dac_meaning.specs.laws.Chained.{are_greatest}
 
@@ -46,12 +46,12 @@ pub or-false : (b : Bool) → (b || false) ≡ b
 or-false true = refl
 or-false false = refl
 
--- heard: some operation has the dot
+-- heard: an operation has the dot
 pub heard-meaning : (os : List Operation) (d : Dot) → set.contains (meaning_of os).heard d ≡ list_any (has_dot d) os
 unfolding meaning_of
 heard-meaning os d = set.contains-from_list dots_total (list_map (λ (o : Operation). o.dot) os) d ∙ list_any-list_map (same_dot d) (λ (o : Operation). o.dot) os
 
--- known: some operation names the dot
+-- known: an operation has the dot or replaces it
 pub known-meaning : (os : List Operation) (d : Dot) → set.contains (meaning_of os).known d ≡ list_any (names d) os
 unfolding meaning_of
 known-meaning os d =
@@ -67,7 +67,7 @@ starts_in-is w d (Stop key over) = refl
 starts_in-is w d (Drain node inc value over) = refl
 starts_in-is w d (Claim app term how from) = refl
 
--- start wishes: some operation is the wish, and none replaces it
+-- start wishes: an operation writes the wish, and none replaces it
 pub starts-meaning : (os : List Operation) (w : Write) → set.contains (meaning_of os).starts w ≡ (list_any (is_start w) os && not (is_replaced w.dot os))
 unfolding meaning_of
 starts-meaning os w =
@@ -92,11 +92,11 @@ module _ {K : Type 0} {R : K → K → Ordering} (total : IsTotalOrder R) (exact
   abbrev all_told : List Operation → List (KeyedWrite K)
   all_told os = flat_map (λ (o : Operation). writes_by_vote o.dot (vote o.act)) os
 
-  -- where no operation has the write, no vote stands
+  -- if no operation has the write, no vote stands
   no_vote : (w : KeyedWrite K) (os : List Operation) → list_any (eq_by_cmp (keyed_write_cmp R) w) (all_told os) ≡ false → vote_at R vote down os w ≡ None
   no_vote w os none =
       let none_here = sym (list_any-flat_map (eq_by_cmp (keyed_write_cmp R) w) (λ (o : Operation). writes_by_vote o.dot (vote o.act)) os) ∙ none in
-      (λ i. cond (is_replaced w.dot os) None (flag_said (not_said down none_here i) (not_said (not down) none_here i)))
+      (λ i. cond (is_replaced w.dot os) None (flag_written (not_said down none_here i) (not_said (not down) none_here i)))
       ∙ nothing (is_replaced w.dot os)
     where
       not_said : (v : Bool) → list_any (λ (o : Operation). list_any (eq_by_cmp (keyed_write_cmp R) w) (writes_by_vote o.dot (vote o.act))) os ≡ false → list_any (is_vote R vote w v) os ≡ false
@@ -106,23 +106,23 @@ module _ {K : Type 0} {R : K → K → Ordering} (total : IsTotalOrder R) (exact
       nothing true = refl
       nothing false = refl
 
-  -- what is said by the operations that are it, if none replaces it
+  -- the flag from the operations that write the vote, if none replaces it
   pub get-votes_of : (os : List Operation) (w : KeyedWrite K) → map.get (votes_of R vote down os) w ≡ vote_at R vote down os w
   get-votes_of os w =
       get-table (keyed_writes_total total) (exact_keyed_writes exact) (vote_at R vote down os) w (all_told os)
       ∙ given_or_none _ (vote_at R vote down os w) (no_vote w os)
 
--- permits: what is said by the operations that are it, if none replaces it
+-- permits: the flag from the operations that write the permit, if none replaces it
 pub permits-meaning : (os : List Operation) (w : Write) → map.get (meaning_of os).permits w ≡ permit_at os w
 unfolding meaning_of
 permits-meaning = get-votes_of keys_total exact_keys permit_vote false
 
--- drains: the same
+-- drains: the flag from the operations that write the drain, if none replaces it
 pub drains-meaning : (os : List Operation) (w : DrainWrite) → map.get (meaning_of os).drains w ≡ drain_at os w
 unfolding meaning_of
 drains-meaning = get-votes_of origins_total exact_origins drain_vote true
 
--- lives: each node has the greatest that was said of it
+-- lives: the greatest reported for each node
 pub lives-meaning : (os : List Operation) → (meaning_of os).lives ≡ lives_of os
 unfolding meaning_of
 lives-meaning os = refl
@@ -130,7 +130,7 @@ lives-meaning os = refl
 pub lives_are : (os : List Operation) → AreGreatest life_cmp life_said (pairs os) (lives_of os)
 lives_are os = are_greatest nodes_total exact_nodes lives_total (exact_lives flag_cmp flags_exact) life_said os
 
--- claims: each application has the greatest that was said of it
+-- claims: the greatest made of each application
 pub claims-meaning : (os : List Operation) → (meaning_of os).claims ≡ claims_of os
 unfolding meaning_of
 claims-meaning os = refl

@@ -29,7 +29,7 @@ life_laws = greatest_laws nodes_total exact_nodes lives_total (exact_lives flag_
 pub claim_laws : IsLattice {T = Claims} IsAny (AreNotAbove claim_cmp) (greater claim_cmp)
 claim_laws = greatest_laws apps_total exact_apps claims_total (exact_claims how_cmp exact_hows)
 
--- ---- what a join shows
+-- ---- the parts of a join
 
 pub heard-join : (x y : StateValue) → (join x y).heard ≡ set.union x.heard y.heard
 unfolding join
@@ -59,7 +59,7 @@ pub drains-join : (x y : StateValue) → drains_of (join x y) ≡ join_drains (d
 unfolding join
 drains-join x y = λ i. record { known = sym (known-drains (drains_of x) (drains_of y)) i; standing = (join_drains (drains_of x) (drains_of y)).standing }
 
--- two states of equal parts are equal
+-- two states with equal parts are equal
 pub same_state : (x y : StateValue) → x.heard ≡ y.heard → permissions_of x ≡ permissions_of y → wishes_of x ≡ wishes_of y → x.lives ≡ y.lives → x.claims ≡ y.claims → drains_of x ≡ drains_of y → x ≡ y
 same_state x y heard permits starts lives claims drains = λ i. record { heard = heard i; known = (starts i).known; permits = (permits i).standing; starts = (starts i).standing; lives = lives i; claims = claims i; drains = (drains i).standing }
 
@@ -93,7 +93,7 @@ one_state x y u v p q = same_state x y (same_context x.heard y.heard p.heard q.h
     (claim_laws.antisymm x.claims y.claims tt tt p.claims q.claims)
     (drains_laws.antisymm _ _ u.drains v.drains p.drains q.drains)
 
--- a join keeps what each state keeps
+-- a join of two states is a state
 joined_state : (x y : StateValue) → IsState x → IsState y → IsState (join x y)
 joined_state x y u v = record {
   heard = subst (λ h. IsSubset h (join x y).known) (sym (heard-join x y)) (subst (IsSubset (set.union x.heard y.heard)) (sym (known-join x y))
@@ -161,7 +161,7 @@ bottom_least x u = record {
   drains = no_drains_least (drains_of x);
 }
 
--- nothing joined to a state leaves it
+-- the least state joined to a state is that state
 pub bottom-join : (s : StateValue) → IsState s → join bottom s ≡ s
 bottom-join s is =
     state_laws.antisymm (join bottom s) s (state_laws.closed bottom s bottom_value is) is

@@ -38,6 +38,6 @@ module _ {K V : Type 0} {R : K → K → Ordering} (o : IsTotalOrder R) (exact :
   find-entries_at [] = refl
   find-entries_at (k ∷ ks) = one_more_entry k (f k) (entries_at f ks) (list_any (eq_by_cmp R q) ks) refl (find-entries_at ks)
 
-  -- what the map that a function gives at some keys has at one
+  -- the value at a key of the map given by a function
   pub get-table : (ks : List K) → map.get (table R ks f) q ≡ cond (list_any (eq_by_cmp R q) ks) (f q) None
   get-table ks = map.get-from_entries o (entries_at f ks) q ∙ find-entries_at ks

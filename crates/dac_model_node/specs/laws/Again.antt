@@ -25,8 +25,8 @@ use Rattle.dac_events.specs.declared.refusal.Refusal.TheVariants.{DeclaredDown, 
 use Rattle.dac_commands.specs.Commands.{next_operation}
 use Rattle.dac_commands.specs.Causes.{first as first_cause, declared_down}
 use Rattle.dac_commands.specs.laws.Written.{none_is}
-use Rattle.dac_ticks.specs.Ticks.{Turn, turn_of, claim_of}
-use Rattle.dac_ticks.specs.laws.Turning.{numbered, turned_by, turn_reaches}
+use Rattle.dac_ticks.specs.Ticks.{Sweep, sweep_of, claim_of}
+use Rattle.dac_ticks.specs.laws.Sweeping.{numbered, swept_by, sweep_reaches}
 use Rattle.dac_ticks.specs.laws.Claims.{state_joined}
 use Rattle.dac_ticks.specs.laws.Claimed.{claim_alike, claim_state, claimed_as}
 use Rattle.dac_ticks.specs.laws.Again.{second_tick}
@@ -38,7 +38,7 @@ use Rattle.dac_model_node.specs.Step.{goes_on, model_step, step_by}
 use Rattle.dac_model_node.specs.Again.{ClaimsNothing, HoldsState, SecondTickClaimsNothing}
 use Rattle.dac_model_node.specs.laws.Steps.{joined-append}
 
--- ---- an incarnation stays live over its own claims
+-- ---- an incarnation stays live through its own claims
 
 module _ (t : Table) (own : Origin) where
   pub record StillUp (s : StateValue) : Type 0 where
@@ -53,18 +53,18 @@ module _ (t : Table) (own : Origin) where
         live = subst (λ (lives : Lives). IsLive lives own.node own.inc) (claim_alike own u app by.0 by.1 h.state).lives h.live;
       })
 
-  still_up : (waits : List (Option Noted)) (now : ℕ) (s : StateValue) → StillUp s → StillUp (turn_of t own waits now s).state
-  still_up waits now s up = turn_reaches t own waits now (λ n turn. StillUp turn.state) s up (λ n turn lt h.
-      turned_by t own waits now (λ (after : Turn). StillUp after.state) turn (numbered n) (λ none. h) (λ mine used. h) (λ mine left. after_claim turn.state (numbered n) h))
+  still_up : (waits : List (Option Noted)) (now : ℕ) (s : StateValue) → StillUp s → StillUp (sweep_of t own waits now s).state
+  still_up waits now s up = sweep_reaches t own waits now (λ n sweep. StillUp sweep.state) s up (λ n sweep lt h.
+      swept_by t own waits now (λ (after : Sweep). StillUp after.state) sweep (numbered n) (λ none. h) (λ mine used. h) (λ mine left. after_claim sweep.state (numbered n) h))
 
--- ---- declared down
+-- ---- incarnations that are declared down
 
 live_if : (own : Origin) (s : StateValue) → declared_down own s ≡ false → IsLive s.lives own.node own.inc
-live_if own s h = (up_is s own).0 (turned (is_up s own) h)
+live_if own s h = (up_is s own).0 (swept (is_up s own) h)
   where
-    turned : (b : Bool) → not b ≡ false → b ≡ true
-    turned true e = refl
-    turned false e = absurd (true≢false e)
+    swept : (b : Bool) → not b ≡ false → b ≡ true
+    swept true e = refl
+    swept false e = absurd (true≢false e)
 
 up_if : (own : Origin) (s : StateValue) → IsLive s.lives own.node own.inc → declared_down own s ≡ false
 up_if own s live = ap not ((up_is s own).1 live)
@@ -81,25 +81,25 @@ module _ (t : Table) (me : NodeId) (last now : ℕ) (r : ModelRunning) (is : IsS
   abbrev noted : List Note
   noted = record { state = s; moment = now } ∷ r.notes
 
-  abbrev turn : Turn
-  turn = turn_of t r.origin (waits_of t noted) now s
+  abbrev sweep : Sweep
+  sweep = sweep_of t r.origin (waits_of t noted) now s
 
-  -- what runs after the first
+  -- the running node after the first tick
   abbrev later : ModelRunning
-  later = record { origin = r.origin; moments = record { booted = r.moments.booted; last = now }; is_open = true; notes = noted; log = r.log ++ meanings turn.ops; base = base_after r.base (length (r.log ++ meanings turn.ops)) 0; peers = r.peers }
+  later = record { origin = r.origin; moments = record { booted = r.moments.booted; last = now }; is_open = true; notes = noted; log = r.log ++ meanings sweep.ops; base = base_after r.base (length (r.log ++ meanings sweep.ops)) 0; peers = r.peers }
 
   abbrev there : ModelNode
   there = record { last = last; running = Some later }
 
-  later_state : joined later.log ≡ turn.state
-  later_state = joined-append r.log (meanings turn.ops) ∙ sym (state_joined t r.origin (waits_of t noted) now s)
+  later_state : joined later.log ≡ sweep.state
+  later_state = joined-append r.log (meanings sweep.ops) ∙ sym (state_joined t r.origin (waits_of t noted) now s)
 
-  -- the second turn, from this state
-  abbrev again : StateValue → Turn
-  again u = turn_of t r.origin (waits_of t (record { state = u; moment = now } ∷ noted)) now u
+  -- the second sweep, in this state
+  abbrev again : StateValue → Sweep
+  again u = sweep_of t r.origin (waits_of t (record { state = u; moment = now } ∷ noted)) now u
 
   abbrev IsIdle : StateValue → Type 0
-  IsIdle u = ((again u).ops ≡ []) × ((app : AppId) → IsAmong app (again u).passed → IsAmong app turn.passed)
+  IsIdle u = ((again u).ops ≡ []) × ((app : AppId) → IsAmong app (again u).passed → IsAmong app sweep.passed)
 
   module _ (up : IsLive s.lives r.origin.node r.origin.inc) where
     idle : IsIdle (joined later.log)
@@ -114,8 +114,8 @@ module _ (t : Table) (me : NodeId) (last now : ℕ) (r : ModelRunning) (is : IsS
     refused : refusal_to_tick t (running_shown t later) now ≡ cond few (Some DotsUsedUp) None
     refused = λ i. first_cause ((still i, DeclaredDown) ∷ (not_before now i, MomentBack) ∷ (few, DotsUsedUp) ∷ [])
 
-    claims_nothing : ClaimsNothing turn.passed (model_step t me there (Tick now)).answer
-    claims_nothing = elim few as (λ b. few ≡ b → ClaimsNothing turn.passed (model_step t me there (Tick now)).answer) [
+    claims_nothing : ClaimsNothing sweep.passed (model_step t me there (Tick now)).answer
+    claims_nothing = elim few as (λ b. few ≡ b → ClaimsNothing sweep.passed (model_step t me there (Tick now)).answer) [
       | true ↦ λ e. inl (ap (λ x. (step_by x t me there (Tick now)).answer) (refused ∙ ap (λ b. cond b (Some DotsUsedUp) None) e))
       | false ↦ λ e. inr (
         (again (joined later.log)).passed,
@@ -126,14 +126,14 @@ module _ (t : Table) (me : NodeId) (last now : ℕ) (r : ModelRunning) (is : IsS
       )
     ] refl
 
-  -- by what the start gate answered at the first
+  -- by the state of the start gate at the first tick
   by_opening : (o : Opening) (ops : List Operation) (passed : List AppId) → IsLive s.lives r.origin.node r.origin.inc → ◌≡◌ {A = Result Reply Refusal} (Ok (ticks_by o t (running_shown t r) (waits_of t noted) now).reply) (Ok (Ticked ops passed)) →
       ClaimsNothing passed (model_step t me (record { last = last; running = goes_on r (record { state = s; moment = now }) (ticks_by o t (running_shown t r) (waits_of t noted) now) }) (Tick now)).answer
   by_opening Shut ops passed up e = cc
   by_opening GiveUp ops passed up e = cc
-  by_opening Opened ops passed up e = let same : turn.passed ≡ passed = cc in subst (λ p. ClaimsNothing p (model_step t me there (Tick now)).answer) same (claims_nothing up)
+  by_opening Opened ops passed up e = let same : sweep.passed ≡ passed = cc in subst (λ p. ClaimsNothing p (model_step t me there (Tick now)).answer) same (claims_nothing up)
 
-  -- by why the first was refused, if it was
+  -- by the refusal of the first tick, if any
   by_refusal : (x : Option Refusal) (ops : List Operation) (passed : List AppId) → refusal_to_tick t (running_shown t r) now ≡ x → (step_by x t me (record { last = last; running = Some r }) (Tick now)).answer ≡ Ok (Ticked ops passed) →
       ClaimsNothing passed (model_step t me (step_by x t me (record { last = last; running = Some r }) (Tick now)).node (Tick now)).answer
   by_refusal (Some why) ops passed e answer = cc

@@ -1,4 +1,4 @@
--- What an accepted tick may rely on.
+-- Numbers that are left for an accepted tick.
 use Rattle.std.proofs.Common.{◌≡◌, ◌≤◌, ℕ, ◌+◌, Bool, true, false, ◌||◌, None, refl, arith, true≢false}
 use Rattle.std.specs.Prelude.{nat_lt, max}
 use Rattle.std.proofs.lemmas.Bool.{ltb-false}
@@ -25,7 +25,7 @@ module _ (t : Table) (r : RunningValue) (now : ℕ) (none : refusal_to_tick t r 
   pub leaves_numbers : r.kept.count + needed t ≤ MAX_COUNTER
   leaves_numbers = ltb-false MAX_COUNTER (r.kept.count + needed t) left.1
 
--- where enough are left, there is one for each application
+-- if enough counters are left, there is one for each application
 pub room_left : (t : Table) (greatest : ℕ) → nat_lt MAX_COUNTER (greatest + needed t) ≡ false → greatest + app_count t ≤ MAX_COUNTER
 room_left t greatest left = for_each MAX_COUNTER greatest (app_count t) (ltb-false MAX_COUNTER (greatest + needed t) left)
   where

@@ -1,4 +1,4 @@
--- What an accepted event brings about at its node.
+-- The effect of an accepted event at its node.
 use Rattle.std.proofs.Common.{◌≡◌, ℕ, Bool, true, false, not, List, [], ◌∷◌, Option, Some, None, refl, sym, subst, ◌∙◌, inl, inr, true≢false}
 use Rattle.std.specs.Prelude.{IfSome}
 use Rattle.dac_base.specs.declared.NodeId.{NodeId}
@@ -12,7 +12,7 @@ use Rattle.dac_decide.specs.laws.Tests.{up_is}
 use Rattle.dac_decide.specs.declared.start_gate.Opening.{Opening}
 use Rattle.dac_decide.specs.declared.start_gate.Opening.TheVariants.{Shut, Opened, GiveUp}
 use Rattle.dac_decide.specs.declared.waits.Noted.{Noted}
-use Rattle.dac_ticks.specs.Ticks.{turn_of}
+use Rattle.dac_ticks.specs.Ticks.{sweep_of}
 use Rattle.dac_ticks.specs.Staying.{AreKeptAt, AreLaterClaims}
 use Rattle.dac_ticks.specs.laws.Claims.{state_joined}
 use Rattle.dac_ticks.specs.laws.Staying.{next_is_later, claims_stay, claims_are_later}
@@ -31,11 +31,11 @@ use Rattle.dac_model_node.specs.Effect.{HasEffect}
 use Rattle.dac_model_node.specs.laws.Numbers.{obeyed}
 use Rattle.dac_model_node.specs.laws.Writing.{no_off}
 
--- nothing is claimed
+-- no claims
 nothing_later : (s : StateValue) → AreLaterClaims s []
 nothing_later s o app i = absurd i
 
--- an act that claims goes by the next term
+-- a claim act has the next term
 abbrev IsNext : StateValue → Act → Type 0
 IsNext s (Claim app term how from) = term ≡ next_term s app
 IsNext s act = Unit {0}
@@ -48,7 +48,7 @@ is_next t s (Stop app node) = tt
 is_next t s (Drain node value) = tt
 is_next t s (Takeover app) = refl
 
--- so does what a command issues
+-- the operation of a command
 later_command : (t : Table) (own : Origin) (s : StateValue) (c : Command) → AreLaterClaims s (next_operation s own (act_of t s c) ∷ [])
 later_command t own s c o app i term how from act claim there = elim i [
   | inl is ↦ next_is_later s app term claim (subst (IsNext s) ((λ k. (sym is k).act) ∙ act) (is_next t s c)) there
@@ -73,11 +73,11 @@ module _ (t : Table) (last : ℕ) (r : RunningValue) (noted : List (Option Noted
   tick_effect now Opened none =
       let live = (up_is r.state r.origin).0 (was_true (is_up r.state r.origin) (none_is (causes_to_tick t r now) none).0) in
       record {
-        left = subst (λ s. AreKeptAt t s r.origin.node (turn_of t r.origin noted now r.state).ops) (state_joined t r.origin noted now r.state) (claims_stay t r.origin noted now r.state (apps_of t) is live);
+        left = subst (λ s. AreKeptAt t s r.origin.node (sweep_of t r.origin noted now r.state).ops) (state_joined t r.origin noted now r.state) (claims_stay t r.origin noted now r.state (apps_of t) is live);
         later = claims_are_later t r.origin noted now r.state (apps_of t) is;
       }
 
--- what is accepted takes effect
+-- an accepted event takes effect
 pub takes_effect : (t : Table) (me : NodeId) (last : ℕ) (running : Option RunningValue) (noted : List (Option Noted)) (e : Event) → refusal_by t last running e ≡ None → IfSome running (λ (r : RunningValue). IsState r.state) →
     HasEffect t (record { last = last; running = running }) e (reply_by t me last running noted e) (left_by t me last running noted e)
 takes_effect t me last None noted (Boot now) none is = record { left = tt; later = tt }

@@ -1,4 +1,4 @@
--- A start gate that opened stays open, until its node goes off.
+-- An open start gate stays open until its node goes off.
 use Rattle.std.proofs.Common.{◌≡◌, ℕ, ◌-◌, Bool, true, cond, List, [], ◌∷◌, Option, Some, None, refl, sym, ap, subst}
 use Rattle.dac_base.specs.declared.NodeId.{NodeId}
 use Rattle.dac_config.specs.Table.{Table}
@@ -73,11 +73,11 @@ module _ (t : Table) (me : NodeId) (last : ℕ) where
 
 -- ---- any node
 
--- a node that looks after its applications has an open start gate then
+-- a node that makes a pass over its applications has an open start gate then
 pub ticks_open : TicksOpen
 ticks_open t me d e says = opened_by t me d.last (refusal_of t (shown t d) e) d.running e says
 
--- with an open start gate it goes on with one, unless it goes off
+-- a node with an open start gate still has one, unless it goes off
 pub open_stays : OpenStays
 open_stays t me d e is stays =
     let at : ModelNode = record { last = d.last; running = Some is.run } in
@@ -85,7 +85,7 @@ open_stays t me d e is stays =
     subst (λ (n : ModelNode). RunsOpen (model_step t me n e).node.running) (sym same)
     (goes_by t me d.last (refusal_of t (shown t at) e) is.run e is.opened (subst (λ (n : ModelNode). ¬ (Answers SaysOff (model_step t me n e).answer)) same stays))
 
--- and none of its answers says that the start gate is shut
+-- a node with an open start gate never replies that it is shut
 pub open_is_open : OpenIsOpen
 open_is_open t me d e is =
     let at : ModelNode = record { last = d.last; running = Some is.run } in

@@ -1,4 +1,4 @@
--- What an accepted event adds to what a node has heard.
+-- The dots that a node hears by an accepted event.
 use Rattle.std.proofs.Common.{◌≡◌, ℕ, Bool, true, false, cond, ◌||◌, List, [], ◌∷◌, Option, Some, None, map, refl, sym, ap, ◌∙◌, true≢false}
 use Rattle.std.specs.Prelude.{fold}
 use Rattle.std.specs.List.{list_any}
@@ -23,7 +23,7 @@ use Rattle.dac_messages.specs.Bodies.{content_of}
 use Rattle.dac_messages.specs.declared.event.Event.{Event}
 use Rattle.dac_messages.specs.declared.event.Event.TheVariants.{Boot, Crash, Command as Commanded, Tick, Ship, Hear, HearOp}
 use Rattle.dac_events.specs.declared.refusal.Refusal.TheVariants.{AlreadyOn}
-use Rattle.dac_ticks.specs.Ticks.{turn_of}
+use Rattle.dac_ticks.specs.Ticks.{sweep_of}
 use Rattle.dac_model_node.specs.NodeValue.{RunningValue, state_of}
 use Rattle.dac_model_node.specs.EventRefusals.{refusal_by}
 use Rattle.dac_model_node.specs.Transitions.{transition_of, brings, meanings, opening_at, ticks_by}
@@ -31,14 +31,14 @@ use Rattle.dac_model_node.specs.Accepted.{left_by, reply_by, running_by}
 use Rattle.dac_model_node.specs.Hearing.{dots_brought, dots_issued, HearsExactly}
 use Rattle.dac_model_node.specs.laws.Options.{some_same}
 
--- a set and what it has already
+-- the union of a set and a subset is the set
 nothing_more : (c d : Dots) → IsSubset d c → c ≡ set.union c d
 nothing_more c d h = same_context c (set.union c d) (subset_left c d) (subset_union c d c (λ x e. e) h)
 
 nothing_at_all : (c : Dots) → c ≡ set.union c set.empty
 nothing_at_all c = nothing_more c set.empty (λ x e. absurd (true≢false (sym e ∙ set.contains-empty dot_cmp x)))
 
--- the dots of one operation
+-- the heard dots of one operation
 one_heard : (o : Operation) → (meaning_of (o ∷ [])).heard ≡ set.from_list (o.dot ∷ [])
 unfolding meaning_of
 one_heard o = refl
@@ -52,7 +52,7 @@ or_assoc true b c = refl
 or_assoc false true c = refl
 or_assoc false false c = refl
 
--- what is heard of some operations after a state, one dot after another
+-- the heard dots after some operations, by membership
 heard_any : (s : StateValue) (os : List Operation) (x : Dot) → set.contains (fold join s (meanings os)).heard x ≡ (set.contains s.heard x || list_any (same_dot x) (map (λ (o : Operation). o.dot) os))
 heard_any s [] x = or_none (set.contains s.heard x)
 heard_any s (o ∷ os) x =
@@ -63,14 +63,14 @@ heard_any s (o ∷ os) x =
     ∙ ap (λ b. set.contains s.heard x || b) (ap (λ h. set.contains h x) (one_heard o) ∙ set.contains-from_list dots_total (o.dot ∷ []) x)))
     ∙ or_assoc (set.contains s.heard x) (same_dot x o.dot) rest
 
--- they are the operations' dots
+-- the heard dots after some operations are the state's and theirs
 pub heard_all : (s : StateValue) (os : List Operation) → (fold join s (meanings os)).heard ≡ set.union s.heard (set.from_list (map (λ (o : Operation). o.dot) os))
 heard_all s os =
     let dots = map (λ (o : Operation). o.dot) os in
     set.same_set dots_total exact_dots (fold join s (meanings os)).heard (set.union s.heard (set.from_list dots)) (λ x.
     heard_any s os x ∙ sym (set.contains-union dots_total s.heard (set.from_list dots) x ∙ ap (λ b. set.contains s.heard x || b) (set.contains-from_list dots_total dots x)))
 
--- a body that is heard, whether or not it is below the state
+-- the heard dots after a body, whether or not it is below the state
 body_heard : (s body : StateValue) (b : Bool) → is_below body s ≡ b → (fold join s (cond b [] (body ∷ []))).heard ≡ set.union s.heard body.heard
 body_heard s body true e = nothing_more s.heard body.heard ((is_below-is body s).1 e).heard
 body_heard s body false e = heard-join s body
@@ -78,7 +78,7 @@ body_heard s body false e = heard-join s body
 off_run : {P : Type 0} {r : RunningValue} → None ≡ Some r → P
 off_run e = cc
 
--- what runs after a transition has heard so much
+-- the heard dots of the running node are those of its state
 run_state : (r r' : RunningValue) (s : StateValue) (x : RunningValue) → x.state ≡ s → Some x ≡ Some r' → r'.state.heard ≡ s.heard
 run_state r r' s x is e = ap (λ (y : RunningValue). y.state.heard) (sym (some_same x r' e)) ∙ ap (λ (u : StateValue). u.heard) is
 
@@ -87,10 +87,10 @@ tick_heard : (opening : Opening) (t : Table) (r : RunningValue) (noted : List (O
 tick_heard Shut t r noted now r' is = run_state r r' r.state _ refl is ∙ nothing_at_all r.state.heard
 tick_heard GiveUp t r noted now r' is = off_run is
 tick_heard Opened t r noted now r' is =
-    let ops = (turn_of t r.origin noted now r.state).ops in
+    let ops = (sweep_of t r.origin noted now r.state).ops in
     run_state r r' (fold join r.state (meanings ops)) _ refl is ∙ heard_all r.state ops
 
--- what a running node has heard after an event that it accepts and doesn't go off by
+-- the heard dots of a running node after an accepted event by which it doesn't go off
 run_heard : (t : Table) (last : ℕ) (r : RunningValue) (noted : List (Option Noted)) (e : Event) (r' : RunningValue) → refusal_by t last (Some r) e ≡ None → running_by r noted (transition_of t r noted e) ≡ Some r'
     → r'.state.heard ≡ set.union r.state.heard (dots_brought e (transition_of t r noted e).reply)
 run_heard t last r noted (Boot now) r' none is = absurd (no none)

@@ -30,11 +30,11 @@ module _ (t : Table) (me : NodeId) (last now : ℕ) where
     abbrev noted : List (Option Noted)
     noted = waits_of t (note_of (joined r.log) (Tick now) ∷ r.notes)
 
-    -- what runs after it
+    -- the running node after the tick
     abbrev later : ModelRunning
     later = record { origin = r.origin; moments = record { booted = r.moments.booted; last = now }; is_open = false; notes = r.notes; log = r.log ++ []; base = base_after r.base (length (r.log ++ [])) 0; peers = r.peers }
 
-    -- by what the start gate answers
+    -- by the state of the start gate
     notes_by : (o : Opening) → ◌≡◌ {A = Result Reply Refusal} (Ok (ticks_by o t (running_shown t r) noted now).reply) (Ok Held)
         → WaitsAsBefore now (Some (running_shown t r)) (option_map (running_shown t) (goes_on r (note_of (joined r.log) (Tick now)) (ticks_by o t (running_shown t r) noted now)))
     notes_by Shut answer = record { before = running_shown t r; after = running_shown t later; ran = refl; runs = refl; waits = refl; last = refl }
@@ -57,7 +57,7 @@ module _ (t : Table) (me : NodeId) (last now : ℕ) where
       counts_by GiveUp answer = cc
       counts_by Opened answer = cc
 
-  -- by why it was refused, if it was
+  -- by the refusal of the tick, if any
   notes_if : (x : Option Refusal) (r : ModelRunning) → (step_by x t me (off_or (Some r)) (Tick now)).answer ≡ Ok Held
       → WaitsAsBefore now (Some (running_shown t r)) (option_map (running_shown t) (step_by x t me (off_or (Some r)) (Tick now)).node.running)
   notes_if (Some why) r answer = cc

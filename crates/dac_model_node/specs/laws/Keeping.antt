@@ -1,4 +1,4 @@
--- What an accepted event leaves of a node.
+-- A node after an accepted event.
 use Rattle.std.proofs.Common.{◌≡◌, ℕ, ◌+◌, ◌-◌, Bool, true, false, not, cond, List, [], ◌∷◌, ◌++◌, length, drop, Option, Some, None, refl, sym, ap, ◌∙◌, arith, drop-drop}
 use Rattle.std.specs.Prelude.{fold, min, max, unwrap_or, IfSome}
 use Rattle.dac_base.specs.declared.NodeId.{NodeId}
@@ -23,9 +23,9 @@ use Rattle.dac_model_node.specs.Keeping.{AreWaitsAfter, Keeps, LeavesRunning, Ru
 use Rattle.dac_model_node.specs.laws.Writing.{NotesSo, start_gate, no_off, no_on}
 use Rattle.dac_deltas.specs.declared.buffer.TheConstants.{MAX_DELTAS}
 
--- ---- the deltas kept
+-- ---- the delta log
 
--- some more, and a trim
+-- the log after more deltas and a trim
 kept_so : (k : KeptDeltas StateValue) → AreNewest k → (deltas : List StateValue) (trim : ℕ) → trimmed (fold pushed k deltas) trim ≡ kept_after k deltas trim
 kept_so k newest deltas trim =
     let numbered = newest.numbered in
@@ -39,12 +39,12 @@ kept_so k newest deltas trim =
     ap (λ (x : KeptDeltas StateValue). trimmed x trim) (pushes_drop_together k deltas few)
     ∙ same_kept _ _ _ _ _ _ refl to (drop-drop more gone (k.deltas ++ deltas) ∙ ap (λ n. drop n (k.deltas ++ deltas)) all)
 
--- what comes is a delta exactly where it is answered as new
+-- an incoming state is a delta exactly when the reply says that it is new
 new_comes : (body : StateValue) (b : Bool) → cond b [] (body ∷ []) ≡ cond (not b) (body ∷ []) []
 new_comes body true = refl
 new_comes body false = refl
 
--- ---- what runs on
+-- ---- a node that runs on
 
 module _ (t : Table) (r : RunningValue) (newest : AreNewest r.kept) (noted : List (Option Noted)) (e : Event) (transition : Transition) where
   abbrev next : RunningValue
@@ -73,7 +73,7 @@ module _ (t : Table) (r : RunningValue) (newest : AreNewest r.kept) (noted : Lis
 -- ---- all events
 
 module _ (t : Table) (last : ℕ) (r : RunningValue) (newest : AreNewest r.kept) (noted : List (Option Noted)) where
-  -- a tick, where the start gate answers so
+  -- a tick, given the state of the start gate
   tick_leaves : (now : ℕ) (opening : Opening) → opening_at t r now ≡ opening → ((ticks_by opening t r noted now).notes ≡ true → NotesSo t r now noted) →
       LeavesRunning t r (Tick now) (ticks_by opening t r noted now).reply (running_by r noted (ticks_by opening t r noted now))
   tick_leaves now Shut is so = runs_on t r newest noted (Tick now) (ticks_by Shut t r noted now) refl (sym (start_gate t r now r.is_open Shut refl is).0) refl refl refl refl

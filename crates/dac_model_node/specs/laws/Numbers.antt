@@ -1,4 +1,4 @@
--- What an accepted event adds has numbers left for it.
+-- There are numbers for the deltas that an accepted event adds.
 use Rattle.std.proofs.Common.{◌≡◌, ◌≤◌, ℕ, ◌+◌, Bool, true, false, not, ◌&&◌, List, [], ◌∷◌, length, Option, Some, None, refl, arith}
 use Rattle.std.specs.Prelude.{max, cond}
 use Rattle.std.proofs.lemmas.Bool.{ltb-false}
@@ -13,8 +13,8 @@ use Rattle.dac_config.specs.Table.{Table, app_count}
 use Rattle.dac_decide.specs.declared.start_gate.Opening.{Opening}
 use Rattle.dac_decide.specs.declared.start_gate.Opening.TheVariants.{Shut, Opened, GiveUp}
 use Rattle.dac_decide.specs.declared.waits.Noted.{Noted}
-use Rattle.dac_ticks.specs.Ticks.{Turn, turn_of, claim_of}
-use Rattle.dac_ticks.specs.laws.Turning.{numbered, turned_by, turn_reaches}
+use Rattle.dac_ticks.specs.Ticks.{Sweep, sweep_of, claim_of}
+use Rattle.dac_ticks.specs.laws.Sweeping.{numbered, swept_by, sweep_reaches}
 use Rattle.dac_events.specs.declared.Command.{Command}
 use Rattle.dac_messages.specs.declared.message.Message.{Message}
 use Rattle.dac_messages.specs.Bodies.{content_of}
@@ -39,17 +39,17 @@ obeyed t r c none =
     let both = either_none (refusal_of_command t r.origin r.state c) (first ((too_many_deltas r 1, DotsUsedUp) ∷ [])) none in
     (both.0, (none_is ((too_many_deltas r 1, DotsUsedUp) ∷ []) both.1).0)
 
--- a turn claims no more than each application once
-pub few_claims : (t : Table) (own : Origin) (waits : List (Option Noted)) (now : ℕ) (s : StateValue) → length (turn_of t own waits now s).ops ≤ app_count t
-few_claims t own waits now s = turn_reaches t own waits now (λ n turn. length turn.ops ≤ n) s (omega arith) (λ n turn lt h.
-    turned_by t own waits now (λ (after : Turn). length after.ops ≤ n + 1) turn (numbered n) (λ none. omega arith) (λ mine used. omega arith)
-    (λ mine left. let one = length-append turn.ops (claim_of t own turn.state (numbered n) ∷ []) in omega arith))
+-- a sweep claims each application at most once
+pub few_claims : (t : Table) (own : Origin) (waits : List (Option Noted)) (now : ℕ) (s : StateValue) → length (sweep_of t own waits now s).ops ≤ app_count t
+few_claims t own waits now s = sweep_reaches t own waits now (λ n sweep. length sweep.ops ≤ n) s (omega arith) (λ n sweep lt h.
+    swept_by t own waits now (λ (after : Sweep). length after.ops ≤ n + 1) sweep (numbered n) (λ none. omega arith) (λ mine used. omega arith)
+    (λ mine left. let one = length-append sweep.ops (claim_of t own sweep.state (numbered n) ∷ []) in omega arith))
 
 module _ (r : RunningValue) where
   room_if : (more : ℕ) → too_many_deltas r more ≡ false → r.kept.count + more ≤ MAX_COUNTER
   room_if more h = ltb-false MAX_COUNTER (r.kept.count + more) h
 
-  -- what comes and doesn't overflow
+  -- an incoming state that doesn't overflow
   pub room_to_hear : (body : StateValue) → r.kept.count ≤ MAX_COUNTER → overflows r body ≡ false → r.kept.count + length (brings r.state body) ≤ MAX_COUNTER
   room_to_hear body countable h = by (is_below body r.state) h
     where
@@ -65,7 +65,7 @@ module _ (t : Table) (r : RunningValue) (noted : List (Option Noted)) (countable
   room_to_tick Shut now h = nothing_more
   room_to_tick GiveUp now h = nothing_more
   room_to_tick Opened now h =
-      let ops = (turn_of t r.origin noted now r.state).ops in
+      let ops = (sweep_of t r.origin noted now r.state).ops in
       fewer (length (meanings ops)) (length ops) (app_count t) (length-map ops (λ (o : Operation). meaning_of (o ∷ []))) (few_claims t r.origin noted now r.state) h
     where
       fewer : (n k apps : ℕ) → n ≡ k → k ≤ apps → r.kept.count + max 1 apps ≤ MAX_COUNTER → r.kept.count + n ≤ MAX_COUNTER
@@ -74,7 +74,7 @@ module _ (t : Table) (r : RunningValue) (noted : List (Option Noted)) (countable
   not_heard : (m : Message) → refusal_to_hear r m ≡ None → overflows r (content_of m.body) ≡ false
   not_heard m none = (none_is (causes_to_hear r m) none).1.1.0
 
-  -- what an accepted event adds has numbers left for it
+  -- there are numbers for the deltas that an accepted event adds
   pub fits : (e : Event) → refusal_on t r e ≡ None → r.kept.count + length (transition_of t r noted e).adds ≤ MAX_COUNTER
   fits (Boot now) none = nothing_more
   fits Crash none = nothing_more

@@ -1,4 +1,4 @@
--- From where an interval may begin, in words.
+-- The positions from which an interval can begin, in words.
 use Rattle.std.specs.Prelude.{◌≡◌, ◌↔◌, ◌≤◌, ℕ, Bool, true, false, not, ◌&&◌, cond, nat_le, Option, Some, None, refl}
 use Rattle.std.specs.Option.{option_map, option_and_then}
 use Rattle.std.specs.FinSet as set
@@ -19,7 +19,7 @@ module _ (r : RunningValue) (to : NodeId) where
   abbrev acked : ℕ → Option ℕ
   acked inc = map.get r.peers.acked (record { node = to; inc = inc })
 
-  -- the position of an incarnation that acknowledged so many
+  -- the position of an incarnation that acknowledged this number
   abbrev placed : ℕ → Option ℕ → Option Position
   placed inc number = kept_from r.kept.base (option_map (λ (n : ℕ). record { inc = inc; number = n }) number)
 
@@ -50,11 +50,11 @@ module _ (r : RunningValue) (to : NodeId) where
       ∙ (ap (placed p.inc) is.acked
       ∙ ap (λ b. cond b (Some p) None) (le-leb r.kept.base p.number is.kept)))
 
-  -- an interval begins where there is a position
+  -- an interval begins exactly at such a position
   pub begins_is : (p : Position) → (begins r.peers r.state r.kept.base to ≡ Some p) ↔ IsPosition r to p
   begins_is p = (by_life (map.get r.state.lives to) p refl, begins_at p)
 
-  -- nothing is to be shipped
+  -- no reply is due
   nothing_owed : (b : Bool) → (not b ≡ true) ↔ (b ≡ false)
   nothing_owed true = (λ e. absurd (false≢true e), λ e. absurd (true≢false e))
   nothing_owed false = (λ _. refl, λ _. refl)

@@ -1,5 +1,5 @@
--- The table of causes answers the least cause that holds. Each test is its cause in words, and the causes stand in
--- the order of their numbers.
+-- The table of causes refuses for the least cause that holds, because each test is its cause in words, and the causes
+-- are in the order of their numbers.
 use Rattle.std.specs.Prelude.{◌≡◌, ◌↔◌, ◌⊎◌, ℕ, ◌+◌, ◌<◌, ◌≤◌, Bool, true, false, not, ◌&&◌, ◌||◌, cond, nat_eq, nat_le, nat_lt, List, [], ◌∷◌, ◌++◌, length, Option, None, Some, is_some, unwrap_or, IfSome, refl}
 use Rattle.std.specs.Option.{option_map_or}
 use Rattle.std.proofs.Common.{sym, ap, subst, ◌∙◌, inl, inr, arith}
@@ -37,11 +37,11 @@ use Rattle.dac_model_node.specs.NodeValue.{NodeValue, RunningValue}
 use Rattle.dac_model_node.specs.EventRefusals.{needed, too_few_left, too_many_deltas, overflows, otherwise, is_for, refusal_by, refusal_of}
 use Rattle.dac_model_node.specs.laws.Positions.{up_to_date_is}
 use Rattle.dac_model_node.specs.laws.Tests.{not_running_is, runs_earlier_is, too_few_is, lacks_for_tick}
-use Rattle.dac_model_node.specs.Refused.{causes_of_event, Holds, LacksNumbers, IsFor, IsOneOf, NoneHolds, IsLeastOf, IsFree, IsRefused, IsAnsweredBy, NeverWantsMemory}
+use Rattle.dac_model_node.specs.Refused.{causes_of_event, Holds, LacksNumbers, IsFor, IsOneOf, NoneHolds, IsLeastOf, IsFree, IsRefused, IsAnsweredBy, NeverRefusesForMemory}
 
 -- ---- the first test that holds is that of the least cause
 
--- the numbers rise from above n
+-- the numbers rise, and the first is above n
 abbrev rises : ℕ → List Refusal → Bool
 rises n [] = true
 rises n (r ∷ rs) = nat_lt n (number_of r) && rises (number_of r) rs
@@ -57,14 +57,14 @@ above n (r ∷ rs) h o (inr i) =
     omega arith
 
 module _ (H : Refusal → Type 0) where
-  -- each test is its cause in words, where those before it fail
+  -- each test is its cause in words, if those before it fail
   abbrev Tests : List (Bool × Refusal) → List Refusal → Type 0
   Tests [] [] = Unit {0}
   Tests [] (r ∷ rs) = ⊥
   Tests (c ∷ cs) [] = ⊥
   Tests (c ∷ cs) (r ∷ rs) = (c.1 ≡ r) × (((c.0 ≡ true) ↔ H r) × (c.0 ≡ false → Tests cs rs))
 
-  -- what is answered is right of these causes
+  -- this refusal is right for these causes
   abbrev IsRight : List Refusal → Option Refusal → Type 0
   IsRight rs None = NoneHolds H rs
   IsRight rs (Some why) = IsLeastOf H rs why
@@ -157,7 +157,7 @@ one_more_cause : (x : Bool) (r : Refusal) (p q other : Option Refusal) → other
 one_more_cause true r p q other is = refl
 one_more_cause false r p q other is = is
 
--- two lists of causes of which the second has one, the last of the first, are one list
+-- two lists of causes, of which the second is only the last cause of the first, are one list
 one_list : (cs : List (Bool × Refusal)) (a b : Bool) (why : Refusal) → otherwise (first (cs ++ (a, why) ∷ [])) (first ((b, why) ∷ [])) ≡ first (cs ++ (a || b, why) ∷ [])
 one_list [] true b why = refl
 one_list [] false b why = refl
@@ -199,11 +199,11 @@ module _ (t : Table) (last : ℕ) (r : RunningValue) where
   abbrev used : ((used_up s own || too_many_deltas r 1) ≡ true) ↔ (IsUsedUp s.known own ⊎ LacksNumbers r 1)
   used = either (used_up s own) (too_many_deltas r 1) (used_up_is s.known own) (less MAX_COUNTER (r.kept.count + 1))
 
-  -- what comes would need a number, and none is left
+  -- an incoming state would need a number, and none is left
   overflown : (body : StateValue) → (overflows r body ≡ true) ↔ ((¬ IsBelow body s) × LacksNumbers r 1)
   overflown body = both (not (is_below body s)) (too_many_deltas r 1) (fails (is_below body s) ((is_below-is body s).1, (is_below-is body s).0)) (less MAX_COUNTER (r.kept.count + 1))
 
-  -- a command's last cause is that counters or numbers are used up
+  -- the last cause of a command is that counters or numbers are used up
   obeys : (c : Command) (cs : List (Bool × Refusal)) → refusal_of_command t own s c ≡ first (cs ++ (used_up s own, DotsUsedUp) ∷ [])
       → IsRight (Holds t here (Commanded c)) (causes_of_event (Commanded c)) (first (cs ++ (used_up s own || too_many_deltas r 1, DotsUsedUp) ∷ [])) → IsRight (Holds t here (Commanded c)) (causes_of_event (Commanded c)) (refusal_by t last (Some r) (Commanded c))
   obeys c cs is right = subst (IsRight (Holds t here (Commanded c)) (causes_of_event (Commanded c))) (sym (ap (λ x. otherwise x (first ((too_many_deltas r 1, DotsUsedUp) ∷ []))) is ∙ one_list cs (used_up s own) (too_many_deltas r 1) DotsUsedUp)) right
@@ -265,11 +265,11 @@ refusal_by_is : (t : Table) (last : ℕ) (running : Option RunningValue) (e : Ev
 refusal_by_is t last None e = off_event t last e
 refusal_by_is t last (Some r) e = on_event t last r e
 
--- nothing refuses an event that the table lets through
+-- no cause holds for an event that the table accepts
 pub free_is : (t : Table) (v : NodeValue) (e : Event) → refusal_of t v e ≡ None → IsFree t v e
 free_is t v e is = subst (IsRight (Holds t v e) (causes_of_event e)) is (refusal_by_is t v.last v.running e)
 
--- the table answers the least cause
+-- the table refuses for the least cause
 pub refused_is : (t : Table) (v : NodeValue) (e : Event) (why : Refusal) → refusal_of t v e ≡ Some why → IsRefused t v e why
 refused_is t v e why is = subst (IsRight (Holds t v e) (causes_of_event e)) is (refusal_by_is t v.last v.running e)
 
@@ -277,10 +277,10 @@ answered_by : (t : Table) (v : NodeValue) (e : Event) (why : Refusal) (r : Optio
 answered_by t v e why None none is = inr (is, free_is t v e none)
 answered_by t v e why (Some least) some is = inl (subst (IsRefused t v e) (sym is) (refused_is t v e least some))
 
--- what is answered where the table is asked first, and memory last
+-- the refusal if all causes are checked before memory
 pub answered_is : (t : Table) (v : NodeValue) (e : Event) (why : Refusal) → why ≡ unwrap_or (refusal_of t v e) NoMemory → IsAnsweredBy t v e why
 answered_is t v e why is = answered_by t v e why (refusal_of t v e) refl is
 
--- the table never answers `NoMemory`
-pub never_memory : NeverWantsMemory
+-- the table never refuses because of memory
+pub never_memory : NeverRefusesForMemory
 never_memory t v e is = (refused_is t v e NoMemory is).holds

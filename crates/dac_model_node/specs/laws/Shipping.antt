@@ -1,4 +1,4 @@
--- What an accepted ship answers is what the log of the model node says.
+-- An accepted ship replies with the message that the model node's log determines.
 use Rattle.std.proofs.Common.{◌≡◌, ◌≤◌, ℕ, ◌+◌, ◌-◌, Bool, true, false, cond, drop, length, Option, Some, None, Ok, refl, sym, ap, subst, ◌∙◌, arith, drop-drop}
 use Rattle.std.specs.Prelude.{fold, nat_le}
 use Rattle.std.specs.Option.{option_map}
@@ -32,7 +32,7 @@ module _ (t : Table) (r : ModelRunning) (to : NodeId) where
   abbrev from_position : Option Position
   from_position = begins here.peers here.state here.kept.base to
 
-  -- what is kept from a position on is what the log has from there on
+  -- the delta log after a position has the same join as the model's log after it
   from_there : (p : Position) → r.base ≤ p.number → fold join bottom (drop (p.number - r.base) (drop r.base r.log)) ≡ joined (drop p.number r.log)
   from_there p h =
       let whole : r.base + (p.number - r.base) ≡ p.number = omega arith in
@@ -56,7 +56,7 @@ module _ (t : Table) (r : ModelRunning) (to : NodeId) where
   pub message_is : IsShipped t r to (message_of here to)
   message_is = record { from = refl; to = refl; up_to = refl; body = body_is from_position refl; ack = ack_is (map.get r.peers.got to) refl }
 
--- by whether the ship is refused
+-- by the refusal of the ship, if any
 by_refusal : (t : Table) (me : NodeId) (last : ℕ) (r : ModelRunning) (to : NodeId) (x : Option Refusal) (reply : Reply) → (step_by x t me (record { last = last; running = Some r }) (Ship to)).answer ≡ Ok reply → ShipsBy t (Some r) (Ship to) reply
 by_refusal t me last r to (Some why) reply is = cc
 by_refusal t me last r to None reply is = let same : Shipped (message_of (running_shown t r) to) ≡ reply = cc in subst (ShipsBy t (Some r) (Ship to)) same (message_is t r to)
@@ -80,6 +80,6 @@ by_run t me last None (HearOp o) reply is = tt
 pub ships_in_words : ShipsInWords
 ships_in_words t me d e reply is = by_run t me d.last d.running e reply is
 
--- so does each model node that shows as a value, where the value is accepted so
+-- `ShipsSo` holds of each accepted value
 pub ships_so : (t : Table) (me : NodeId) (old : NodeValue) (e : Event) (new : NodeValue) (reply : Reply) → AcceptedAs t me old e new reply → ShipsSo t old e reply
 ships_so t me old e new reply p d same = ships_in_words t me d e reply ((steps t me old e new reply p).by d same).1

@@ -1,4 +1,4 @@
--- An event that is answered so leaves the state and the incarnation of a node.
+-- Results that leave the state and the incarnation of a node unchanged.
 use Rattle.std.proofs.Common.{◌≡◌, ℕ, Bool, true, false, not, cond, ◌==◌, List, [], ◌∷◌, ◌++◌, length, Option, Some, None, Result, Ok, Err, refl, ap, ◌∙◌, append-nil, arith}
 use Rattle.std.specs.Option.{option_map}
 use Rattle.std.proofs.lemmas.Bool.{false≢true, eqb-true}
@@ -12,7 +12,7 @@ use Rattle.dac_decide.specs.declared.start_gate.Opening.{Opening}
 use Rattle.dac_decide.specs.declared.start_gate.Opening.TheVariants.{Shut, Opened, GiveUp}
 use Rattle.dac_decide.specs.declared.waits.Noted.{Noted}
 use Rattle.dac_decide.specs.FailoverWait.{waits_of}
-use Rattle.dac_ticks.specs.Ticks.{turn_of}
+use Rattle.dac_ticks.specs.Ticks.{sweep_of}
 use Rattle.dac_messages.specs.Bodies.{content_of}
 use Rattle.dac_messages.specs.declared.event.Event.{Event}
 use Rattle.dac_messages.specs.declared.event.Event.TheVariants.{Boot, Crash, Command as Commanded, Tick, Ship, Hear, HearOp}
@@ -25,14 +25,14 @@ use Rattle.dac_model_node.specs.Step.{accepted, transition_on, model_step, step_
 use Rattle.dac_model_node.specs.Keeping.{leaves_state, says_it_stays}
 use Rattle.dac_model_node.specs.laws.Writing.{no_on}
 
--- ---- what a transition adds
+-- ---- the states that a transition adds
 
--- what isn't new isn't added
+-- an incoming state that isn't new isn't added
 adds_no_more : (below : Bool) (body : StateValue) → not (not below) ≡ true → cond below [] (body ∷ []) ≡ []
 adds_no_more true body says = refl
 adds_no_more false body says = absurd (false≢true says)
 
--- no operation means nothing
+-- no operations have no meanings
 no_meanings : (os : List Operation) → (length os == 0) ≡ true → meanings os ≡ []
 no_meanings [] says = refl
 no_meanings (o ∷ os) says = absurd (omega (arith, eqb-true (length (o ∷ os)) 0 says))
@@ -45,7 +45,7 @@ module _ (t : Table) (r : RunningValue) (noted : List (Option Noted)) where
   tick_adds_nothing : (opening : Opening) (now : ℕ) → says_it_stays (ticks_by opening t r noted now).reply ≡ true → AddsNothing (ticks_by opening t r noted now)
   tick_adds_nothing Shut now says = (refl, refl)
   tick_adds_nothing GiveUp now says = absurd (false≢true says)
-  tick_adds_nothing Opened now says = (refl, no_meanings (turn_of t r.origin noted now r.state).ops says)
+  tick_adds_nothing Opened now says = (refl, no_meanings (sweep_of t r.origin noted now r.state).ops says)
 
   adds_nothing : (e : Event) → refusal_on t r e ≡ None → says_it_stays (transition_of t r noted e).reply ≡ true → AddsNothing (transition_of t r noted e)
   adds_nothing (Boot now) none says = no_on none
@@ -56,13 +56,13 @@ module _ (t : Table) (r : RunningValue) (noted : List (Option Noted)) where
   adds_nothing (Hear m) none says = (refl, adds_no_more (is_below (content_of m.body) r.state) (content_of m.body) says)
   adds_nothing (HearOp o) none says = (refl, adds_no_more (is_below (meaning_of (o ∷ [])) r.state) (meaning_of (o ∷ [])) says)
 
--- ---- what is shown after it
+-- ---- the value shown afterwards
 
--- the incarnation and the state are shown as before
+-- both values show the same incarnation and state
 abbrev AreShownAlike : NodeValue → NodeValue → Type 0
 AreShownAlike old new = (origin_of new ≡ origin_of old) × (state_of new ≡ state_of old)
 
--- what runs after a transition that adds nothing
+-- the running node after a transition that adds nothing
 module _ (t : Table) (last : ℕ) (r : ModelRunning) (e : Event) where
   abbrev after : Bool → List StateValue → NodeValue
   after off adds =
@@ -96,7 +96,7 @@ module _ (t : Table) (me : NodeId) (e : Event) where
   step_alike d (Some why) is says = (refl, refl)
   step_alike d None is says = accepted_alike d.last d.running is says
 
--- an answer that says so leaves the incarnation and the state of a model node as they are shown
+-- such a result leaves the shown incarnation and state of a model node unchanged
 pub state_stays : (t : Table) (me : NodeId) (d : ModelNode) (e : Event) → leaves_state (model_step t me d e).answer ≡ true
     → (origin_of (shown t (model_step t me d e).node) ≡ origin_of (shown t d)) × (state_of (shown t (model_step t me d e).node) ≡ state_of (shown t d))
 state_stays t me d e says = step_alike t me e d (refusal_of t (shown t d) e) refl says

@@ -1,4 +1,4 @@
--- The model node and what it shows as.
+-- The model node, and the program's node as which it shows.
 use Rattle.std.proofs.Common.{◌≡◌, ℕ, ◌-◌, Bool, true, false, cond, List, ◌∷◌, ◌++◌, length, Option, Some, None, Ok, Err, refl, sym, ap, subst, ◌∙◌, arith, true≢false}
 use Rattle.std.specs.Prelude.{fold, max, unwrap_or, IfSome}
 use Rattle.std.specs.Option.{option_map}
@@ -28,11 +28,11 @@ use Rattle.dac_model_node.specs.Step.{model_step, step_by, accepted, transition_
 use Rattle.dac_model_node.specs.Accepted.{AcceptedAs, AreNewest, IsNoting, IsNotingBy, running_by, left_by, reply_by}
 use Rattle.dac_deltas.specs.declared.buffer.TheConstants.{MAX_DELTAS}
 
--- more states joined
+-- the join of a longer log
 pub joined-append : (log states : List StateValue) → joined (log ++ states) ≡ fold join (joined log) states
 joined-append log states = fold-append join bottom log states
 
--- ---- a transition that notes nothing looks at nothing that is noted
+-- ---- a transition that notes nothing doesn't depend on the waits
 quiet_tick : (opening : Opening) (t : Table) (r : RunningValue) (n m : List (Option Noted)) (now : ℕ) → (ticks_by opening t r n now).notes ≡ false → ticks_by opening t r n now ≡ ticks_by opening t r m now
 quiet_tick Shut t r n m now h = refl
 quiet_tick GiveUp t r n m now h = refl
@@ -62,7 +62,7 @@ quiet_run r n m transition h =
       peers = transition.peers;
     }))
 
--- what is done and what is left depend on what is noted only where the event notes
+-- a transition and its result depend on the waits only if the event notes
 pub same_transition : (t : Table) (r : RunningValue) (n m : List (Option Noted)) (e : Event) → ((transition_of t r n e).notes ≡ true → n ≡ m) → (transition_of t r n e ≡ transition_of t r m e) × (running_by r n (transition_of t r n e) ≡ running_by r m (transition_of t r m e))
 same_transition t r n m e same =
     elim (transition_of t r n e).notes as (λ b. (transition_of t r n e).notes ≡ b → (transition_of t r n e ≡ transition_of t r m e) × (running_by r n (transition_of t r n e) ≡ running_by r m (transition_of t r m e))) [
@@ -70,9 +70,9 @@ same_transition t r n m e same =
       | false ↦ λ h. (quiet_transition t r n m e h, quiet_run r n m (transition_of t r n e) h ∙ ap (running_by r m) (quiet_transition t r n m e h))
     ] refl
 
--- ---- what the model node shows as after a transition
+-- ---- the value shown after a transition
 
--- the deltas that are kept after some more and a trim are those of the log
+-- the delta log after more deltas and a trim is the one of the longer log
 kept-after : (base : ℕ) (log adds : List StateValue) (trim : ℕ) → AreNewest (kept_of base log) → kept_of (base_after base (length (log ++ adds)) trim) (log ++ adds) ≡ trimmed (fold pushed (kept_of base log) adds) trim
 kept-after base log adds trim newest =
     let left = length-drop base log in
@@ -85,7 +85,7 @@ module _ (t : Table) (r : ModelRunning) (newest : AreNewest (kept_of r.base r.lo
   abbrev later : List Note → ModelRunning
   later notes = record { origin = r.origin; moments = record { booted = r.moments.booted; last = last }; is_open = is_open; notes = notes; log = r.log ++ adds; base = base_after r.base (length (r.log ++ adds)) trim; peers = peers }
 
-  -- the program's with these waits
+  -- the program's running node with these waits
   abbrev value : List (Option Noted) → RunningValue
   value waits = record { origin = r.origin; moments = record { booted = r.moments.booted; last = last }; is_open = is_open; waits = waits; state = fold join (joined r.log) adds; kept = trimmed (fold pushed (kept_of r.base r.log) adds) trim; peers = peers }
 
@@ -97,7 +97,7 @@ module _ (t : Table) (r : ModelRunning) (newest : AreNewest (kept_of r.base r.lo
   shown_run false true = ap (λ (x : RunningValue). Some x) (later_shown (note ∷ r.notes))
   shown_run false false = ap (λ (x : RunningValue). Some x) (later_shown r.notes)
 
--- the same transition is done, where the program notes as the definition does
+-- the transitions are the same, if the program notes as the definition does
 pub transition_same : (t : Table) (r : ModelRunning) (noted : List (Option Noted)) (e : Event) → AreNewest (kept_of r.base r.log) → IsNoting t (running_shown t r) noted e
     → (transition_on t r e ≡ transition_of t (running_shown t r) noted e) × (option_map (running_shown t) (goes_on r (note_of (joined r.log) e) (transition_on t r e)) ≡ running_by (running_shown t r) noted (transition_of t (running_shown t r) noted e))
 transition_same t r noted e newest noting =
@@ -111,23 +111,23 @@ transition_same t r noted e newest noting =
 abbrev AreNewestBy : Option RunningValue → Type 0
 AreNewestBy running = IfSome running (λ (r : RunningValue). AreNewest r.kept)
 
--- after an accepted event it shows as what the rules on values leave
+-- after an accepted event the model node shows as the program's node
 pub shown_accepted : (t : Table) (me : NodeId) (last : ℕ) (running : Option ModelRunning) (noted : List (Option Noted)) (e : Event) → AreNewestBy (option_map (running_shown t) running) → IsNotingBy t (option_map (running_shown t) running) noted e
     → shown t (accepted t me last running e).node ≡ left_by t me last (option_map (running_shown t) running) noted e
 shown_accepted t me last None noted e newest noting = refl
 shown_accepted t me last (Some r) noted e newest noting = ap (λ running. record { last = last; running = running }) (transition_same t r noted e newest noting).1
 
--- and answers their reply
+-- the model node has the same reply
 pub answer_accepted : (t : Table) (me : NodeId) (last : ℕ) (running : Option ModelRunning) (noted : List (Option Noted)) (e : Event) → AreNewestBy (option_map (running_shown t) running) → IsNotingBy t (option_map (running_shown t) running) noted e
     → (accepted t me last running e).answer ≡ Ok (reply_by t me last (option_map (running_shown t) running) noted e)
 answer_accepted t me last None noted e newest noting = refl
 answer_accepted t me last (Some r) noted e newest noting = ap (λ (transition : Transition). Ok transition.reply) (transition_same t r noted e newest noting).0
 
--- the step where nothing refuses
+-- the step of an accepted event
 pub step_accepted : (t : Table) (me : NodeId) (d : ModelNode) (e : Event) → refusal_of t (shown t d) e ≡ None → model_step t me d e ≡ accepted t me d.last d.running e
 step_accepted t me d e none = ap (λ r. step_by r t me d e) none
 
--- a value that is accepted so is a step of each model node that shows as the old one
+-- an accepted value is a step of each model node that shows as the old one
 pub steps : (t : Table) (me : NodeId) (old : NodeValue) (e : Event) (new : NodeValue) (reply : Reply) → AcceptedAs t me old e new reply → Steps t me old e new (Ok reply)
 steps t me old e new reply p = record { by = λ d same. subst (λ v. AcceptedAs t me v e new reply → (shown t (model_step t me d e).node ≡ new) × ((model_step t me d e).answer ≡ Ok reply)) same (from d) p }
   where
@@ -138,7 +138,7 @@ steps t me old e new reply p = record { by = λ d same. subst (λ v. AcceptedAs 
           ap (λ (s : Stepped). s.answer) st ∙ (answer_accepted t me d.last d.running q.noted e q.newest q.noting ∙ ap (λ r. Ok r) (sym q.reply)),
         )
 
--- an event that is refused by the table is a step that changes nothing
+-- an event that the table refuses is a step that changes nothing
 pub refused_steps : (t : Table) (me : NodeId) (v : NodeValue) (e : Event) (why : Refusal) → refusal_of t v e ≡ Some why → Steps t me v e v (Err why)
 refused_steps t me v e why is = record {
   by = λ d same.
@@ -146,7 +146,7 @@ refused_steps t me v e why is = record {
       (ap (λ (s : Stepped). shown t s.node) st ∙ same, ap (λ (s : Stepped). s.answer) st);
 }
 
--- so is one that is answered by another cause than `NoMemory`
+-- an event refused for another cause than `NoMemory` is such a step
 pub answered_steps : (t : Table) (me : NodeId) (v : NodeValue) (e : Event) (why : Refusal) → why ≡ unwrap_or (refusal_of t v e) NoMemory → (why ≡ NoMemory → ⊥) → Steps t me v e v (Err why)
 answered_steps t me v e why is other = by_refusal (refusal_of t v e) refl is
   where
@@ -154,7 +154,7 @@ answered_steps t me v e why is other = by_refusal (refusal_of t v e) refl is
     by_refusal None none p = absurd (other p)
     by_refusal (Some least) some p = refused_steps t me v e why (some ∙ ap (λ r. Some r) (sym p))
 
--- Some model node shows as a node that is off. Where one shows as a node, one shows as what it becomes by a step
+-- A model node shows as each node that is off, and if one shows as a node, one shows as the node after a step
 pub off_shown : (t : Table) (last : ℕ) → IsShown t (off last)
 off_shown t last = (record { last = last; running = None }, refl)
 

@@ -1,4 +1,4 @@
--- Tests of causes, in words: where an application runs and of what group, and the counters that are left.
+-- Tests of causes, in words: where an application runs and in which group, and the counters that are left.
 use Rattle.std.specs.Prelude.{◌≡◌, ◌⊎◌, ◌↔◌, ℕ, ◌+◌, ◌-◌, ◌<◌, ◌≤◌, Bool, true, false, not, max, Option, None, Some, is_some, refl}
 use Rattle.std.specs.Option.{option_map_or}
 use Rattle.std.specs.FinSet as set
@@ -21,7 +21,7 @@ use Rattle.dac_model_node.specs.EventRefusals.{needed, too_few_left}
 use Rattle.dac_model_node.specs.NodeValue.{RunningValue}
 use Rattle.dac_model_node.specs.Refused.{LeavesFewer, LacksFor}
 
--- ---- where an application runs
+-- ---- running at a node
 
 module _ (t : Table) (s : StateValue) (app : AppId) where
   pub not_running_is : (not (is_some (runner_of t s app)) ≡ true) ↔ ((node : NodeId) → ¬ RunsAt t s app node)
@@ -96,9 +96,9 @@ module _ (t : Table) (s : StateValue) (own : Origin) where
     λ h. lt-ltb MAX_COUNTER (greatest + needed t) (fewer MAX_COUNTER h.0 greatest (needed t) (at_most h.0 h.1.0) h.1.1),
   )
 
--- ---- what a tick is taken to need
+-- ---- the counters that a tick needs
 
--- one for each application and one at least is one, or one for each
+-- the greater of 1 and the number of applications is one of both
 most_is : (a : ℕ) → (max 1 a ≡ 1) ⊎ (max 1 a ≡ a)
 most_is zero = inl refl
 most_is (suc n) = inr (omega arith)
@@ -106,7 +106,7 @@ most_is (suc n) = inr (omega arith)
 lack_more : (m n a b : ℕ) → a ≤ b → m < n + a → m < n + b
 lack_more m n a b le h = omega arith
 
--- where so many are lacking, more are
+-- a lack for fewer is a lack for more
 lacks_more : (r : RunningValue) (a b : ℕ) → a ≤ b → LacksFor r a → LacksFor r b
 lacks_more r a b le h = elim h [
   | inl few ↦ inl (few.0, (few.1.0, lack_more MAX_COUNTER few.0 a b le few.1.1))

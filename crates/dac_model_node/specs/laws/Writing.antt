@@ -1,4 +1,4 @@
--- What an accepted event writes, and how it is answered.
+-- The operations and replies of an accepted event.
 use Rattle.std.proofs.Common.{◌≡◌, ◌⊎◌, ◌↔◌, ◌≤◌, ◌+◌, ℕ, ◌-◌, Bool, true, false, not, cond, List, [], ◌∷◌, Option, Some, None, refl, sym, subst, ◌∙◌, inl, inr, true≢false}
 use Rattle.dac_base.specs.declared.limits.TheConstants.{MAX_COUNTER}
 use Rattle.dac_base.specs.declared.NodeId.{NodeId}
@@ -20,9 +20,9 @@ use Rattle.dac_messages.specs.declared.event.Event.TheVariants.{Boot, Crash, Com
 use Rattle.dac_events.specs.declared.refusal.Refusal.TheVariants.{Off, AlreadyOn}
 use Rattle.dac_commands.specs.Commands.{greatest_counter}
 use Rattle.dac_commands.specs.laws.Written.{writes_what_is_said}
-use Rattle.dac_ticks.specs.Ticks.{turn_of}
-use Rattle.dac_ticks.specs.InWords.{IsTurn}
-use Rattle.dac_ticks.specs.laws.Words.{turn_in_words}
+use Rattle.dac_ticks.specs.Ticks.{sweep_of}
+use Rattle.dac_ticks.specs.InWords.{IsSweep}
+use Rattle.dac_ticks.specs.laws.Words.{sweep_in_words}
 use Rattle.dac_model_node.specs.NodeValue.{RunningValue}
 use Rattle.dac_model_node.specs.EventRefusals.{refusal_by}
 use Rattle.dac_model_node.specs.Transitions.{message_of, opening_at, ticks_by}
@@ -37,7 +37,7 @@ module _ (t : Table) (r : RunningValue) (now : ℕ) where
   abbrev elapsed : ℕ
   elapsed = now - r.moments.booted
 
-  -- the start gate was open, or answers so now
+  -- the start gate was open, or this is its state now
   abbrev pub IsStartGate : Opening → Type 0
   IsStartGate Opened = (r.is_open ≡ true) ⊎ IsAsked t r now Opened
   IsStartGate Shut = IsAsked t r now Shut
@@ -54,22 +54,22 @@ module _ (t : Table) (r : RunningValue) (now : ℕ) where
   start_gate false Shut was is = asked Shut was is
   start_gate false GiveUp was is = asked GiveUp was is
 
-  -- what the notes of the ticks say with this tick's
+  -- the waits with this tick's note
   abbrev pub NotesSo : List (Option Noted) → Type 0
   NotesSo noted = (notes : List Note) → r.waits ≡ waits_of t notes → noted ≡ waits_of t (record { state = r.state; moment = now } ∷ notes)
 
   claims_so : (noted : List (Option Noted)) → NotesSo noted → greatest_counter r.origin r.state.known + app_count t ≤ MAX_COUNTER → (notes : List Note) → r.waits ≡ waits_of t notes →
-      IsTurn t r.origin (record { state = r.state; moment = now } ∷ notes) now r.state (apps_of t) (turn_of t r.origin noted now r.state).ops (turn_of t r.origin noted now r.state).passed
+      IsSweep t r.origin (record { state = r.state; moment = now } ∷ notes) now r.state (apps_of t) (sweep_of t r.origin noted now r.state).ops (sweep_of t r.origin noted now r.state).passed
   claims_so noted so room notes are =
       let all = record { state = r.state; moment = now } ∷ notes in
-      subst (λ w. IsTurn t r.origin all now r.state (apps_of t) (turn_of t r.origin w now r.state).ops (turn_of t r.origin w now r.state).passed) (sym (so notes are)) (turn_in_words t r.origin all now r.state room)
+      subst (λ w. IsSweep t r.origin all now r.state (apps_of t) (sweep_of t r.origin w now r.state).ops (sweep_of t r.origin w now r.state).passed) (sym (so notes are)) (sweep_in_words t r.origin all now r.state room)
 
   ticks_so : (opening : Opening) (noted : List (Option Noted)) → opening_at t r now ≡ opening → greatest_counter r.origin r.state.known + app_count t ≤ MAX_COUNTER → ((ticks_by opening t r noted now).notes ≡ true → NotesSo noted) → TicksSo t r now (ticks_by opening t r noted now).reply
   ticks_so Shut noted is room so = start_gate r.is_open Shut refl is
   ticks_so GiveUp noted is room so = start_gate r.is_open GiveUp refl is
   ticks_so Opened noted is room so = (start_gate r.is_open Opened refl is, claims_so noted (so refl) room)
 
--- ---- what comes
+-- ---- incoming states
 
 is_new : (s body : StateValue) → (not (is_below body s) ≡ true) ↔ (¬ IsBelow body s)
 is_new s body = by (is_below body s) refl

@@ -1,4 +1,4 @@
--- What is shipped goes to the node that the ship names.
+-- Ships send messages to the nodes that they name.
 use Rattle.std.proofs.Common.{◌≡◌, ℕ, true, false, inl, inr, cond, List, [], ◌∷◌, Option, Some, None, Result, Ok, Err, refl, sym, ap, subst, ◌∙◌}
 use Rattle.std.specs.Prelude.{nat_lt}
 use Rattle.std.specs.Option.{option_map}
@@ -30,15 +30,15 @@ use Rattle.dac_model_world.specs.Addressed.{IsAddressed, AreAddressed}
 use Rattle.dac_model_world.specs.laws.Runs.{run_first}
 use Rattle.dac_model_world.specs.laws.Sound.{Answer, Sound, held_at, no_message, no_operation, sound_step}
 
--- ---- which event is which
--- an event that isn't a ship is no ship of the world
+-- ---- telling events apart
+-- an event of a node that isn't a ship comes of no ship of the world
 other_event : {P : Type 0} (os : List Operation) (ms : List Message) (e : WorldEvent) (at : Event) (to : NodeId) → event_of os ms e.what ≡ Ok at → e.what ≡ Ships to → (at ≡ Ship to → P) → P
 other_event os ms e at to is ships other = other (same at (sym is ∙ ap (event_of os ms) ships))
   where
     same : (at : Event) → ◌≡◌ {A = Result Event WorldFault} (Ok at) (Ok (Ship to)) → at ≡ Ship to
     same at p = cc
 
--- an event of the world that is a ship of its node is one
+-- a ship of the node comes of a ship of the world
 ships_to : (os : List Operation) (ms : List Message) (what : What) (to : NodeId) → event_of os ms what ≡ Ok (Ship to) → what ≡ Ships to
 ships_to os ms (Deliver k) to e = no_message (counted ms k) (Ship to) (λ l p. cc) e
 ships_to os ms (Hand k) to e = no_operation (counted os k) (Ship to) (λ x p. cc) e
@@ -91,7 +91,7 @@ addressed_step : (t : Table) (w : ModelWorld) (s : SetWorld) (e : WorldEvent) (a
 addressed_step t w s e a next h (inl d) = subst (IsAddressed e) (sym d.answered) (addressed_happens t w s h e)
 addressed_step t w s e a next h (inr l) = subst (IsAddressed e) (sym l.answered) tt
 
--- in every run of the model world
+-- messages go to the nodes that ships name in every run of the model world
 pub addressed_run : (t : Table) (w : ModelWorld) (s : SetWorld) (es : List WorldEvent) (answers : List Answer) (final : ModelWorld) → Sound w s → Run t w es answers final → AreAddressed es answers
 addressed_run t w s [] answers final h r = tt
 addressed_run t w s (e ∷ es) [] final h r = tt

@@ -1,4 +1,4 @@
--- What a node keeps of its peers, and what a message on its way says of the nodes' logs and sets.
+-- The peer table of a node, and the messages under way, agree with the nodes' logs and sets.
 use Rattle.std.proofs.Common.{◌≡◌, ℕ, ◌≤◌, ◌-◌, Bool, true, false, cond, ◌&&◌, ◌⊎◌, inl, inr, List, [], ◌∷◌, ◌++◌, max, nat_eq, nat_le, Option, Some, None, Ordering, refl, sym, ap, subst, ◌∙◌, append-nil, true≢false, zero, suc}
 use Rattle.std.specs.Prelude.{nat_lt}
 use Rattle.std.specs.Option.{option_map, option_and_then}
@@ -38,11 +38,11 @@ use Rattle.dac_model_world.specs.laws.Covers.{Seen, Later, Has, Has-later, Cover
 pub none_some : {X P : Type 0} {x : X} → None ≡ Some x → P
 none_some e = cc
 
--- ---- what is kept of peers
+-- ---- the peer table
 pub record PeersOk (v : NodeId → Seen) (n : NodeId) (last : ℕ) (p : PeersValue) : Type 0 where
-  -- an incarnation that acknowledged so many has the first so many of this log
+  -- an incarnation that acknowledged `a` has the first `a` states of this log
   pub acked : (k : Origin) (a : ℕ) → map.get p.acked k ≡ Some a → Covered (v n) (v k.node) last a k.inc
-  -- this node has the log up to the position that was got
+  -- this node has the sender's log up to the position got
   pub got : (f : NodeId) (g : Position) → map.get p.got f ≡ Some g → Covered (v f) (v n) g.inc g.number last
 
 pub PeersOk-later : (v u : NodeId → Seen) (n : NodeId) (last : ℕ) (p : PeersValue) → ((m : NodeId) → Later (v m) (u m)) → PeersOk v n last p → PeersOk u n last p
@@ -57,11 +57,11 @@ no_peers_ok v n last = record {
   got = λ f g e. none_some (sym (map.get-empty node_cmp f) ∙ e);
 }
 
--- who is owed an answer is no matter
+-- the nodes that are due a reply don't matter
 pub shipped_ok : (v : NodeId → Seen) (n : NodeId) (last : ℕ) (p : PeersValue) (to : NodeId) → PeersOk v n last p → PeersOk v n last (shipped_to p to)
 shipped_ok v n last p to h = record { acked = h.acked; got = h.got }
 
--- what holds of each entry holds of each after one more is put
+-- a property of each entry, and of one more, holds of each entry after that is put
 module _ {K V : Type 0} {R : K → K → Ordering} (o : IsTotalOrder R) (exact : CmpEqualImpliesEq R) (P : K → V → Type 0) where
   put_ok : (m : map.FinMap R V) (k : K) (v : V) → ((q : K) (x : V) → map.get m q ≡ Some x → P q x) → P k v → (q : K) (x : V) → map.get (map.insert m k v) q ≡ Some x → P q x
   put_ok m k v old new q x e =
@@ -88,7 +88,7 @@ got_ok : (x y : Seen) (i : ℕ) (c : Option Position) (h : Position) → ((g : P
 got_ok x y i None h old new = new
 got_ok x y i (Some g) h old new = later_ok x y i g h (old g refl) new
 
--- an acknowledgement that counts is of the own origin
+-- an acknowledgement that counts is for the node's own origin
 counts_own : (own : Origin) (count : ℕ) (ack : Origin × ℕ) → counts own count ack ≡ true → ack.0 ≡ own
 counts_own own count ack e =
     let node = left (nat_eq ack.0.node.0 own.node.0) (nat_eq ack.0.inc own.inc && nat_le ack.1 count) e in
@@ -103,7 +103,7 @@ counts_own own count ack e =
     right true b h = h
     right false b h = absurd (true≢false (sym h))
 
--- what an acknowledgement that comes says: its origin's log up to the number is had by the incarnation that sent it
+-- the meaning of an acknowledgement: the incarnation that sent it has this origin's log up to the number
 abbrev pub Acknowledges : (NodeId → Seen) → Origin → Option (Origin × ℕ) → Type 0
 Acknowledges v from ack = (r : Origin × ℕ) → ack ≡ Some r → Covered (v r.0.node) (v from.node) r.0.inc r.1 from.inc
 
@@ -121,7 +121,7 @@ acked_ok v n last count from (Some r) acked old new =
       | false ↦ λ _. old
     ] refl
 
--- what was got after a body of a sender, whose log is had up to this number
+-- the positions got after a body of a sender whose log is had up to this number
 got_by_ok : (v : NodeId → Seen) (n : NodeId) (last : ℕ) (p : PeersValue) (from : Origin) (up_to : ℕ) (body : Body) → PeersOk v n last p → Covered (v from.node) (v n) from.inc up_to last →
     (f : NodeId) (g : Position) → map.get (got_by p from up_to body).got f ≡ Some g → Covered (v f) (v n) g.inc g.number last
 got_by_ok v n last p from up_to Nothing h sent = h.got
@@ -129,7 +129,7 @@ got_by_ok v n last p from up_to _ h sent =
     put_ok nodes_total exact_nodes (λ (f : NodeId) (g : Position). Covered (v f) (v n) g.inc g.number last) p.got from.node (got_after (map.get p.got from.node) (record { inc = from.inc; number = up_to })) h.got
     (got_ok (v from.node) (v n) last (map.get p.got from.node) (record { inc = from.inc; number = up_to }) (h.got from.node) sent)
 
--- what is kept after a message that was accepted
+-- the peer table after an accepted message
 pub heard_ok : (v : NodeId → Seen) (n : NodeId) (last count : ℕ) (p : PeersValue) (m : Message) → PeersOk v n last p →
     Covered (v m.from.node) (v n) m.from.inc m.up_to last → Acknowledges v m.from m.ack →
     PeersOk v n last (heard_from (record { node = n; inc = last }) count p m)
@@ -138,7 +138,7 @@ heard_ok v n last count p m h sent ack = record {
   got = got_by_ok v n last p m.from m.up_to m.body h sent;
 }
 
--- an acknowledgement says what was got
+-- an acknowledgement sent states the position got
 pub ack_ok : (v : NodeId → Seen) (n : NodeId) (last : ℕ) (p : PeersValue) (to : NodeId) → PeersOk v n last p → Acknowledges v (record { node = n; inc = last }) (ack_for p to)
 ack_ok v n last p to h = by_place (map.get p.got to) (h.got to)
   where
@@ -146,12 +146,12 @@ ack_ok v n last p to h = by_place (map.get p.got to) (h.got to)
     by_place None k r e = none_some e
     by_place (Some q) k r e = subst (λ (x : Origin × ℕ). Covered (v x.0.node) (v n) x.0.inc x.1 last) (some_same _ r e) (k q refl)
 
--- where an interval begins there is an acknowledgement, and nothing from there on is dropped
+-- an interval begins at an acknowledged position, from which nothing is dropped
 pub record Begins (p : PeersValue) (base : ℕ) (to : NodeId) (q : Position) : Type 0 where
   pub acked : map.get p.acked (record { node = to; inc = q.inc }) ≡ Some q.number
   pub kept : base ≤ q.number
 
--- what an optional value leads to, if there is one
+-- the value that leads to an optional one, if there is one
 from_some : {X Y : Type 0} (f : X → Option Y) (o : Option X) (y : Y) → option_and_then f o ≡ Some y → (x : X) × (f x ≡ Some y)
 from_some f None y e = none_some e
 from_some f (Some x) y e = (x, e)
@@ -180,7 +180,8 @@ pub record Bound (v : NodeId → Seen) (to : NodeId) (only : Option ℕ) (o : Op
   pub bound : only ≡ Some inc
   pub has : Has (v to) inc o
 
--- A message beside the copy of its sender's whole set. The body means some of it, and the incarnation that it is bound to has the rest.
+-- A message and the copy of its sender's whole set: the body means a part of it, and the incarnation that the message
+-- is bound to has the rest.
 pub record CopyOk (ops : List Operation) (v : NodeId → Seen) (m : Message) (c : Copy) : Type 0 where
   pub to : m.to ≡ c.to
   pub from : m.from.node ≡ c.from
@@ -242,14 +243,14 @@ message_copy ops v ms cs k m h e =
       | false ↦ λ p. CopiesOk-get ops v ms cs (k - 1) m h p
     ] e
 
--- ---- what a body brings to a set
+-- ---- the states that a body adds to a set
 pub record Brought (states : List StateValue) (delta os : List Operation) : Type 0 where
   pub entries : Entries
   pub is : states ≡ logged entries
   pub inside : AreOperationsOf (gathered entries) delta
   pub all : (o : Operation) → IsOperationOf o delta → IsOperationOf o (gathered entries) ⊎ IsOperationOf o os
 
--- a state is brought unless it is below
+-- a state is added unless it is below
 pub brought : (os delta ops : List Operation) (s x : StateValue) → s ≡ meaning_of os → x ≡ meaning_of delta → AreOperationsOf os ops → AreOperationsOf delta ops → DotsDetermine ops → Brought (brings s x) delta os
 brought os delta ops s x is body w v agree =
     elim (is_below x s) as (λ b. is_below x s ≡ b → Brought (cond b [] (x ∷ [])) delta os) [

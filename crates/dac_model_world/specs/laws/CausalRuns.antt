@@ -1,5 +1,5 @@
--- Runs in which no operation is handed alone. In them each set is closed, and each operation was issued as the next
--- after a closed set.
+-- Runs in which no single operation is handed: each set is closed, and each operation was issued as the next after a
+-- closed set.
 use Rattle.std.proofs.Common.{◌≡◌, ℕ, zero, suc, ◌-◌, ◌+◌, true, false, cond, inl, inr, List, [], ◌∷◌, ◌++◌, Option, Some, None, Ok, Err, nat_eq, refl, sym, ap, subst, ◌∙◌}
 use Rattle.std.specs.Prelude.{nat_lt}
 use Rattle.std.specs.List.{slice_get}
@@ -25,7 +25,7 @@ use Rattle.dac_messages.specs.declared.reply.Reply.{Reply}
 use Rattle.dac_commands.specs.Commands.{act_of, next_operation}
 use Rattle.dac_events.specs.declared.refusal.Refusal.{Refusal}
 use Rattle.dac_commands.specs.Causes.{refusal_of_command}
-use Rattle.dac_model_node.specs.Ticks.{turn_of}
+use Rattle.dac_model_node.specs.Ticks.{sweep_of}
 use Rattle.dac_model_node.specs.laws.Claims.{claims_are}
 use Rattle.dac_model_node.specs.ModelNode.{ModelNode, ModelRunning, joined, shown, running_shown}
 use Rattle.dac_model_node.specs.EventRefusals.{refusal_of, refusal_by, refusal_to_tick, otherwise}
@@ -83,8 +83,8 @@ copies_counted is cs k c h e =
     no : None ≡ Some c → ⊥
     no p = cc
 
--- ---- what transitions do to sets
--- node n's set replaced
+-- ---- the effect of transitions on sets
+-- replacing the set of node n
 nodes_with : (is : List Issue) (node : NodeId → Option NodeSet) (n : NodeId) (held : Option NodeSet) → ClosedSet is (held_by held) → ((m : NodeId) → ClosedSet is (held_by (node m))) → (m : NodeId) → ClosedSet is (held_by (with_set node n held m))
 nodes_with is node n held here others m = elim (nat_eq m.0 n.0) as (λ b. ClosedSet is (held_by (cond b held (node m)))) [ true ↦ here | false ↦ others m ]
 
@@ -143,8 +143,8 @@ module _ (s : SetWorld) (n : NodeId) (h : Causal s) where
     issues = h.issues;
   }
 
--- ---- what transitions issue
--- where neither of two causes holds, the first doesn't
+-- ---- the operations that transitions issue
+-- if neither of two causes holds, the first doesn't
 pub first_free : (a b : Option Refusal) → otherwise a b ≡ None → a ≡ None
 first_free None b e = refl
 first_free (Some why) b e = cc
@@ -163,12 +163,12 @@ module _ (t : Table) (w : ModelWorld) (s : SetWorld) (n : NodeId) (h : Sound w s
       causal_issue s n c (o ∷ []) d (subst (λ (x : Option NodeSet). AreNext (held_by x) (o ∷ [])) (sym held.is) (next, tt))
 
   causal_claims : (r : ModelRunning) → (w.node n).running ≡ Some r → (noted : List (Option Noted)) (now : ℕ) → refusal_to_tick t (running_shown t r) now ≡ None →
-      let more = (turn_of t r.origin noted now (joined r.log)).ops in
+      let more = (sweep_of t r.origin noted now (joined r.log)).ops in
       DotsDetermine (w.operations ++ more) → Differ (issuing s n more).issued → Causal (issuing s n more)
   causal_claims r on noted now none agree d =
       let held = held_at w s n r h on in
       let os = held.set.operations in
-      let more = (turn_of t r.origin noted now (joined r.log)).ops in
+      let more = (sweep_of t r.origin noted now (joined r.log)).ops in
       let all = w.operations ++ more in
       let inside : AreOperationsOf (os ++ more) all = Within-append os more all (λ o i. In-append_left o w.operations more (held.ok.within o i)) (λ o i. In-append_right o w.operations more i) in
       let claims = claims_are t r.origin noted now (joined r.log) (leaves_room t (running_shown t r) now none) in
@@ -182,9 +182,9 @@ module _ (t : Table) (w : ModelWorld) (s : SetWorld) (n : NodeId) (h : Sound w s
   causal_tick what r on note noted now Shut none next = c
   causal_tick what r on note noted now GiveUp none next = causal_off s n c
   causal_tick what r on note noted now Opened none next =
-      causal_claims r on noted now none (DistinctDots-agree _ next.distinct) (issued_apart _ (issuing s n (turn_of t r.origin noted now (joined r.log)).ops) next)
+      causal_claims r on noted now none (DistinctDots-agree _ next.distinct) (issued_apart _ (issuing s n (sweep_of t r.origin noted now (joined r.log)).ops) next)
 
-  -- an event that isn't refused
+  -- an accepted event
   causal_ok : (what : What) (e : Event) (running : Option ModelRunning) → refusal_of t (shown t (w.node n)) e ≡ None → (w.node n).running ≡ running →
       let step = accepted t n (w.node n).last running e in
       let by = answered_by w n step.node step.answer in
@@ -230,7 +230,7 @@ causal_step : (t : Table) (w : ModelWorld) (s : SetWorld) (e : WorldEvent) (a : 
 causal_step t w s e a next h c (inl d) unhanded = subst (λ x. IsNoHanding e.what x → Causal (set_step s e.node e.what x)) (sym d.answered) (causal_happens t w s e h c (sound_happens t w s e h)) unhanded
 causal_step t w s e a next h c (inr l) unhanded = subst (λ x. Causal (set_step s e.node e.what x)) (sym l.answered) c
 
--- after every run of the model world in which nothing is handed
+-- after every run of the model world in which no operation is handed
 pub causal_run : (t : Table) (w : ModelWorld) (s : SetWorld) (es : List WorldEvent) (answers : List Answer) (final : ModelWorld) → Sound w s → Causal s → Run t w es answers final → HandsNothing es answers → Causal (set_run s es answers)
 causal_run t w s [] answers final h c r unhanded = c
 causal_run t w s (e ∷ es) [] final h c r unhanded = c
@@ -238,6 +238,6 @@ causal_run t w s (e ∷ es) (a ∷ answers) final h c run unhanded =
     let r = run_first t w e es a answers final run in
     causal_run t r.0 (set_step s e.node e.what a) es answers final (sound_step t w s e a r.0 h r.1.0) (causal_step t w s e a r.0 h c r.1.0 unhanded.0) r.1.1 unhanded.1
 
--- nothing has happened yet
+-- the world at the start
 pub causal_start : Causal no_sets
 causal_start = record { nodes = λ n. closed_none []; copies = tt; issues = λ i m. absurd m }

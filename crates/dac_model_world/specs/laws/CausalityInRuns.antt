@@ -1,4 +1,4 @@
--- What causal order promises of each controller after a run in which no operation is handed alone.
+-- Causal order at each controller after a run in which no single operation is handed.
 use Rattle.std.proofs.Common.{◌≡◌, Option, Some, None, refl, sym, ap, subst, ◌∙◌}
 use Rattle.std.specs.Prelude.{◌↔◌, ℕ}
 use Rattle.std.specs.Option.{option_map}
@@ -25,7 +25,7 @@ use Rattle.dac_model_world.specs.laws.CausalRuns.{Causal}
 both : {A B C : Type 0} → A ↔ B → B ↔ C → A ↔ C
 both f g = (λ a. g.0 (f.0 a), λ c. f.1 (g.1 c))
 
--- the set whose meaning a running node's state is
+-- the set whose meaning is a running node's state
 record HeldAs (sets : SetWorld) (n : ℕ) (s : StateValue) : Type 0 where
   held : NodeSet
   holds : sets.node (numbered n) ≡ Some held

@@ -1,5 +1,5 @@
--- Closed sets of operations: with each operation come all that its issuer held. And what holds of each issue: its
--- issuer's set was closed, and the operation was the next one after it.
+-- Closed sets contain, with each operation, all that its issuer held. Each issuer's set was closed, and its operation
+-- was the next one after it.
 use Rattle.std.proofs.Common.{◌≡◌, ◌⊎◌, inl, inr, List, [], ◌∷◌, ◌++◌, refl, sym, ap, subst, append_assoc, append-nil}
 use Rattle.std.proofs.lemmas.List.{map-append}
 use Rattle.dac_operations.specs.Operations.{Operation}
@@ -17,7 +17,7 @@ IsAmong-append_cases i [] js h = inr h
 IsAmong-append_cases i (x ∷ is) js (inl e) = inl (inl e)
 IsAmong-append_cases i (x ∷ is) js (inr h) = elim (IsAmong-append_cases i is js h) [ inl a ↦ inl (inr a) | inr b ↦ inr b ]
 
--- the operation of an issue was issued, and each issued operation has an issue
+-- an issue's operation was issued, and each issued operation has an issue
 pub operation_in : (i : Issue) (is : List Issue) → IsAmong i is → IsOperationOf i.operation (operations_of is)
 operation_in i [] h = absurd h
 operation_in i (j ∷ js) (inl e) = inl (ap (λ (x : Issue). x.operation) e)
@@ -50,21 +50,21 @@ closed_append is os ps c d = record {
   ];
 }
 
--- issues of which all operations have dots of their own
+-- the issues' operations have distinct dots
 abbrev pub Differ : List Issue → Type 0
 Differ is = DistinctDots (operations_of is)
 
 differ_parts : (is more : List Issue) → Differ (is ++ more) → DistinctDots (operations_of is ++ operations_of more)
 differ_parts is more d = subst DistinctDots (map-append (λ (i : Issue). i.operation) is more) d
 
--- a later issue is of an operation that wasn't issued before
+-- the operation of a later issue wasn't issued before
 none_again : (is more : List Issue) → Differ (is ++ more) → (i : Issue) → IsAmong i more → IsOperationOf i.operation (operations_of is) → ⊥
 none_again is more d i m h = DistinctDots-apart (operations_of is) (operations_of more) (differ_parts is more d) i.operation h (operation_in i more m)
 
 in_more : (is more : List Issue) (o : Operation) → IsOperationOf o (operations_of is) → IsOperationOf o (operations_of (is ++ more))
 in_more is more o h = subst (IsOperationOf o) (sym (map-append (λ (i : Issue). i.operation) is more)) (In-append_left o (operations_of is) (operations_of more) h)
 
--- a closed set stays so when more is issued
+-- a closed set stays closed when more is issued
 pub closed_more : (is more : List Issue) (os : List Operation) → Differ (is ++ more) → ClosedSet is os → ClosedSet (is ++ more) os
 closed_more is more os d c = record {
   within = λ o h. in_more is more o (c.within o h);
@@ -74,11 +74,11 @@ closed_more is more os d c = record {
   ];
 }
 
--- the issue of an operation where these were held
+-- the issue of an operation at a node with this set
 abbrev pub issue_at : List Operation → Operation → Issue
 issue_at os o = record { operation = o; before = os }
 
--- a closed set stays so with the operation that is issued where it is held
+-- a closed set stays closed with the operation that its holder issues
 pub closed_push : (is : List Issue) (os : List Operation) (o : Operation) → Differ (is ++ issue_at os o ∷ []) → ClosedSet is os → ClosedSet (is ++ issue_at os o ∷ []) (os ++ o ∷ [])
 closed_push is os o d c =
     let j = issue_at os o in
@@ -99,7 +99,7 @@ closed_push is os o d c =
       ];
     }
 
--- ---- issues that are as they should be
+-- ---- good issues
 pub record IssueOk (is : List Issue) (i : Issue) : Type 0 where
   pub set : ClosedSet is i.before
   pub next : IsNextAfter i.before i.operation
@@ -118,7 +118,7 @@ issues_push is os o d ok c next i m =
       ]
     ]
 
--- what holds after operations were issued one after another where a set was held
+-- the invariant after operations were issued one after another at a node with this set
 pub record IssuedAll (is : List Issue) (os more : List Operation) : Type 0 where
   pub issues : IssuesOk (is ++ issues_of os more)
   pub set : ClosedSet (is ++ issues_of os more) (os ++ more)

@@ -1,5 +1,5 @@
--- What a node has of another's log. A node is seen with its last incarnation, and its set where it runs. It is seen
--- with the sets that the states of its log mean, the oldest first.
+-- The part of a node's log that another node has. A node is seen with its last incarnation, its set if it runs, and the
+-- sets that the states of its log mean, oldest first.
 use Rattle.std.proofs.Common.{◌≡◌, ℕ, ◌<◌, ◌≤◌, ◌⊎◌, true, false, inl, inr, List, [], ◌++◌, length, take, max, Option, Some, refl, sym, ap, subst, ◌∙◌, append-nil, le_trans, le_refl, arith, leb, leb-true, leb-false}
 use Rattle.std.proofs.lemmas.List.{take-append-le, length-append}
 use Rattle.dac_operations.specs.Operations.{Operation}
@@ -13,7 +13,7 @@ pub record Seen : Type 0 where
   pub on : Option NodeSet
   pub entries : Entries
 
--- what a node that is still in its incarnation was before: its set and its log were beginnings of these
+-- the earlier value of a node still in its incarnation: a part of this set, and a prefix of this log
 pub record Extends (x y : Seen) (now : NodeSet) : Type 0 where
   pub then : NodeSet
   pub was : x.on ≡ Some then
@@ -32,7 +32,7 @@ Later-self x = record {
   same = λ _ now e. record { then = now; was = e; within = λ o i. i; more = []; entries = sym (append-nil x.entries) };
 }
 
--- a node goes on in its incarnation with more
+-- a node's set and log grow in its incarnation
 pub later_more : (x : Seen) (then now : NodeSet) (last : ℕ) (es more : Entries) → x.last ≡ last → x.on ≡ Some then → x.entries ≡ es → AreOperationsOf then.operations now.operations → Later x (record { last = last; on = Some now; entries = es ++ more })
 later_more x then now last es more l on e inside = record {
   last = subst (λ k. x.last ≤ k) l (le_refl x.last);
@@ -45,7 +45,7 @@ later_more x then now last es more l on e inside = record {
   };
 }
 
--- the node has the operation for as long as it runs incarnation i
+-- the node has the operation as long as it runs incarnation i
 pub record Has (x : Seen) (i : ℕ) (o : Operation) : Type 0 where
   pub old : i ≤ x.last
   pub has : (now : NodeSet) → x.on ≡ Some now → x.last ≡ i → IsOperationOf o now.operations
@@ -67,12 +67,12 @@ Has-later x y i o h l = record {
 longer : (b : ℕ) (es more fs : Entries) → b ≤ length es → fs ≡ es ++ more → b ≤ length fs
 longer b es more fs short is = let all = length-append es more in subst (λ (l : Entries). b ≤ length l) (sym is) (omega arith)
 
--- the first sets stay when more come
+-- the first sets stay when more are added
 first_sets : (b : ℕ) (es more fs : Entries) → b ≤ length es → fs ≡ es ++ more → take b fs ≡ take b es
 first_sets b es more fs short is = ap (take b) is ∙ take-append-le b es more short
 
--- While node x runs incarnation j, its log has b states. Node y has the operations of these for as long as it runs
--- incarnation i.
+-- While node x runs incarnation j, its log has at least b states. Node y has the operations of the first b as long as
+-- it runs incarnation i.
 pub record Covered (x y : Seen) (j b i : ℕ) : Type 0 where
   pub old : j ≤ x.last
   pub short : (now : NodeSet) → x.on ≡ Some now → x.last ≡ j → b ≤ length x.entries
@@ -91,7 +91,7 @@ Covered-later x x' y y' j b i c lx ly = record {
       Has-later y y' i o (c.has g.then g.was first o (subst (λ es. IsOperationOf o (gathered es)) (first_sets b x.entries g.more x'.entries short g.entries) at)) ly;
 }
 
--- the greater of two numbers
+-- a log covered up to two numbers is covered up to the greater
 pub Covered-max : (x y : Seen) (j a b i : ℕ) → Covered x y j a i → Covered x y j b i → Covered x y j (max a b) i
 Covered-max x y j a b i c d = elim (greater_is a b) [
   | inl e ↦ subst (λ n. Covered x y j n i) (sym e) c
@@ -110,7 +110,7 @@ Covered-max x y j a b i c d = elim (greater_is a b) [
         other : b < a → max a b ≡ a
         other h = omega arith
 
--- A message from x in its incarnation j: its log had this number of states, and the copy has the operations of them all.
+-- A message from incarnation j of x: its log had this number of states, and the copy has the operations of all of them.
 pub record Sent (x : Seen) (j number : ℕ) (operations : List Operation) : Type 0 where
   pub old : j ≤ x.last
   pub short : (now : NodeSet) → x.on ≡ Some now → x.last ≡ j → number ≤ length x.entries
@@ -129,7 +129,7 @@ Sent-later x x' j b os c lx = record {
       c.has g.then g.was first o (subst (λ es. IsOperationOf o (gathered es)) (first_sets b x.entries g.more x'.entries short g.entries) at);
 }
 
--- who unites such a copy has what the sender's log had
+-- a node that unites such a copy has the log that the sender had
 pub Sent-covers : (x y : Seen) (j number : ℕ) (operations : List Operation) → Sent x j number operations → (now : NodeSet) → y.on ≡ Some now → AreOperationsOf operations now.operations → Covered x y j number y.last
 Sent-covers x y j b os c now on inside = record {
   old = c.old;

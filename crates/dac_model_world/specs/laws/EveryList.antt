@@ -1,4 +1,4 @@
--- The model's run of a list is a run, and what every run leaves holds of it.
+-- The model's run of a list is a run, and has the properties of every run.
 use Rattle.std.proofs.Common.{◌≡◌, ℕ, ◌<◌, ◌≤◌, true, false, cond, List, [], ◌∷◌, map, Some, None, inl, refl, sym, ap, subst, ◌∙◌, arith, ltb-true, ltb-false}
 use Rattle.std.specs.Prelude.{nat_lt}
 use Rattle.std.specs.List.{slice_get, range_with_len}
@@ -28,7 +28,7 @@ is_enough t w (e ∷ es) = (enough_memory t w e, is_enough t (happens t w e).wor
 pub runs_each_list : RunsEachList
 runs_each_list t events = own_run t (start t) events
 
--- the item of each place of a list that is made by places
+-- the item at each place of a list made by places
 made_at : {X : Type 0} (f : ℕ → X) (count n : ℕ) → slice_get (map f (range_with_len 0 count)) n ≡ cond (nat_lt n count) (Some (f n)) None
 made_at f count n =
     let xs = map f (range_with_len 0 count) in

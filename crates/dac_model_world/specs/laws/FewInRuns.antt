@@ -1,4 +1,4 @@
--- A running node has no more deltas than its answers tell.
+-- A running node has no more deltas than its results account for.
 use Rattle.std.proofs.Common.{◌≡◌, ℕ, ◌≤◌, ◌+◌, Bool, true, false, not, cond, List, [], ◌∷◌, ◌++◌, length, Option, Some, None, Result, Ok, Err, inl, inr, nat_eq, refl, sym, ap, subst, ◌∙◌, le_refl, arith}
 use Rattle.std.specs.Prelude.{nat_lt}
 use Rattle.std.proofs.lemmas.Map.Views.{exact_unsigned_eq}
@@ -20,7 +20,7 @@ use Rattle.dac_messages.specs.declared.event.Event.TheVariants.{Boot, Crash, Com
 use Rattle.dac_messages.specs.declared.reply.Reply.{Reply}
 use Rattle.dac_messages.specs.declared.reply.Reply.TheVariants.{Booted, Heard}
 use Rattle.dac_events.specs.declared.refusal.Refusal.TheVariants.{NoMemory}
-use Rattle.dac_model_node.specs.Ticks.{turn_of}
+use Rattle.dac_model_node.specs.Ticks.{sweep_of}
 use Rattle.dac_model_node.specs.NodeValue.{RunningValue}
 use Rattle.dac_model_node.specs.ModelNode.{ModelNode, ModelRunning, joined, shown, running_shown}
 use Rattle.dac_model_node.specs.EventRefusals.{refusal_of}
@@ -38,7 +38,7 @@ use Rattle.dac_model_world.specs.laws.Carried.{none_some}
 abbrev pub IsFew : (NodeId → ℕ) → ModelWorld → Type 0
 IsFew deltas w = (n : NodeId) (r : ModelRunning) → (w.node n).running ≡ Some r → length r.log ≤ deltas n
 
--- ---- what a transition adds
+-- ---- the deltas that a transition adds
 abbrev AddsFew : Transition → Type 0
 AddsFew transition = (before : ℕ) → before + length transition.adds ≤ deltas_after before (Ok transition.reply)
 
@@ -48,7 +48,7 @@ brings_few s body before = elim (is_below body s) as (λ b. before + length (con
 tick_adds : (opening : Opening) (t : Table) (r : RunningValue) (noted : List (Option Noted)) (now : ℕ) → AddsFew (ticks_by opening t r noted now)
 tick_adds Shut t r noted now before = omega arith
 tick_adds GiveUp t r noted now before = omega arith
-tick_adds Opened t r noted now before = let ops = (turn_of t r.origin noted now r.state).ops in together before _ _ (length-map ops (λ (o : Operation). meaning_of (o ∷ [])))
+tick_adds Opened t r noted now before = let ops = (sweep_of t r.origin noted now r.state).ops in together before _ _ (length-map ops (λ (o : Operation). meaning_of (o ∷ [])))
   where
     together : (b m k : ℕ) → m ≡ k → b + m ≤ b + k
     together b m k e = omega arith
@@ -65,7 +65,7 @@ transition_adds t r noted (HearOp o) before = brings_few r.state (meaning_of (o 
 at_most : (q l a m k : ℕ) → q ≡ l + a → l ≤ m → m + a ≤ k → q ≤ k
 at_most q l a m k e p f = omega arith
 
--- what runs after it
+-- the node after a transition
 goes_few : (r : ModelRunning) (note : Note) (transition : Transition) (before : ℕ) → length r.log ≤ before → AddsFew transition → (q : ModelRunning) → goes_on r note transition ≡ Some q → length q.log ≤ deltas_after before (Ok transition.reply)
 goes_few r note transition before few adds q e = by_off transition.goes_off _ refl e
   where

@@ -1,4 +1,4 @@
--- How the program's world follows the model worlds that show as it.
+-- The program's world follows the model worlds that show as it.
 use Rattle.std.proofs.Common.{◌≡◌, ℕ, ◌<◌, ◌-◌, Bool, true, false, cond, inl, inr, List, ◌∷◌, ◌++◌, Option, Some, None, Result, Ok, Err, length, nat_eq, refl, sym, ap, subst, ◌∙◌, lt-ltb, eq-eqb, get_or, true≢false}
 use Rattle.std.specs.Prelude.{nat_lt, unwrap_or, IsOk, IfOk, IfErr, IfSome, OnErr}
 use Rattle.std.specs.Option.{option_map}
@@ -42,7 +42,7 @@ node_shown t w v h me old lt is =
     let inside : nat_lt me.0 w.count ≡ true = ap (nat_lt me.0) (sym h.count) ∙ lt-ltb me.0 (length v.nodes) lt in
     some_same (shown t (w.node me)) old (sym (ap (λ b. cond b (Some (shown t (w.node me))) None) inside) ∙ (sym (h.nodes me.0) ∙ is))
 
--- a step of the world where the node's step is known
+-- the world's step, from the node's
 by_step : (t : Table) (w : ModelWorld) (me : NodeId) (e : Event) (s : Stepped) → model_step t me (w.node me) e ≡ s → happens_by t w me (Ok e) ≡ answered_by w me s.node s.answer
 by_step t w me e s is = ap (λ (x : Stepped). answered_by w me x.node x.answer) is
 
@@ -50,7 +50,7 @@ is_ok_accepted : (t : Table) (w : ModelWorld) (me : NodeId) (last : ℕ) (runnin
 is_ok_accepted t w me last None e = refl
 is_ok_accepted t w me last (Some r) e = refl
 
--- what the program knows of the node where an event happens
+-- the node at which an event happens, in the program's world
 pub record Here (v : WorldValue) (me : NodeId) (old : NodeValue) : Type 0 where
   pub inside : me.0 < length v.nodes
   pub there : slice_get v.nodes me.0 ≡ Some old
@@ -58,7 +58,7 @@ pub record Here (v : WorldValue) (me : NodeId) (old : NodeValue) : Type 0 where
 refusal_same : (t : Table) (w : ModelWorld) (v : WorldValue) → Shows t w v → (me : NodeId) (e : Event) (old : NodeValue) → Here v me old → refusal_of t (shown t (w.node me)) e ≡ refusal_of t old e
 refusal_same t w v h me e old here = ap (λ x. refusal_of t x e) (node_shown t w v h me old here.inside here.there)
 
--- only a crash is answered so
+-- only a crash has this reply
 tick_stays : (opening : Opening) (t : Table) (r : RunningValue) (noted : List (Option Noted)) (now : ℕ) → ◌≡◌ {A = Result Reply Refusal} (Ok (ticks_by opening t r noted now).reply) (Ok Crashed) → ⊥
 tick_stays Shut t r noted now h = cc
 tick_stays GiveUp t r noted now h = cc
@@ -74,7 +74,7 @@ crash_at_node : (w : ModelWorld) (me : NodeId) (d : ModelNode) (a : Result Reply
 crash_at_node w me d (Ok reply) h = cc
 crash_at_node w me d (Err why) h = cc
 
--- an accepted event that is answered so leaves the node off
+-- an accepted event with this reply turns the node off
 pub crash_goes_off : (t : Table) (me : NodeId) (old : NodeValue) (e : Event) (new : NodeValue) (own : Reply) → AcceptedAs t me old e new own → own ≡ Crashed → new.running ≡ None
 crash_goes_off t me old e new own p is = ap (λ (x : NodeValue). x.running) p.left ∙ by_run old.last old.running e (sym p.reply ∙ is)
   where
@@ -84,7 +84,7 @@ crash_goes_off t me old e new own p is = ap (λ (x : NodeValue). x.running) p.le
     by_run last (Some r) (Tick now) h = absurd (tick_stays (opening_at t r now) t r p.noted now (ap (λ x. Ok x) h))
     by_run last (Some r) _ h = cc
 
--- memory was refused for an event that isn't refused and is no crash
+-- an allocation failed for an accepted event that is no crash
 lacked_follows : (t : Table) (v : WorldValue) (me : NodeId) (e : Event) (old : NodeValue) → Here v me old → refusal_of t old e ≡ None → (e ≡ Crash → ⊥) → Follows t v (λ w. happens_by t w me (Ok e)) out_of_memory v
 lacked_follows t v me e old here none stays = record {
   each = λ w h.
@@ -112,7 +112,7 @@ refused_follows t v me e old why here some = record {
       (w, (inl (record { answered = ap (λ (s : WorldStepped). s.answer) (sym all); went_on = ap (λ (s : WorldStepped). s.world) (sym all) }), h));
 }
 
--- what a node refuses, or lacks memory for; at a crash it only says that it is off
+-- a refusal, or a failed allocation; a crash can only be refused because the node is off
 err_follows : (t : Table) (v : WorldValue) (me : NodeId) (e : Event) (old : NodeValue) (why : Refusal) → Here v me old → why ≡ unwrap_or (refusal_of t old e) NoMemory → (e ≡ Crash → why ≡ Off) →
     Follows t v (λ w. happens_by t w me (Ok e)) (Err (Refused why)) v
 err_follows t v me e old why here is crash =
@@ -133,7 +133,7 @@ changed_at nodes me old become there x is n =
       | false ↦ λ e. refl
     ] refl
 
--- what an accepted event leaves
+-- the world after an accepted event
 ok_follows : (t : Table) (v u : WorldValue) (me : NodeId) (e : Event) (old : NodeValue) (become : NodeValue → NodeValue) (own : Reply) (reply : Reply) → Here v me old → AcceptedAs t me old e (become old) own → Goes v me become own reply u → Follows t v (λ w. happens_by t w me (Ok e)) (Ok reply) u
 ok_follows t v u me e old become own reply here p goes = record {
   each = λ w h.
@@ -169,13 +169,13 @@ ok_follows t v u me e old become own reply here p goes = record {
     at w new n inside = pick w new (numbered n) (nat_eq n me.0) (nat_lt n w.count) (λ x. ap (λ k. nat_lt k w.count) (exact_unsigned_eq n me.0 x) ∙ inside)
 
 -- ---- from a node's event to the world's
--- the same step, said of the world that shows as v
+-- the same step, of the world that shows as v
 follows_by : (t : Table) (v u : WorldValue) (answer : Result Reply WorldFault) (f g : ModelWorld → WorldStepped) → ((w : ModelWorld) → Shows t w v → f w ≡ g w) → Follows t v f answer u → Follows t v g answer u
 follows_by t v u answer f g same h = record {
   each = λ w s. let r = h.each w s in (r.0, (subst (λ x. Step w x answer r.0) (same w s) r.1.0, r.1.1));
 }
 
--- an event at a node that there is
+-- an event at an existing node
 happens_at : (t : Table) (v : WorldValue) (e : WorldEvent) → e.node.0 < length v.nodes → (w : ModelWorld) → Shows t w v → happens_by t w e.node (event_of v.operations v.messages e.what) ≡ happens t w e
 happens_at t v e lt w h =
     let inside : nat_lt e.node.0 w.count ≡ true = ap (nat_lt e.node.0) (sym h.count) ∙ lt-ltb e.node.0 (length v.nodes) lt in
@@ -192,7 +192,7 @@ counted_there xs k x some lt read =
     ap (λ b. cond b None (slice_get xs (k - 1))) (false_from_ne_true (nat_eq k 0) (λ e. some (exact_unsigned_eq k 0 e)))
     ∙ slice_get_read xs (length xs) (k - 1) x refl lt read
 
--- what comes of a prepared change: all of it, or `NoMemory` and nothing
+-- a prepared change is applied, or fails with `NoMemory` and changes nothing
 gone_follows : (t : Table) (v u : WorldValue) (me : NodeId) (e : Event) (old : NodeValue) (become : NodeValue → NodeValue) (own : Reply) (answer : Result Reply WorldFault) → Here v me old → AcceptedAs t me old e (become old) own →
     IfOk answer (λ reply. Goes v me become own reply u) → IfErr answer (λ fault. Err fault ≡ out_of_memory) → IfErr answer (λ _. own ≡ Crashed → ⊥) → OnErr answer (u ≡ v) → Follows t v (λ w. happens_by t w me (Ok e)) answer u
 gone_follows t v u me e old become own (Ok reply) here p goes lacked stays same = ok_follows t v u me e old become own reply here p goes
@@ -200,7 +200,7 @@ gone_follows t v u me e old become own (Err fault) here p goes lacked stays same
     subst (λ x. Follows t v (λ w. happens_by t w me (Ok e)) x u) (sym lacked)
     (subst (λ x. Follows t v (λ w. happens_by t w me (Ok e)) out_of_memory x) (sym same) (lacked_follows t v me e old here p.accepted (λ c. stays (p.reply ∙ crashes c))))
   where
-    -- an accepted crash is at a running node
+    -- an accepted crash happens at a running node
     at_run : (last : ℕ) (running : Option RunningValue) → refusal_by t last running Crash ≡ None → reply_by t me last running p.noted Crash ≡ Crashed
     at_run last None none = cc
     at_run last (Some r) none = refl
@@ -208,8 +208,8 @@ gone_follows t v u me e old become own (Err fault) here p goes lacked stays same
     crashes : e ≡ Crash → reply_by t me old.last old.running p.noted e ≡ Crashed
     crashes c = ap (reply_by t me old.last old.running p.noted) c ∙ at_run old.last old.running (ap (refusal_by t old.last old.running) (sym c) ∙ p.accepted)
 
--- ---- what an event at a node does
--- what the event brings is what the node has heard from then on, beside what it had
+-- ---- the effect of an event at a node
+-- the node has heard what it had and what the event brings
 goes_hears : (t : Table) (v u : WorldValue) (me : NodeId) (e : Event) (old : NodeValue) (become : NodeValue → NodeValue) (own : Reply) (reply : Reply) → Here v me old → AcceptedAs t me old e (become old) own → Goes v me become own reply u → HearsAt v me e reply u
 goes_hears t v u me e old become own reply here p goes = record {
   hears = λ x y was is.
@@ -226,7 +226,7 @@ same_ok x y e = cc
 no_ok : {X Y P : Type 0} (y : Y) (x : X) → ◌≡◌ {A = Result X Y} (Err y) (Ok x) → P
 no_ok y x e = cc
 
--- what comes of a prepared change
+-- the effect of a prepared change
 pub happens_gone : (t : Table) (v u : WorldValue) (me : NodeId) (e : Event) (old : NodeValue) (become : NodeValue → NodeValue) (own : Reply) (answer : Result Reply WorldFault) → Here v me old → AcceptedAs t me old e (become old) own →
     IfOk answer (λ reply. Goes v me become own reply u) → IfErr answer (λ fault. Err fault ≡ out_of_memory) → IfErr answer (λ _. own ≡ Crashed → ⊥) → OnErr answer (u ≡ v) → HappensAt t v me (Ok e) answer u
 happens_gone t v u me e old become own answer here p goes lacked stays same = record {
@@ -234,7 +234,7 @@ happens_gone t v u me e old become own answer here p goes lacked stays same = re
   hears = λ reply is x at. subst (λ y. HearsAt v me y reply u) (same_ok e x at) (goes_hears t v u me e old become own reply here p (subst (λ a. IfOk a (λ r. Goes v me become own r u)) is goes));
 }
 
--- what comes of a refusal by the node
+-- the effect of a refusal
 pub happens_refused : (t : Table) (v : WorldValue) (me : NodeId) (e : Event) (old : NodeValue) (why : Refusal) → Here v me old → why ≡ unwrap_or (refusal_of t old e) NoMemory → (e ≡ Crash → why ≡ Off) → HappensAt t v me (Ok e) (Err (Refused why)) v
 happens_refused t v me e old why here is crash = record {
   follows = err_follows t v me e old why here is crash;
@@ -242,7 +242,7 @@ happens_refused t v me e old why here is crash = record {
 }
 
 -- ---- from the node to the world
--- the event of the world says what happens at its node
+-- an event of the world is the one at its node
 pub follows_in : (t : Table) (v u : WorldValue) (e : WorldEvent) (answer : Result Reply WorldFault) → e.node.0 < length v.nodes → HappensAt t v e.node (event_of v.operations v.messages e.what) answer u → Follows t v (λ w. happens t w e) answer u
 follows_in t v u e answer lt h = follows_by t v u answer (λ w. happens_by t w e.node (event_of v.operations v.messages e.what)) (λ w. happens t w e) (happens_at t v e lt) h.follows
 

@@ -1,4 +1,4 @@
--- Lists of sets of operations: what a log of states means, each of which is the meaning of a set.
+-- Logs of states as lists of sets of operations, each state the meaning of a set.
 use Rattle.std.proofs.Common.{◌≡◌, ℕ, ◌⊎◌, inl, inr, List, [], ◌∷◌, ◌++◌, length, take, drop, fold, map as list_map, refl, sym, ap, subst, ◌∙◌, append-nil, append_assoc, take-append-drop}
 use Rattle.std.proofs.lemmas.List.{map-append, length-map, drop-map}
 use Rattle.std.specs.FinSet as set
@@ -25,16 +25,16 @@ use Rattle.dac_model_world.specs.laws.Operations.{Agree-within}
 abbrev pub Entries : Type 0
 Entries = List (List Operation)
 
--- the operations of all of them
+-- the operations of all sets
 abbrev pub gathered : Entries → List Operation
 gathered [] = []
 gathered (e ∷ es) = e ++ gathered es
 
--- what each of them means
+-- the meaning of each set
 abbrev pub logged : Entries → List StateValue
 logged es = list_map meaning_of es
 
--- each operation as a set of its own
+-- a set for each operation
 abbrev pub each_alone : List Operation → Entries
 each_alone os = list_map (λ (o : Operation). o ∷ []) os
 
@@ -62,16 +62,16 @@ meaning-none =
     (claims-meaning [])
     (same_drains (drains_of (meaning_of [])) (drains_of bottom) known (λ w. drains-meaning [] w ∙ sym (map.get-empty (keyed_write_cmp origin_cmp) w))))
 
-joined_from : (os : List Operation) (es : Entries) → DotsDetermine (os ++ gathered es) → fold join (meaning_of os) (logged es) ≡ meaning_of (os ++ gathered es)
-joined_from os [] agree = ap meaning_of (sym (append-nil os))
-joined_from os (e ∷ es) agree =
+interval_from : (os : List Operation) (es : Entries) → DotsDetermine (os ++ gathered es) → fold join (meaning_of os) (logged es) ≡ meaning_of (os ++ gathered es)
+interval_from os [] agree = ap meaning_of (sym (append-nil os))
+interval_from os (e ∷ es) agree =
     let apart : (os ++ e) ++ gathered es ≡ os ++ (e ++ gathered es) = append_assoc os e (gathered es) in
     let first : DotsDetermine (os ++ e) = Agree-within (os ++ e) (os ++ (e ++ gathered es)) (λ o i. subst (IsOperationOf o) apart (In-append_left o (os ++ e) (gathered es) i)) agree in
-    ap (λ s. fold join s (logged es)) (join-meaning os e first) ∙ (joined_from (os ++ e) es (subst DotsDetermine (sym apart) agree) ∙ ap meaning_of apart)
+    ap (λ s. fold join s (logged es)) (join-meaning os e first) ∙ (interval_from (os ++ e) es (subst DotsDetermine (sym apart) agree) ∙ ap meaning_of apart)
 
--- the join of what sets mean is what all their operations mean
+-- the join of the sets' meanings is the meaning of all their operations
 pub joined-logged : (es : Entries) → DotsDetermine (gathered es) → joined (logged es) ≡ meaning_of (gathered es)
-joined-logged es agree = ap (λ s. fold join s (logged es)) meaning-none ∙ joined_from [] es agree
+joined-logged es agree = ap (λ s. fold join s (logged es)) meaning-none ∙ interval_from [] es agree
 
 -- ---- the first sets and the rest
 gathered_parts : (n : ℕ) (es : Entries) → gathered es ≡ gathered (take n es) ++ gathered (drop n es)
@@ -87,23 +87,23 @@ gathered_take n es o h = subst (IsOperationOf o) (sym (gathered_parts n es)) (In
 pub gathered_drop : (n : ℕ) (es : Entries) → AreOperationsOf (gathered (drop n es)) (gathered es)
 gathered_drop n es o h = subst (IsOperationOf o) (sym (gathered_parts n es)) (In-append_right o (gathered (take n es)) (gathered (drop n es)) h)
 
--- ---- a log beside a set
--- the states of a log are what sets mean that have together the operations of this one
+-- ---- a log and its set
+-- the states of the log are the meanings of sets that together have these operations
 pub record IsLogOf (log : List StateValue) (os : List Operation) (es : Entries) : Type 0 where
   pub states : log ≡ logged es
   pub all : AreOperationsOf (gathered es) os
   pub some : AreOperationsOf os (gathered es)
 
--- the log of a set joins to what the set means
+-- the log of a set joins to the set's meaning
 pub log_means : (log : List StateValue) (os ops : List Operation) (es : Entries) → AreOperationsOf os ops → DotsDetermine ops → IsLogOf log os es → joined log ≡ meaning_of os
 log_means log os ops es inside agree h =
     ap joined h.states ∙ (joined-logged es (Agree-within (gathered es) ops (λ o i. inside o (h.all o i)) agree) ∙ meaning-same (gathered es) os h.all h.some)
 
--- how many states the log has
+-- the length of the log
 pub log_length : (log : List StateValue) (os : List Operation) (es : Entries) → IsLogOf log os es → length log ≡ length es
 log_length log os es h = ap length h.states ∙ length-map es meaning_of
 
--- the log from a number on joins to what the sets from there on mean
+-- the rest of the log after a number joins to the meaning of the rest of the sets
 pub rest_means : (log : List StateValue) (os ops : List Operation) (es : Entries) (n : ℕ) → AreOperationsOf os ops → DotsDetermine ops → IsLogOf log os es → joined (drop n log) ≡ meaning_of (gathered (drop n es))
 rest_means log os ops es n inside agree h =
     ap (λ (l : List StateValue). joined (drop n l)) h.states
@@ -119,7 +119,7 @@ log_more log states os more es fs h is inside there =
       some = λ o i. elim (In-append_cases o os more i) [ inl a ↦ subst (IsOperationOf o) (sym parts) (In-append_left o (gathered es) (gathered fs) (h.some o a)) | inr b ↦ there o b ];
     }
 
--- the log of a node that issues operations, each of which is one state more
+-- the log of a node grows by one state for each operation issued
 pub log_issued : (log : List StateValue) (os more : List Operation) (es : Entries) → IsLogOf log os es → IsLogOf (log ++ meanings more) (os ++ more) (es ++ each_alone more)
 log_issued log os more es h =
     let all = gathered_alone more in

@@ -1,4 +1,4 @@
--- What every run leaves, from the induction over runs.
+-- The properties of every run, from the induction over runs.
 use Rattle.std.proofs.Common.{◌≡◌, suc, List, [], ◌∷◌, length, Option, Some, None, refl, sym, ap, subst, ◌∙◌}
 use Rattle.std.specs.Option.{option_map}
 use Rattle.std.specs.List.{slice_get}
@@ -87,7 +87,7 @@ alike s u same = record {
   candidates = λ t app. ap (λ x. candidate_of (verdict_of t x app)) same;
 }
 
--- states that are meanings of what they heard are alike where they heard the same
+-- states that are the meanings of what they heard are alike if they heard the same
 pub agrees : (v : WorldValue) → EachIsMeaning v → Agrees v
 agrees v h = record {
   each = λ m n s u a b same. alike s u (h.each m s a ∙ (ap (λ heard. meaning_of (heard_among heard v.operations)) same ∙ sym (h.each n u b)));
@@ -113,7 +113,7 @@ lists_all t w v s shows h = record {
   copies = copies-length w.operations (seen w.node s.node h.entries) w.messages s.copies h.copies ∙ ap length (sym shows.messages);
 }
 
--- what every run leaves
+-- the properties of every run
 pub converged : (t : Table) (events : List WorldEvent) (answers : List Answer) (v : WorldValue) → RanAs t events answers v → Converges t events answers v
 converged t events answers v r =
     let h = sound_run t (start t) no_sets events answers r.final (sound_start t) r.run in

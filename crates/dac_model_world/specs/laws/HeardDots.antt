@@ -1,4 +1,4 @@
--- Among the meanings of issued operations, heard dots are the order.
+-- Heard dots decide the order of the meanings of issued operations.
 use Rattle.std.proofs.Common.{◌≡◌, true, List, [], ◌∷◌, inl, refl, sym, subst}
 use Rattle.std.specs.Prelude.{◌↔◌, IsTrue}
 use Rattle.std.specs.FinSet as set
@@ -12,7 +12,7 @@ use Rattle.dac_model_world.specs.Made.{HeardDotsAreOrder, OneDotIsOrder}
 use Rattle.dac_model_world.specs.laws.Operations.{one_in, DistinctDots-agree}
 use Rattle.dac_model_world.specs.laws.Meanings.{heard_in, below_where_heard}
 
--- of the sets' meanings
+-- the order of the meanings of two sets
 sets_by_dots : (ops os ps : List Operation) → DotsDetermine ops → AreOperationsOf ps ops → AreOperationsOf os ops → IsTrue (is_below (meaning_of ps) (meaning_of os)) ↔ IsSubset (meaning_of ps).heard (meaning_of os).heard
 sets_by_dots ops os ps agree v w = (
   λ t. ((is_below-is (meaning_of ps) (meaning_of os)).1 t).heard,

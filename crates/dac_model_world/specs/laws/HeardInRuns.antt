@@ -1,4 +1,4 @@
--- What fits a running node is heard, unless memory is refused or its numbers of deltas are used up.
+-- A running node hears what fits it, unless an allocation fails or its delta numbers are used up.
 use Rattle.std.proofs.Common.{◌≡◌, ◌⊎◌, ◌<◌, ◌≤◌, ℕ, zero, suc, ◌+◌, ◌-◌, Bool, true, false, not, cond, ◌&&◌, List, [], ◌∷◌, length, Option, Some, None, Result, Ok, Err, inl, inr, nat_eq, refl, sym, ap, subst, ◌∙◌, true≢false, ltb-true, arith}
 use Rattle.std.specs.Prelude.{nat_lt}
 use Rattle.std.specs.Option.{option_map, option_map_or}
@@ -43,11 +43,11 @@ use Rattle.dac_model_world.specs.laws.Sound.{Answer, Sound, seen, held_at, sound
 use Rattle.dac_model_world.specs.laws.FewInRuns.{IsFew, few_step}
 
 -- ---- only nodes of the configuration run
--- whether a number is a node's
+-- nodes with sets have numbers below the count
 abbrev pub Inside : ℕ → SetWorld → Type 0
 Inside count s = (n : NodeId) → RunsIn s n → nat_lt n.0 count ≡ true
 
--- node n's set is replaced
+-- replacing the set of node n
 inside_with : (count : ℕ) (n : NodeId) (held : Option NodeSet) (s : SetWorld) (issued : List Issue) (copies : List Copy) → nat_lt n.0 count ≡ true → Inside count s → Inside count (record { node = with_set s.node n held; issued = issued; copies = copies })
 inside_with count n held s issued copies here h m =
     elim (nat_eq m.0 n.0) as (λ b. nat_eq m.0 n.0 ≡ b → (set : NodeSet) × (cond b held (s.node m) ≡ Some set) → nat_lt m.0 count ≡ true) [
@@ -85,7 +85,7 @@ inside_step : (t : Table) (w : ModelWorld) (s : SetWorld) (e : WorldEvent) (a : 
 inside_step t w s e a next h (inl d) = subst (λ (p : ModelWorld × Answer). Inside p.0.count (set_step s e.node e.what p.1)) (λ i. (sym d.went_on i, sym d.answered i)) (inside_happens t w s h e)
 inside_step t w s e a next h (inr l) = subst (λ (p : ModelWorld × Answer). Inside p.0.count (set_step s e.node e.what p.1)) (λ i. (sym l.stayed i, sym l.answered i)) h
 
--- ---- a running node and what comes to it
+-- ---- a running node and a delivery to it
 -- the message of a copy
 copy_there : (ops : List Operation) (v : NodeId → Seen) (ms : List Message) (cs : List Copy) (k : ℕ) (c : Copy) → CopiesOk ops v ms cs → slice_get cs k ≡ Some c → (m : Message) × ((slice_get ms k ≡ Some m) × CopyOk ops v m c)
 copy_there ops v ms [] k c h e = none_some e
@@ -103,15 +103,15 @@ copy_counted ops v ms cs k c h e =
 for_it : (a b c d : Bool) → a ≡ false → b ≡ true → c ≡ true → first ((a, OnSelf) ∷ (not (b && c), NotForMe) ∷ (d, DotsUsedUp) ∷ []) ≡ first ((d, DotsUsedUp) ∷ [])
 for_it a b c d p q r = λ i. first ((p i, OnSelf) ∷ (not (q i && r i), NotForMe) ∷ (d, DotsUsedUp) ∷ [])
 
-turned : (b : Bool) → not b ≡ true → b ≡ false
-turned true h = absurd (true≢false (sym h))
-turned false h = refl
+swept : (b : Bool) → not b ≡ true → b ≡ false
+swept true h = absurd (true≢false (sym h))
+swept false h = refl
 
 right : (a b : Bool) → (a && b) ≡ true → b ≡ true
 right true b h = h
 right false b h = absurd (true≢false (sym h))
 
--- what is heard, or comes to a node whose numbers of deltas are used up
+-- the delivery is heard, or the node's delta numbers are used up
 abbrev pub Outcome : ℕ → Answer → Type 0
 Outcome count a = IsHeard a ⊎ IsFull count a
 
@@ -123,24 +123,24 @@ module _ (t : Table) (w : ModelWorld) (s : SetWorld) (h : Sound w s) (deltas : N
       by_run None on e = none_some e
       by_run (Some r) on e = (r, on)
 
-  -- what isn't refused and is answered as heard
+  -- an accepted event whose result says that it was heard
   heard_free : (e : Event) (r : ModelRunning) (fresh : Bool) → (w.node n).running ≡ Some r → refusal_of t (shown t (w.node n)) e ≡ None → (transition_on t r e).reply ≡ Heard fresh → IsHeard (happens_by t w n (Ok e)).answer
   heard_free e r fresh on none is = (fresh, ap (λ (st : Stepped). (answered_by w n st.node st.answer).answer) (step_accepted t n (w.node n) e none ∙ ap (λ running. accepted t n (w.node n).last running e) on) ∙ ap (λ reply. Ok reply) is)
 
-  -- a node that lacks a number has as many deltas as have numbers
+  -- a node without numbers left has as many deltas as there are numbers
   is_full : (r : ModelRunning) → (w.node n).running ≡ Some r → too_many_deltas (running_shown t r) 1 ≡ true → MAX_COUNTER ≤ deltas n
   is_full r on e = at_most MAX_COUNTER (length r.log) (deltas n) (ltb-true MAX_COUNTER (length r.log + 1) e) (few n r on)
     where
       at_most : (m c k : ℕ) → m < c + 1 → c ≤ k → m ≤ k
       at_most m c k a b = omega arith
 
-  -- what is refused only where a number is lacking
+  -- an event refused only if no number is left
   heard_or_full : (e : Event) (r : ModelRunning) (fresh : Bool) (full : Bool) → (w.node n).running ≡ Some r → (full ≡ true → too_many_deltas (running_shown t r) 1 ≡ true) → refusal_of t (shown t (w.node n)) e ≡ first ((full, DotsUsedUp) ∷ []) → (transition_on t r e).reply ≡ Heard fresh →
       Outcome (deltas n) (happens_by t w n (Ok e)).answer
   heard_or_full e r fresh true on lacks why is = inr (ap (λ x. let st = step_by x t n (w.node n) e in (answered_by w n st.node st.answer).answer) why, is_full r on (lacks refl))
   heard_or_full e r fresh false on lacks free is = inl (heard_free e r fresh on free is)
 
-  -- a message for the node is refused only where it overflows
+  -- a message for the node is refused only if it overflows
   message_free : (k : ℕ) (fits : IsCopyFor s n k) (m : Message) (r : ModelRunning) → (w.node n).running ≡ Some r → CopyOk w.operations (seen w.node s.node h.entries) m fits.copy →
       refusal_of t (shown t (w.node n)) (Hear m) ≡ first ((overflows (running_shown t r) (content_of m.body), DotsUsedUp) ∷ [])
   message_free k fits m r on copy =
@@ -152,7 +152,7 @@ module _ (t : Table) (w : ModelWorld) (s : SetWorld) (h : Sound w s) (deltas : N
       let rest = and_parts (not (nat_eq m.from.node.0 n.0)) (option_map_or (λ inc. nat_eq inc last) m.only true) to.1 in
       ap (λ running. refusal_by t last (option_map (running_shown t) running) (Hear m)) on
       ∙ (ap (λ (q : Origin). first ((nat_eq m.from.node.0 q.node.0, OnSelf) ∷ (not (nat_eq m.to.0 q.node.0 && option_map_or (λ inc. nat_eq inc q.inc) m.only true), NotForMe) ∷ (overflows (running_shown t r) (content_of m.body), DotsUsedUp) ∷ [])) held.mine
-      ∙ for_it (nat_eq m.from.node.0 n.0) (nat_eq m.to.0 n.0) (option_map_or (λ inc. nat_eq inc last) m.only true) (overflows (running_shown t r) (content_of m.body)) (turned (nat_eq m.from.node.0 n.0) rest.0) to.0 rest.1)
+      ∙ for_it (nat_eq m.from.node.0 n.0) (nat_eq m.to.0 n.0) (option_map_or (λ inc. nat_eq inc last) m.only true) (overflows (running_shown t r) (content_of m.body)) (swept (nat_eq m.from.node.0 n.0) rest.0) to.0 rest.1)
 
   heard_by_node : (what : What) → RunsIn s n → Fits s n what → Outcome (deltas n) (happens_by t w n (event_of w.operations w.messages what)).answer
   heard_by_node (Deliver k) runs fits =
@@ -183,6 +183,6 @@ heard_along t w s deltas (e ∷ es) (a ∷ answers) final h few inside run =
     let r = run_first t w e es a answers final run in
     (heard_step t w s deltas e a r.0 h few inside r.1.0, heard_along t r.0 (set_step s e.node e.what a) (deltas_with deltas e.node a) es answers final (sound_step t w s e a r.0 h r.1.0) (few_step t w deltas e a r.0 few r.1.0) (inside_step t w s e a r.0 inside r.1.0) r.1.1)
 
--- in every run of the model world, from the start
+-- running nodes hear what fits them in every run of the model world from the start
 pub heard_run : (t : Table) (es : List WorldEvent) (answers : List Answer) (final : ModelWorld) → Run t (start t) es answers final → HearsAllThatFits no_sets no_deltas es answers
 heard_run t es answers final r = heard_along t (start t) no_sets no_deltas es answers final (sound_start t) (λ n q e. none_some e) (λ n runs. none_some runs.1) r

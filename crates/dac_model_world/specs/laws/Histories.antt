@@ -13,7 +13,7 @@ use Rattle.dac_model_world.specs.Histories.{Entry, IsHistory}
 ok_err : {P : Type 0} (reply : Reply) (why : Refusal) → ◌≡◌ {A = Result Reply Refusal} (Ok reply) (Err why) → P
 ok_err reply why e = cc
 
--- an event that isn't refused is answered by a reply
+-- the result of an accepted event is a reply
 accepted_ok : {P : Type 0} (t : Table) (me : NodeId) (d : ModelNode) (running : Option ModelRunning) (e : Event) (why : Refusal) → (accepted t me d.last running e).answer ≡ Err why → P
 accepted_ok t me d None e why is = ok_err _ why is
 accepted_ok t me d (Some r) e why is = ok_err _ why is
@@ -26,7 +26,7 @@ refused_stays t me d e why is = stays (refusal_of t (shown t d) e) is
     stays (Some least) h = refl
     stays None h = accepted_ok t me d d.running e why h
 
--- a history goes on by one event
+-- a history grows by one event
 pub IsHistory-push : (t : Table) (me : NodeId) (d : ModelNode) (xs : List Entry) (mid : ModelNode) (x : Entry) → IsHistory t me d xs mid → (model_step t me mid x.event).answer ≡ x.answer
     → IsHistory t me d (xs ++ x ∷ []) (model_step t me mid x.event).node
 IsHistory-push t me d [] mid x h is = (ap (λ m. (model_step t me m x.event).answer) (sym h) ∙ is, ap (λ m. (model_step t me m x.event).node) h)

@@ -1,4 +1,4 @@
--- What a node issues is its own, under the next counter of its incarnation.
+-- A node issues its own operations, with consecutive counters of its incarnation.
 use Rattle.std.proofs.Common.{◌≡◌, ℕ, ◌<◌, ◌≤◌, ◌+◌, true, false, cond, List, [], ◌∷◌, ◌++◌, Option, Some, None, Ok, Err, inl, inr, nat_eq, refl, sym, ap, subst, ◌∙◌, eq-eqb, le_refl, arith}
 use Rattle.std.specs.Prelude.{nat_lt}
 use Rattle.std.specs.Option.{option_map}
@@ -21,7 +21,7 @@ use Rattle.dac_messages.specs.declared.event.Event.TheVariants.{Boot, Crash, Com
 use Rattle.dac_commands.specs.Commands.{act_of, next_operation}
 use Rattle.dac_commands.specs.Causes.{refusal_of_command}
 use Rattle.dac_events.specs.declared.world_fault.WorldFault.TheVariants.{NoSuchNode}
-use Rattle.dac_model_node.specs.Ticks.{turn_of}
+use Rattle.dac_model_node.specs.Ticks.{sweep_of}
 use Rattle.dac_model_node.specs.Issued.{AreIssued}
 use Rattle.dac_model_node.specs.ModelNode.{ModelNode, ModelRunning, joined, shown, running_shown}
 use Rattle.dac_model_node.specs.EventRefusals.{refusal_of, refusal_by, refusal_to_tick}
@@ -42,7 +42,7 @@ use Rattle.dac_model_world.specs.laws.Numbering.{InOrder, order_none, order_late
 use Rattle.dac_model_world.specs.laws.Sound.{Answer, Sound, held_at, sound_happens, sound_step}
 
 -- ---- the invariant
--- what was issued is in order, and each running node came up by an operation of its incarnation
+-- the issued operations are in order, and each running node's incarnation has its Up among them
 pub record Numbered (w : ModelWorld) : Type 0 where
   pub order : InOrder w.operations (λ n. (w.node n).last)
   pub came : (n : NodeId) (r : ModelRunning) → (w.node n).running ≡ Some r → IsOperationOf (up (own_origin n (w.node n).last)) w.operations
@@ -63,7 +63,7 @@ module _ (t : Table) (w : ModelWorld) (s : SetWorld) (e : WorldEvent) (h : Sound
   abbrev n : NodeId
   n = e.node
 
-  -- the last incarnations where node n goes on to d
+  -- the last incarnations after node n goes on to d
   abbrev lasts : ModelNode → NodeId → ℕ
   lasts d m = (with_node w.node n d m).last
 
@@ -76,7 +76,7 @@ module _ (t : Table) (w : ModelWorld) (s : SetWorld) (e : WorldEvent) (h : Sound
   alive_at : (d : ModelNode) → d.last ≤ lasts d n
   alive_at d = subst (λ b. d.last ≤ (cond b d (w.node n)).last) (sym (eq-eqb n.0 n.0 refl)) (le_refl d.last)
 
-  -- node n goes on to d; it issues qs and ships ms
+  -- node n goes on to d, issues qs and ships ms
   numbered_next : (d : ModelNode) (qs : List Operation) (ms : List Message) → InOrder (w.operations ++ qs) (lasts d) → ((r : ModelRunning) → d.running ≡ Some r → IsOperationOf (up (own_origin n d.last)) (w.operations ++ qs)) →
       Numbered (record { count = w.count; node = with_node w.node n d; operations = w.operations ++ qs; messages = w.messages ++ ms })
   numbered_next d qs ms order here = record {
@@ -87,7 +87,7 @@ module _ (t : Table) (w : ModelWorld) (s : SetWorld) (e : WorldEvent) (h : Sound
     ] refl;
   }
 
-  -- a node comes up
+  -- a node boots
   booted : IsBoot n (operations_of s.issued) (up (own_origin n ((w.node n).last + 1)))
   booted = record {
     act = refl;
@@ -134,15 +134,15 @@ module _ (t : Table) (w : ModelWorld) (s : SetWorld) (e : WorldEvent) (h : Sound
         } in
         (issued, numbered_next d qs ms all.1 (λ _ _. In-append_left (up (own_origin n last)) w.operations qs (k.came n r on)))
 
-    -- it issues nothing
+    -- a running node issues nothing
     stays : (after : Option ModelRunning) (ms : List Message) → Numbered (record { count = w.count; node = with_node w.node n (record { last = (w.node n).last; running = after }); operations = w.operations ++ []; messages = w.messages ++ ms })
     stays after ms = (goes after [] ms tt tt).1
 
-    claims_next : (noted : List (Option Noted)) (now : ℕ) → refusal_to_tick t (running_shown t r) now ≡ None → let more = (turn_of t r.origin noted now (joined r.log)).ops in DotsDetermine (w.operations ++ more) → AreNext (held_at w s n r h on).set.operations more
+    claims_next : (noted : List (Option Noted)) (now : ℕ) → refusal_to_tick t (running_shown t r) now ≡ None → let more = (sweep_of t r.origin noted now (joined r.log)).ops in DotsDetermine (w.operations ++ more) → AreNext (held_at w s n r h on).set.operations more
     claims_next noted now none agree =
         let held = held_at w s n r h on in
         let os = held.set.operations in
-        let more = (turn_of t r.origin noted now (joined r.log)).ops in
+        let more = (sweep_of t r.origin noted now (joined r.log)).ops in
         let all = w.operations ++ more in
         let inside : AreOperationsOf (os ++ more) all = Within-append os more all (λ o i. In-append_left o w.operations more (held.ok.within o i)) (λ o i. In-append_right o w.operations more i) in
         after_claims t r.origin (joined r.log) os more held.state (Agree-within (os ++ more) all inside agree) (claims_are t r.origin noted now (joined r.log) (leaves_room t (running_shown t r) now none))
@@ -154,10 +154,10 @@ module _ (t : Table) (w : ModelWorld) (s : SetWorld) (e : WorldEvent) (h : Sound
     ticks note noted now Shut none next = (tt, stays _ [])
     ticks note noted now GiveUp none next = (tt, stays _ [])
     ticks note noted now Opened none next =
-        let more = (turn_of t r.origin noted now (joined r.log)).ops in
+        let more = (sweep_of t r.origin noted now (joined r.log)).ops in
         goes _ more [] (are_of r.origin (joined r.log) more (claims_issued t r.origin noted now (joined r.log))) (claims_next noted now none (DistinctDots-agree _ next.distinct))
 
-  -- an event that isn't refused
+  -- an accepted event
   numbered_ok : (at : Event) (running : Option ModelRunning) → refusal_of t (shown t (w.node n)) at ≡ None → (w.node n).running ≡ running →
       let step = accepted t n (w.node n).last running at in
       let by = answered_by w n step.node step.answer in
@@ -200,7 +200,7 @@ numbered_step : (t : Table) (w : ModelWorld) (s : SetWorld) (e : WorldEvent) (a 
 numbered_step t w s e a next h k (inl d) = subst (λ (p : ModelWorld × Answer). TellsIssued s e p.1 × Numbered p.0) (λ i. (sym d.went_on i, sym d.answered i)) (numbered_happens t w s e h k (sound_happens t w s e h))
 numbered_step t w s e a next h k (inr l) = subst (λ (p : ModelWorld × Answer). TellsIssued s e p.1 × Numbered p.0) (λ i. (sym l.stayed i, sym l.answered i)) (tt, k)
 
--- in every run of the model world
+-- nodes issue their own operations in every run of the model world
 pub issued_run : (t : Table) (w : ModelWorld) (s : SetWorld) (es : List WorldEvent) (answers : List Answer) (final : ModelWorld) → Sound w s → Numbered w → Run t w es answers final → TellIssued s es answers × Numbered final
 issued_run t w s [] [] final h k r = (tt, subst Numbered (sym r.1) k)
 issued_run t w s [] (a ∷ answers) final h k r = absurd r.0

@@ -1,5 +1,5 @@
--- Every event leaves a world that is made of issued operations as one. What a node issues has a dot of its own, and what comes
--- to it means operations that were issued.
+-- Every event keeps a world made of issued operations: a node issues operations with new dots, and is brought only
+-- meanings of issued operations.
 use Rattle.std.proofs.Common.{◌≡◌, ℕ, zero, suc, ◌+◌, ◌-◌, Bool, true, false, cond, inl, inr, List, [], ◌∷◌, ◌++◌, Option, Some, None, Ok, nat_eq, fold, refl, sym, ap, subst, ◌∙◌, append-nil, eq-eqb, true≢false}
 use Rattle.std.specs.Prelude.{nat_lt, IfSome}
 use Rattle.std.specs.Option.{option_map}
@@ -30,7 +30,7 @@ use Rattle.dac_messages.specs.declared.reply.Reply.{Reply}
 use Rattle.dac_messages.specs.declared.reply.Reply.TheVariants.{Crashed, GaveUp, Heard}
 use Rattle.dac_model_node.specs.Position.{Position}
 use Rattle.dac_model_node.specs.Peers.{begins, has_all}
-use Rattle.dac_model_node.specs.Ticks.{turn_of}
+use Rattle.dac_model_node.specs.Ticks.{sweep_of}
 use Rattle.dac_model_node.specs.Issued.{AreIssued}
 use Rattle.dac_model_node.specs.NodeValue.{NodeValue, RunningValue, state_of}
 use Rattle.dac_model_node.specs.ModelNode.{shown}
@@ -53,14 +53,14 @@ use Rattle.dac_model_world.specs.laws.OneNode.{Grown, grow, boot_set, boot_fresh
 use Rattle.dac_model_world.specs.laws.Sound.{hears, hears_op, counted_in}
 use Rattle.dac_model_world.specs.laws.Follow.{Here, changed_at}
 
--- ---- what means operations means more of them
+-- ---- a meaning of operations is one of more operations
 means_more : (ops more : List Operation) (s : StateValue) → Means ops s → Means (ops ++ more) s
 means_more ops more s h = record { some = h.some; within = λ o i. In-append_left o ops more (h.within o i); is = h.is }
 
 bodies_more : (ops more : List Operation) (ms : List Message) → BodiesMean ops ms → BodiesMean (ops ++ more) ms
 bodies_more ops more ms h = All-weaker (λ (m : Message). Means ops (content_of m.body)) (λ (m : Message). Means (ops ++ more) (content_of m.body)) (λ m. means_more ops more (content_of m.body)) ms h
 
--- a node that issued none of them
+-- a node that issued none of these operations
 node_more : (ops more : List Operation) (n : NodeId) (x : NodeValue) → ((o : Operation) → IsOperationOf o more → o.dot.origin.node ≡ n → ⊥) → NodeMade ops n x → NodeMade (ops ++ more) n x
 node_more ops more n x far h =
     let old : NoneLater (ops ++ more) n x.last = λ o i t. elim (In-append_cases o ops more i) [ inl a ↦ h.old o a t | inr b ↦ absurd (far o b t) ] in
@@ -82,7 +82,7 @@ node_more ops more n x far h =
     }
 
 -- ---- joins
--- what is joined of such states means operations
+-- joins of such states mean operations
 joins_mean : (ops : List Operation) (s : StateValue) (states : List StateValue) → DotsDetermine ops → Means ops s → All (Means ops) states → Means ops (fold join s states)
 joins_mean ops s [] agree h all = h
 joins_mean ops s (x ∷ states) agree h all =
@@ -99,7 +99,7 @@ joins_mean ops s (x ∷ states) agree h all =
 nothing_means : (ops : List Operation) → Means ops bottom
 nothing_means ops = record { some = []; within = λ o i. absurd i; is = meaning-none }
 
--- deltas that come are kept with the others, and some are dropped
+-- added deltas are kept with the others, and some are dropped
 module _ (P : StateValue → Type 0) where
   kept_fold : (k : KeptDeltas StateValue) (adds : List StateValue) → All P k.deltas → All P adds → All P (fold pushed k adds).deltas
   kept_fold k [] old new = old
@@ -108,7 +108,7 @@ module _ (P : StateValue → Type 0) where
   kept_after : (k : KeptDeltas StateValue) (adds : List StateValue) (trim : ℕ) → All P k.deltas → All P adds → All P (trimmed (fold pushed k adds) trim).deltas
   kept_after k adds trim old new = All-drop P _ (fold pushed k adds).deltas (kept_fold k adds old new)
 
--- what a state brings to another, and what that one is then
+-- the states that a body adds to a state, and their join
 record BringsMade (ops : List Operation) (s body : StateValue) (held : List Operation) : Type 0 where
   delta : List Operation
   within : AreOperationsOf delta ops
@@ -125,19 +125,19 @@ brings_made ops s body held agree is inside m = let r = by in record { delta = r
     ]
 
 -- ---- a step of a node
--- what a step of node n leaves there, and what its reply issues and ships
+-- the node after a step, and the operations and messages of its reply
 record StepMade (ops : List Operation) (n : NodeId) (x : NodeValue) (reply : Reply) : Type 0 where
   distinct : DistinctDots (ops ++ issued_by reply)
   mine : (o : Operation) → IsOperationOf o (issued_by reply) → o.dot.origin.node ≡ n
   node : NodeMade (ops ++ issued_by reply) n x
   shipped : BodiesMean ops (shipped_by reply)
 
--- what runs on, or nothing
+-- a running node, or one that is off
 runs_or_off : (ops : List Operation) (n : NodeId) (last : ℕ) (off : Bool) (r : RunningValue) → NoneLater ops n last → RunsMade ops n last r → NodeMade ops n (record { last = last; running = cond off None (Some r) })
 runs_or_off ops n last true r old h = record { old = old; runs = λ q e. none_some e }
 runs_or_off ops n last false r old h = record { old = old; runs = λ q e. subst (RunsMade ops n last) (some_same r q e) h }
 
--- a node comes up
+-- a node boots
 boot_made : (t : Table) (ops : List Operation) (n : NodeId) (last : ℕ) (noted : List (Option Noted)) (e : Event) → DistinctDots ops → NoneLater ops n last → StepMade ops n (left_by t n last None noted e) (reply_by t n last None noted e)
 boot_made t ops n last noted e distinct old =
     let x : Operation = up (own_origin n (last + 1)) in
@@ -181,7 +181,7 @@ module _ (ops : List Operation) (n : NodeId) (last : ℕ) (r : RunningValue) (di
         shipped = shipped;
       }
 
-  -- nothing is issued, and what is added means these operations
+  -- nothing is issued, and the added states mean these operations
   unissued : (transition : Transition) (delta : List Operation) → [] ≡ issued_by transition.reply → AreOperationsOf delta ops → fold join r.state transition.adds ≡ meaning_of (h.held ++ delta) → All (Means ops) transition.adds → BodiesMean ops (shipped_by transition.reply) → Left transition
   unissued transition delta none within state adds shipped =
       let same : ops ≡ ops ++ issued_by transition.reply = sym (append-nil ops) ∙ ap (λ qs. ops ++ qs) none in
@@ -189,7 +189,7 @@ module _ (ops : List Operation) (n : NodeId) (last : ℕ) (r : RunningValue) (di
       (subst (λ qs. SetOk qs n last (h.held ++ delta)) same (hear_set ops h.held delta n last within h.set))
       state (subst (λ qs. All (Means qs) transition.adds) same adds) shipped
 
-  -- a transition with a reply of nothing issued that adds no state
+  -- nothing is issued, and no state is added
   still : (transition : Transition) → [] ≡ issued_by transition.reply → transition.adds ≡ [] → BodiesMean ops (shipped_by transition.reply) → Left transition
   still transition none nothing shipped =
       unissued transition [] none (λ o i. absurd i) (ap (fold join r.state) nothing ∙ (h.state ∙ ap meaning_of (sym (append-nil h.held)))) (subst (All (Means ops)) (sym nothing) (All-nil (Means ops))) shipped
@@ -214,7 +214,7 @@ module _ (ops : List Operation) (n : NodeId) (last : ℕ) (r : RunningValue) (di
           (record { some = o ∷ []; within = λ x i. within x (inl (one_in x o i)); is = refl })
           (each_means more qs (λ x i. within x (inr i)))
 
-  -- what is shipped
+  -- the body of a message shipped
   body_means : (from : Option Position) → Means ops (content_of (body_from r from))
   body_means None = record { some = h.held; within = h.set.within; is = h.state }
   body_means (Some p) = elim (has_all r.kept.count (Some p)) as (λ b. Means ops (content_of (cond b Nothing (Interval (fold join bottom (numbered_from r.kept p.number)))))) [
@@ -222,7 +222,7 @@ module _ (ops : List Operation) (n : NodeId) (last : ℕ) (r : RunningValue) (di
     | false ↦ joins_mean ops bottom (numbered_from r.kept p.number) (DistinctDots-agree ops distinct) (nothing_means ops) (All-drop (Means ops) _ r.kept.deltas h.kept)
   ]
 
-  -- a state comes
+  -- a state is heard
   heard : (transition : Transition) (body : StateValue) → [] ≡ issued_by transition.reply → [] ≡ shipped_by transition.reply → transition.adds ≡ brings r.state body → Means ops body → Left transition
   heard transition body none ships adds m =
       let b = brings_made ops r.state body h.held (DistinctDots-agree ops distinct) h.state h.set.within m in
@@ -232,10 +232,10 @@ module _ (ops : List Operation) (n : NodeId) (last : ℕ) (r : RunningValue) (di
   tick_made t now Shut = still (holds_back r now) refl refl no_bodies
   tick_made t now GiveUp = still (goes_down r GaveUp) refl refl no_bodies
   tick_made t now Opened =
-      let turn = turn_of t r.origin noted now r.state in
-      issued (looks_after r now turn) turn.ops refl refl (claims_issued t r.origin noted now r.state) no_bodies
+      let sweep = sweep_of t r.origin noted now r.state in
+      issued (looks_after r now sweep) sweep.ops refl refl (claims_issued t r.origin noted now r.state) no_bodies
 
--- what comes to a node by an event means operations that were issued
+-- an event brings a node only meanings of issued operations
 abbrev Comes : List Operation → Event → Type 0
 Comes ops (Hear m) = Means ops (content_of m.body)
 Comes ops (HearOp o) = IsOperationOf o ops
@@ -263,7 +263,7 @@ step_made t ops n last None noted e distinct h comes = boot_made t ops n last no
 step_made t ops n last (Some r) noted e distinct h comes = running_made t ops n last r noted e distinct (h.runs r refl) comes
 
 -- ---- a step of the world
--- what holds of each message holds of the one of a number
+-- a property of each message holds of the one with this number
 counted_means : (P : Message → Type 0) (ms : List Message) (k : ℕ) (m : Message) → All P ms → counted ms k ≡ Some m → P m
 counted_means P ms k m all e = elim (nat_eq k 0) as (λ b. cond b None (slice_get ms (k - 1)) ≡ Some m → P m) [
   | true ↦ λ p. none_some p
@@ -275,7 +275,7 @@ counted_means P ms k m all e = elim (nat_eq k 0) as (λ b. cond b None (slice_ge
     at (x ∷ ms) zero all e = subst P (some_same x m e) (All-head P x ms all)
     at (x ∷ ms) (suc k) all e = at ms k (All-tail P x ms all) e
 
--- the body of the message of a number
+-- the body of the message with this number
 pub bodies_mean : (v : WorldValue) (k : ℕ) (m : Message) → IsMade v → counted v.messages k ≡ Some m → Means v.operations (content_of m.body)
 bodies_mean v k m h there = counted_means (λ (x : Message). Means v.operations (content_of x.body)) v.messages k m h.bodies there
 
@@ -286,7 +286,7 @@ comes v what (Hear m) h is =
 comes v what (HearOp o) h is = let d = hears_op v.operations v.messages what o is in counted_in v.operations d.number o d.there
 comes v what _ h is = tt
 
--- where an event isn't refused at a node, and it goes on so, the world is made of issued operations still
+-- after an accepted event the world is still made of issued operations
 pub goes_made : (t : Table) (v u : WorldValue) (me : NodeId) (what : What) (e : Event) (old : NodeValue) (become : NodeValue → NodeValue) (own given : Reply) → IsMade v → event_of v.operations v.messages what ≡ Ok e → Here v me old →
     AcceptedAs t me old e (become old) own → Goes v me become own given u → IsMade u
 goes_made t v u me what e old become own given h is here p goes =
@@ -314,7 +314,7 @@ goes_made t v u me what e old become own given h is here p goes =
 none_made : (n : NodeId) (x : NodeValue) → x.running ≡ None → NodeMade [] n x
 none_made n x off = record { old = λ o i t. absurd i; runs = λ r e. none_some (sym off ∙ e) }
 
--- the program's world where the model world starts
+-- the program's world at the start
 pub start_made : (t : Table) (v : WorldValue) → Shows t (start t) v → IsMade v
 start_made t v h = record {
   distinct = subst DistinctDots (sym h.operations) tt;
@@ -326,8 +326,8 @@ start_made t v h = record {
     off true x e = ap (λ (y : NodeValue). y.running) (sym (some_same (shown t (off_after 0)) x e))
     off false x e = none_some e
 
--- ---- what stands in such a world means issued operations
--- the state of a node that runs
+-- ---- the states of such a world mean issued operations
+-- the state of a running node
 pub states_mean : (v : WorldValue) (n : ℕ) (x : NodeValue) → IsMade v → slice_get v.nodes n ≡ Some x → IfSome (state_of x) (Means v.operations)
 states_mean v n x h at = elim x.running as (λ o. x.running ≡ o → IfSome (option_map (λ (r : RunningValue). r.state) o) (Means v.operations)) [
   | None ↦ λ _. tt

@@ -1,5 +1,5 @@
--- What stands in a closed set's meaning are its maximal writes. It knows no dot that it hasn't heard. It has heard
--- the dots of each origin from 1 on.
+-- The writes that stand in a closed set's meaning are its maximal ones. It knows no dot that it hasn't heard, and has
+-- heard the dots of each origin from 1 without gaps.
 use Rattle.std.proofs.Common.{◌≡◌, ◌⊎◌, ℕ, zero, suc, ◌-◌, ◌<◌, ◌≤◌, Bool, true, false, ◌||◌, inl, inr, List, nat_eq, eq-eqb, refl, sym, ap, subst, ◌∙◌, arith, true≢false}
 use Rattle.std.specs.Prelude.{◌↔◌}
 use Rattle.std.specs.List.{list_any}
@@ -30,7 +30,7 @@ module _ (Writes Ends : Act → Type 0) (w : SetWorld) (ok : IssuesOk w.issued) 
   abbrev pub Takes : Type 0
   Takes = (before : List Operation) (o : Operation) (d : Dot) → Replaces (meaning_of before) o.act → Ends o.act → StandsAs Writes before d → replaces d o ≡ true
 
-  -- what an operation replaces of such writes it ends
+  -- an operation ends the writes that it replaces
   abbrev pub EndsReplaced : Type 0
   EndsReplaced = (p o : Act) → IsReplacedBy p o → Writes p → Ends o
 
@@ -68,7 +68,7 @@ module _ (Writes Ends : Act → Type 0) (w : SetWorld) (ok : IssuesOk w.issued) 
       },
     )
 
--- ---- what is known
+-- ---- known dots
 or_absorbs : (a b : Bool) → (a ≡ true → b ≡ true) → b ≡ (a || b)
 or_absorbs true b f = f refl
 or_absorbs false b f = refl
@@ -77,7 +77,7 @@ or_absorbs false b f = refl
 heard_by : (os : List Operation) (d : Dot) (o : Operation) → IsOperationOf o os → o.dot ≡ d → list_any (has_dot d) os ≡ true
 heard_by os d o here e = finds (has_dot d) os o here (ap (same_dot d) e ∙ same_dot_itself d)
 
--- what is heard in a part of the set is heard in the set
+-- a dot heard in a part of the set is heard in the set
 heard_within : (before os : List Operation) (d : Dot) → AreOperationsOf before os → set.contains (meaning_of before).heard d ≡ true → set.contains (meaning_of os).heard d ≡ true
 heard_within before os d inside h =
     let o = found (has_dot d) before (sym (heard-meaning before d) ∙ h) in
@@ -107,7 +107,7 @@ no_more : (m n : ℕ) → m ≤ suc n → (m ≡ suc n → ⊥) → m ≤ n
 no_more m n a b = omega arith
 
 module _ (issues : List Issue) (ok : IssuesOk issues) where
-  -- a dot that is replaced was heard where it was replaced
+  -- a replaced dot was heard by the operation's issuer
   replaced_heard : (os : List Operation) → ClosedSet issues os → (d : Dot) → is_replaced d os ≡ true → list_any (has_dot d) os ≡ true
   replaced_heard os c d t =
       let r = found (replaces d) os t in

@@ -1,4 +1,4 @@
--- Laws of meanings that runs need.
+-- Laws of meanings for runs.
 use Rattle.std.proofs.Common.{◌≡◌, Bool, true, false, inl, inr, List, [], ◌∷◌, ◌++◌, cond, refl, sym, ap, subst, ◌∙◌}
 use Rattle.std.specs.List.{filter}
 use Rattle.std.specs.FinSet as set
@@ -13,7 +13,7 @@ use Rattle.dac_meaning.specs.laws.Joins.{meaning-same, meaning-state, join-meani
 use Rattle.dac_model_world.specs.Convergence.{heard_among}
 use Rattle.dac_model_world.specs.laws.Operations.{Agree-within}
 
--- a join with the least state is the other one
+-- the join of a state with bottom is the state
 pub join-bottom : (os : List Operation) → join bottom (meaning_of os) ≡ meaning_of os
 join-bottom os =
     let s = meaning_of os in
@@ -22,7 +22,7 @@ join-bottom os =
     (state_laws.least bottom s s bottom_value u u (bottom_least s u) (state_laws.refl s u))
     (state_laws.right bottom s bottom_value u)
 
--- an operation of a set is heard in its meaning, and what is heard is one
+-- an operation of a set is heard in its meaning, and each dot heard is one's
 pub heard_in : (os : List Operation) (o : Operation) → IsOperationOf o os → set.contains (meaning_of os).heard o.dot ≡ true
 heard_in os o h = heard-meaning os o.dot ∙ finds (has_dot o.dot) os o h (same_dot_itself o.dot)
 
@@ -31,11 +31,11 @@ in_heard os ops w agree o h t =
     let f = found (has_dot o.dot) os (sym (heard-meaning os o.dot) ∙ t) in
     subst (λ (p : Operation). IsOperationOf p os) (sym (agree o f.0 h (w f.0 f.1.0) (same_dot_is o.dot f.0.dot f.1.1))) f.1.0
 
--- what is below a set's meaning means operations of the set
+-- operations whose meaning is below a set's are operations of the set
 pub below_in : (os ps ops : List Operation) → AreOperationsOf os ops → AreOperationsOf ps ops → DotsDetermine ops → IsBelow (meaning_of ps) (meaning_of os) → AreOperationsOf ps os
 below_in os ps ops w v agree below o h = in_heard os ops w agree o (v o h) (below.heard o.dot (heard_in ps o h))
 
--- where each operation of ps is heard in a state, what ps mean is below it
+-- if each operation of ps is heard in a state, their meaning is below it
 pub below_where_heard : (os ps ops : List Operation) → AreOperationsOf os ops → AreOperationsOf ps ops → DotsDetermine ops → ((o : Operation) → IsOperationOf o ps → set.contains (meaning_of os).heard o.dot ≡ true) → IsBelow (meaning_of ps) (meaning_of os)
 below_where_heard os ps ops w v agree heard =
     let all : AreOperationsOf (os ++ ps) ops = Within-append os ps ops w v in
@@ -44,7 +44,7 @@ below_where_heard os ps ops w v agree heard =
     ∙ sym (meaning-same os (os ++ ps) (λ o h. In-append_left o os ps h) (Within-append os ps os (λ o h. h) (λ o h. in_heard os ops w agree o (v o h) (heard o h)))) in
     subst (IsBelow (meaning_of ps)) same (state_laws.right (meaning_of os) (meaning_of ps) (meaning-state os) (meaning-state ps))
 
--- ---- the operations that were heard
+-- ---- the operations heard
 In-filter : (p : Operation → Bool) (os : List Operation) (o : Operation) → IsOperationOf o os → p o ≡ true → IsOperationOf o (filter p os)
 In-filter p [] o h t = absurd h
 In-filter p (x ∷ os) o (inl e) t = subst (λ b. IsOperationOf o (cond b (x ∷ filter p os) (filter p os))) (sym (ap p (sym e) ∙ t)) (inl e)

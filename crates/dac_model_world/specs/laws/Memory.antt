@@ -1,4 +1,4 @@
--- The model world never answers `NoMemory`.
+-- The model world never returns `NoMemory`.
 use Rattle.std.proofs.Common.{◌≡◌, true, false, cond, List, Option, Some, None, Result, Ok, Err, refl, ap, ◌∙◌}
 use Rattle.std.specs.Prelude.{nat_lt}
 use Rattle.dac_base.specs.declared.NodeId.{NodeId}
@@ -23,7 +23,7 @@ use Rattle.dac_model_world.specs.ModelWorld.{ModelWorld, happens, happens_by, an
 abbrev Answer : Type 0
 Answer = Result Reply WorldFault
 
--- the answer isn't `NoMemory`
+-- the result isn't `NoMemory`
 abbrev Enough : Answer → Type 0
 Enough a = a ≡ out_of_memory → ⊥
 
@@ -77,7 +77,7 @@ event_fault os ms (Deliver k) fault e p = no_message (counted ms k) fault e p
 event_fault os ms (Hand k) fault e p = no_operation (counted os k) fault e p
 event_fault os ms _ fault e p = cc
 
--- no event is answered so
+-- no event has this result
 pub enough_memory : (t : Table) (w : ModelWorld) (e : WorldEvent) → (happens t w e).answer ≡ out_of_memory → ⊥
 enough_memory t w e =
     elim (nat_lt e.node.0 w.count) as (λ b. Enough (cond b (happens_by t w e.node (event_of w.operations w.messages e.what)) (record { world = w; answer = Err NoSuchNode })).answer) [

@@ -1,4 +1,4 @@
--- What is heard is answered by whether it brought a dot that the node hadn't heard.
+-- A hear reports whether it brought a dot that the node hadn't heard.
 use Rattle.std.proofs.Common.{◌≡◌, ℕ, Bool, true, false, not, cond, List, [], ◌∷◌, Option, Some, None, ◌⊎◌, Ok, Err, inl, inr, refl, sym, ap, subst, ◌∙◌, true≢false}
 use Rattle.std.specs.Prelude.{◌↔◌, IsTrue, nat_lt}
 use Rattle.std.specs.Option.{option_map}
@@ -66,7 +66,7 @@ missed_else os o f = pick (set.contains (meaning_of os).heard o.dot) f
     pick true g = refl
     pick false g = absurd (g refl)
 
--- the test whether one meaning is below another tells whether there is news
+-- two meanings are compared to tell whether one brings news
 pub news-is : (os ps ops : List Operation) → AreOperationsOf os ops → AreOperationsOf ps ops → DotsDetermine ops → IsTrue (not (is_below (meaning_of ps) (meaning_of os))) ↔ HasNews os ps
 news-is os ps ops w v agree = (
   λ t. elim (list_any (is_missed os) ps) as (λ b. list_any (is_missed os) ps ≡ b → HasNews os ps) [
@@ -79,14 +79,14 @@ news-is os ps ops w v agree = (
 
 -- ---- one event of the world
 
--- Where the node has the rest of what an event brings, the whole has news exactly where the part that comes has
+-- If the node has the rest of what an event brings, the whole is news if and only if the part is
 news_of_part : (os part all : List Operation) → AreOperationsOf part all → ((o : Operation) → IsOperationOf o all → IsOperationOf o part ⊎ IsOperationOf o os) → HasNews os part ↔ HasNews os all
 news_of_part os part all inside rest = (
   λ h. (h.0, (inside h.0 h.1.0, h.1.1)),
   λ h. elim (rest h.0 h.1.0) [ inl a ↦ (h.0, (a, h.1.1)) | inr b ↦ absurd (h.1.1 (h.0, (b, refl))) ],
 )
 
--- what a running node hears
+-- news at a running node that hears
 told_news : (w : ModelWorld) (s : SetWorld) (n : NodeId) (what : What) (body : StateValue) (r : ModelRunning) (h : Sound w s) (on : (w.node n).running ≡ Some r) → Brings w s n what body (held_at w s n r h on).set.operations →
     IsTrue (not (is_below body (joined r.log))) ↔ HasNews (held_by (s.node n)) (brought_to s n what)
 told_news w s n what body r h on b =
@@ -140,7 +140,7 @@ news_step : (t : Table) (w : ModelWorld) (s : SetWorld) (e : WorldEvent) (a : An
 news_step t w s e a next h (inl d) = subst (TellsNews s e) (sym d.answered) (news_happens t w s e h)
 news_step t w s e a next h (inr l) = subst (TellsNews s e) (sym l.answered) tt
 
--- in every run of the model world
+-- hears report news in every run of the model world
 pub news_run : (t : Table) (w : ModelWorld) (s : SetWorld) (es : List WorldEvent) (answers : List Answer) (final : ModelWorld) → Sound w s → Run t w es answers final → AnswersNews s es answers
 news_run t w s [] answers final h r = tt
 news_run t w s (e ∷ es) [] final h r = tt

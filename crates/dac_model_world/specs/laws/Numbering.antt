@@ -1,5 +1,5 @@
--- Issued operations are in order: those of an incarnation have the counters 1, 2, 3 and so on. What an operation replaces
--- was issued, and none names a later incarnation of a node than its last.
+-- Issued operations are in order: those of an incarnation have the counters 1, 2, 3 and so on. An operation replaces
+-- only dots that were issued, and names no incarnation of a node later than its last.
 use Rattle.std.proofs.Common.{◌≡◌, ◌⊎◌, ℕ, suc, ◌<◌, ◌≤◌, ◌+◌, ◌-◌, Bool, true, false, cond, ◌||◌, List, [], ◌∷◌, ◌++◌, length, Option, Some, None, inl, inr, refl, sym, ap, subst, ◌∙◌, append-nil, append_assoc, le_trans, arith}
 use Rattle.std.specs.Prelude.{filter}
 use Rattle.std.specs.FinMap as map
@@ -68,7 +68,7 @@ count_more own (x ∷ ops) o =
       | false ↦ count_more own ops o
     ]
 
--- more operations count no less
+-- the count doesn't fall with more operations
 count_grows : (own : Origin) (ops : List Operation) (o : Operation) → count_of own ops ≤ count_of own (ops ++ o ∷ [])
 count_grows own ops o = subst (λ k. count_of own ops ≤ k) (sym (count_more own ops o)) (at_least (is_of own o) (count_of own ops))
   where
@@ -81,7 +81,7 @@ count_grows own ops o = subst (λ k. count_of own ops ≤ k) (sym (count_more ow
 abbrev IsLatest : Origin → List Operation → Type 0
 IsLatest own ops = (count_of own ops ≡ 0) ⊎ ((o : Operation) × (IsOperationOf o ops × ((o.dot.origin ≡ own) × (o.dot.n ≡ count_of own ops))))
 
--- the issued operations, where each node has this last incarnation
+-- the issued operations, with the last incarnation of each node
 pub record InOrder (ops : List Operation) (last : NodeId → ℕ) : Type 0 where
   pub lives : (o : Operation) → IsOperationOf o ops → (n : NodeId) (l : Life) → life_said o.dot o.act ≡ Some (n, l) → l.inc ≤ last n
   pub replaced : (d : Dot) (o : Operation) → IsOperationOf o ops → replaces d o ≡ true → HasDot d ops
@@ -94,13 +94,13 @@ order_none last = record { lives = λ o i. absurd i; replaced = λ d o i. absurd
 pub order_later : (ops : List Operation) (last later : NodeId → ℕ) → ((n : NodeId) → last n ≤ later n) → InOrder ops last → InOrder ops later
 order_later ops last later on h = record { lives = λ o i n l e. le_trans (h.lives o i n l e) (on n); replaced = h.replaced; counted = h.counted; latest = h.latest }
 
--- ---- the next operation of an incarnation that holds all that it issued
+-- ---- the next operation of an incarnation that holds all its operations
 module _ (ops : List Operation) (last : NodeId → ℕ) (os : List Operation) (o : Operation) (h : InOrder ops last) (inside : AreOperationsOf os ops)
     (mine : (p : Operation) → IsOperationOf p ops → p.dot.origin ≡ o.dot.origin → IsOperationOf p os) (alive : o.dot.origin.inc ≤ last o.dot.origin.node) (next : IsNextAfter os o) where
   abbrev issuer : Origin
   issuer = o.dot.origin
 
-  -- a dot that is known to the issuer was issued
+  -- a dot known to the issuer was issued
   was_issued : (d : Dot) → set.contains (meaning_of os).known d ≡ true → HasDot d ops
   was_issued d t =
       let p = found (names d) os (sym (known-meaning os d) ∙ t) in
@@ -189,7 +189,7 @@ module _ (ops : List Operation) (last : NodeId → ℕ) (os : List Operation) (o
       as_many : (n c m : ℕ) → n ≡ c + 1 → m ≡ c + 1 → n ≤ m
       as_many n c m a b = omega arith
 
--- ---- operations that an incarnation issues one after another
+-- ---- consecutive operations of an incarnation
 -- the operations are the incarnation's
 abbrev pub AreOf : Origin → List Operation → Type 0
 AreOf own [] = Unit {0}

@@ -1,6 +1,5 @@
--- One node of the model world beside the set that it holds: what holds of the two together after every event. A
--- running node's state is the meaning of its set, and what makes dots new is kept. It holds all that its present
--- incarnation issued, and no operation is of a later incarnation of it than the last.
+-- The invariant of one node of the model world and its set. A running node's state is the meaning of its set. The set
+-- contains all operations of its present incarnation, and no operation is of a later one, so that its next dot is new.
 use Rattle.std.proofs.Common.{◌≡◌, ℕ, ◌≤◌, ◌+◌, true, false, ◌||◌, inl, inr, List, [], ◌∷◌, ◌++◌, Option, Some, None, refl, sym, ap, subst, ◌∙◌, append_assoc, append-nil, arith}
 use Rattle.std.specs.Prelude.{fold}
 use Rattle.std.specs.Option.{option_map}
@@ -34,7 +33,7 @@ use Rattle.dac_model_world.specs.laws.Gathered.{Entries, IsLogOf, log_means}
 abbrev pub state_in : ModelRunning → StateValue
 state_in r = joined r.log
 
--- a node that runs, and one that is off
+-- a running node, and one that is off
 abbrev pub runs_as : ℕ → ModelRunning → ModelNode
 runs_as last r = record { last = last; running = Some r }
 
@@ -42,7 +41,7 @@ abbrev pub stays_off : ℕ → ModelNode
 stays_off last = record { last = last; running = None }
 
 -- ---- the invariant
--- node n with its log, beside the set that it holds and the sets that the states of its log mean
+-- node n with its log, its set, and the sets that the states of its log mean
 pub record NodeOk (ops : List Operation) (n : NodeId) (d : ModelNode) (held : Option NodeSet) (es : Entries) : Type 0 where
   pub state : option_map state_in d.running ≡ option_map state_by held
   pub origin : (r : ModelRunning) → d.running ≡ Some r → r.origin ≡ own_origin n d.last
@@ -52,7 +51,7 @@ pub record NodeOk (ops : List Operation) (n : NodeId) (d : ModelNode) (held : Op
   pub own : (set : NodeSet) → held ≡ Some set → (o : Operation) → IsOperationOf o ops → o.dot.origin ≡ own_origin n d.last → IsOperationOf o set.operations
   pub old : NoneLater ops n d.last
 
--- the two of a running node, whatever else it keeps
+-- a running node and its set, whatever else it keeps
 pub run_ok : (ops : List Operation) (n : NodeId) (last : ℕ) (r : ModelRunning) (set : NodeSet) (es : Entries) → DotsDetermine ops → r.origin ≡ own_origin n last → set.inc ≡ last → IsLogOf r.log set.operations es → SetOk ops n last set.operations → NodeOk ops n (runs_as last r) (Some set) es
 run_ok ops n last r set es agree mine inc log h = record {
   state = ap (λ (s : StateValue). Some s) (log_means r.log set.operations ops es h.within agree log);
@@ -118,14 +117,14 @@ NodeOk-more ops more n d held es far h = record {
   old = λ o i t. elim (In-append_cases o ops more i) [ inl a ↦ h.old o a t | inr b ↦ absurd (far o b t) ];
 }
 
--- ---- a node comes up
+-- ---- a node boots
 same_le : (i l : ℕ) → i ≡ l → i ≤ l
 same_le i l e = omega arith
 
 later_one : (l i : ℕ) → i ≤ l → i ≡ l + 1 → ⊥
 later_one l i a b = omega arith
 
--- the set of a node that came up
+-- the set of a node after its boot
 pub boot_set : (ops : List Operation) (n : NodeId) (last : ℕ) → NoneLater ops n last → let x = up (own_origin n (last + 1)) in SetOk (ops ++ x ∷ []) n (last + 1) (x ∷ [])
 boot_set ops n last old =
     let x : Operation = up (own_origin n (last + 1)) in
@@ -144,7 +143,7 @@ boot_set ops n last old =
     later : (l i : ℕ) → i ≤ l → i ≤ l + 1
     later l i a = omega arith
 
--- its log
+-- the log of a node after its boot
 pub boot_log : (x : Operation) → IsLogOf (meaning_of (x ∷ []) ∷ []) (x ∷ []) ((x ∷ []) ∷ [])
 boot_log x = record { states = refl; all = λ o i. i; some = λ o i. i }
 
@@ -176,7 +175,7 @@ issue_fresh ops os own act mine = false_from_ne_true _ (λ t.
     too_large : (g k : ℕ) → g + 1 ≡ k → k ≤ g → ⊥
     too_large g k a b = omega arith
 
--- what holds after a node with the state s and the set os issued more
+-- the invariant after a node with state s and set os issued more
 pub record Grown (ops : List Operation) (n : NodeId) (last : ℕ) (s : StateValue) (os : List Operation) (more : List Operation) : Type 0 where
   pub distinct : DistinctDots (ops ++ more)
   pub set : SetOk (ops ++ more) n last (os ++ more)
@@ -213,7 +212,7 @@ module _ (n : NodeId) (last : ℕ) (own : Origin) (mine : own ≡ own_origin n l
         here = λ o i. ap (λ (y : Operation). y.dot.origin.node) (one_in o x i) ∙ ap (λ (q : Origin). q.node) (next_origin s x next ∙ mine);
       }
 
-  -- operations that are issued one after another
+  -- operations issued one after another
   pub grow : (ops : List Operation) (s : StateValue) (os more : List Operation) → s ≡ meaning_of os → DistinctDots ops → SetOk ops n last os → AreIssued own s more → Grown ops n last s os more
   grow ops s os [] state d h issued = record {
     distinct = subst DistinctDots (sym (append-nil ops)) d;

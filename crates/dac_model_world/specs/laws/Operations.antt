@@ -1,4 +1,4 @@
--- Sets of issued operations: their dots differ, and a new one's is new.
+-- Sets of issued operations: their dots are distinct, and a new operation's is new.
 use Rattle.std.proofs.Common.{◌≡◌, Bool, true, false, ◌||◌, inl, inr, List, [], ◌∷◌, ◌++◌, refl, sym, ap, subst, ◌∙◌, true≢false}
 use Rattle.std.specs.List.{list_any}
 use Rattle.std.proofs.lemmas.List.Folds.{list_any-append}
@@ -18,7 +18,7 @@ one_in o x (inr h) = absurd h
 pub Agree-within : (os ps : List Operation) → AreOperationsOf os ps → DotsDetermine ps → DotsDetermine os
 Agree-within os ps w agree o p a b = agree o p (w o a) (w p b)
 
--- ---- dots that differ
+-- ---- distinct dots
 same_by : (d e : Dot) → d ≡ e → same_dot d e ≡ true
 same_by d e h = subst (λ f. same_dot d f ≡ true) h (same_dot_itself d)
 
@@ -51,7 +51,7 @@ pub DistinctDots-left : (os ps : List Operation) → DistinctDots (os ++ ps) →
 DistinctDots-left [] ps d = tt
 DistinctDots-left (x ∷ os) ps d = (either_false_left (list_any (has_dot x.dot) os) (list_any (has_dot x.dot) ps) (sym (list_any-append (has_dot x.dot) os ps) ∙ d.0), DistinctDots-left os ps d.1)
 
--- none of the first is one of the others
+-- none of the first operations is one of the others
 pub DistinctDots-apart : (os ps : List Operation) → DistinctDots (os ++ ps) → (o : Operation) → IsOperationOf o os → IsOperationOf o ps → ⊥
 DistinctDots-apart [] ps d o a b = absurd a
 DistinctDots-apart (x ∷ os) ps d o (inl e) b = true≢false (sym (finds (has_dot x.dot) (os ++ ps) o (In-append_right o os ps b) (same_by x.dot o.dot (ap (λ (y : Operation). y.dot) (sym e)))) ∙ d.0)

@@ -1,4 +1,4 @@
--- What each node records of a run is a history of it.
+-- The records of each node in a run are a history of it.
 use Rattle.std.proofs.Common.{◌≡◌, Bool, true, false, cond, List, [], ◌∷◌, ◌++◌, Option, Some, None, Result, Ok, Err, inl, inr, nat_eq, refl, sym, ap, subst, ◌∙◌, eq-eqb}
 use Rattle.std.specs.Prelude.{nat_lt}
 use Rattle.std.proofs.lemmas.Map.Views.{exact_unsigned_eq}
@@ -20,19 +20,19 @@ use Rattle.dac_model_world.specs.Records.{own_answer, recorded, records_of, reco
 use Rattle.dac_model_world.specs.laws.Histories.{refused_stays}
 use Rattle.dac_model_world.specs.laws.Runs.{went_as_answered, node_there}
 
--- ---- where nothing is recorded
+-- ---- nothing is recorded
 either_way : {X : Type 0} (b : Bool) (x : X) → cond b x x ≡ x
 either_way true x = refl
 either_way false x = refl
 
--- nothing is recorded of an event that names nothing
+-- nothing is recorded of an event that names no message or operation
 unnamed : (answer : Option (Result Reply Refusal)) (fault : WorldFault) → recorded answer (Err fault) ≡ []
 unnamed None fault = refl
 unnamed (Some answer) fault = refl
 
--- ---- one event, and a history from then on
+-- ---- one event, and the history after it
 module _ (t : Table) (n : NodeId) (rest : List Entry) (final : ModelNode) where
-  -- what is recorded first, and the rest behind it
+  -- the first records, followed by the rest
   abbrev From : ModelNode → List Entry → Type 0
   From d first = IsHistory t n d (first ++ rest) final
 
@@ -88,7 +88,7 @@ module _ (t : Table) (n : NodeId) (rest : List Entry) (final : ModelNode) where
         | false ↦ from_nothing (w.node n) (records_of n w e (Err NoSuchNode)) (either_way (nat_eq n.0 e.node.0) [])
       ]
 
-  -- an event that is answered so, by `NoMemory` perhaps
+  -- an event with this result, which can be `NoMemory`
   pub answered_first : (w : ModelWorld) (e : WorldEvent) (a : Result Reply WorldFault) → IsAnswer (happens t w e) a → From ((went t w e a).node n) [] → From (w.node n) (records_of n w e a)
   answered_first w e a (inl is) h =
       subst (λ x. From (w.node n) (records_of n w e x)) (sym is)
@@ -111,7 +111,7 @@ records_are_histories t events answers final run n =
     subst (λ (v : ModelWorld). IsHistory t n ((start t).node n) (records_at t n (start t) events answers) (v.node n)) (sym run.1)
     (records_along t n (start t) events answers run.0)
 
--- so where histories come to shows as the program's world
+-- the histories end at nodes that show as those of the program's world
 pub have_histories : (t : Table) (events : List WorldEvent) (answers : List (Result Reply WorldFault)) (v : WorldValue) → RanAs t events answers v → HaveHistories t events answers v
 have_histories t events answers v ran = record {
   each = λ n x there. (ran.final.node (numbered n), (records_are_histories t events answers ran.final ran.run (numbered n), sym (node_there t ran.final v ran.shows n x there)));

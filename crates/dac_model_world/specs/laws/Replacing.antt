@@ -1,5 +1,5 @@
--- What an operation replaces: exactly what stands of its kind at its key in the state that its issuer had. What it
--- says to be down is live in that state.
+-- An operation replaces exactly the writes of its kind that stand at its key in its issuer's state. A life that it
+-- declares down is live in that state.
 use Rattle.std.proofs.Common.{◌≡◌, inl, inr, None, List, [], ◌∷◌, ◌++◌, refl, sym, ap, subst, ◌∙◌, append_assoc, true≢false}
 use Rattle.std.proofs.lemmas.Bool.{leb-true}
 use Rattle.dac_base.specs.declared.limits.TheConstants.{MAX_COUNTER}
@@ -38,7 +38,7 @@ use Rattle.dac_model_node.specs.Step.{up}
 use Rattle.dac_model_node.specs.laws.Claims.{AreNextClaims}
 use Rattle.dac_model_world.specs.laws.Operations.{Agree-within}
 
--- what the act replaces is what stands of its kind at its key
+-- the act replaces exactly the writes of its kind that stand at its key
 abbrev pub Replaces : StateValue → Act → Type 0
 Replaces s (Permit key value over) = AreThose (PermitStands s key) over
 Replaces s (Start key over) = AreThose (StartStands s key) over
@@ -46,18 +46,18 @@ Replaces s (Stop key over) = AreThose (StartStands s key) over
 Replaces s (Drain node inc value over) = AreThose (DrainStands s (origin node inc)) over
 Replaces s _ = Unit {0}
 
--- what the act says to be down is live
+-- a life that the act declares down is live
 abbrev pub EndsLive : StateValue → Act → Type 0
 EndsLive s (Down node inc) = IsLive s.lives node inc
 EndsLive s _ = Unit {0}
 
--- the operation is its origin's next after these, replaces what stands, and ends a life that is live
+-- the operation is its origin's next after these, replaces what stands, and ends only a life that is live
 pub record IsNextAfter (before : List Operation) (o : Operation) : Type 0 where
   pub next : IsNext (meaning_of before).known o.dot.origin o.dot
   pub replaces : Replaces (meaning_of before) o.act
   pub ends : EndsLive (meaning_of before) o.act
 
--- so are these, one after another
+-- each of these operations is its origin's next after those before it
 abbrev pub AreNext : List Operation → List Operation → Type 0
 AreNext before [] = Unit {0}
 AreNext before (o ∷ os) = IsNextAfter before o × AreNext (before ++ o ∷ []) os
@@ -94,7 +94,7 @@ command_ends t own s (Stops app node) none = tt
 command_ends t own s (Drains node value) none = tt
 command_ends t own s (Takes app) none = tt
 
--- the next operation in what a set means
+-- the next operation at a set's meaning
 next_after : (s : StateValue) (os : List Operation) (own : Origin) (act : Act) → s ≡ meaning_of os → IsNext s.known own (next_operation s own act).dot → Replaces s act → EndsLive s act → IsNextAfter os (next_operation s own act)
 next_after s os own act state next r ends = record {
   next = subst (λ (v : StateValue). IsNext v.known own (next_operation s own act).dot) state next;

@@ -1,5 +1,5 @@
--- Shares in runs: a running node always knows its own present incarnation, so a share leaves the union wherever the
--- others know it, or nothing of its life.
+-- Shares in runs: a running node always knows its own present incarnation, so a share leaves the union if the others
+-- know it too, or nothing of its life.
 use Rattle.std.proofs.Common.{◌≡◌, ◌<◌, ◌≤◌, ℕ, true, false, List, Option, Some, None, take, drop, nat_eq, refl, sym, ap, subst, ◌∙◌, true≢false, eq-eqb, arith}
 use Rattle.std.specs.Option.{option_map}
 use Rattle.std.specs.FinMap as map
@@ -55,7 +55,7 @@ no_earlier a b h = by_order (nat_cmp a.inc b.inc) refl h
     by_order Greater e h = absurd (false≢true h)
 
 module _ (w : ModelWorld) (s : SetWorld) (h : Sound w s) (k : Numbered w) where
-  -- who has a set runs
+  -- a node with a set runs
   runs : (n : NodeId) (held : NodeSet) → s.node n ≡ Some held → (r : ModelRunning) × ((w.node n).running ≡ Some r)
   runs n held on = by_run (w.node n).running refl ((h.nodes n).state ∙ ap (option_map state_by) on)
     where
@@ -63,7 +63,7 @@ module _ (w : ModelWorld) (s : SetWorld) (h : Sound w s) (k : Numbered w) where
       by_run None at e = none_some e
       by_run (Some r) at e = (r, at)
 
-  -- a running node's set has its own boot, and names no later incarnation of it
+  -- a running node's set contains its own boot, and names no later incarnation of it
   knows_itself : (n : NodeId) (held : NodeSet) → s.node n ≡ Some held → (life : Life) → map.get (meaning_of held.operations).lives n ≡ Some life → life.inc ≡ held.inc
   knows_itself n held on life e =
       let last = (w.node n).last in
@@ -90,7 +90,7 @@ module _ (w : ModelWorld) (s : SetWorld) (h : Sound w s) (k : Numbered w) where
     | false ↦ λ f. know n m mine theirs (λ same. true≢false (sym (eq-eqb n.0 m.0 (ap (λ (q : NodeId). q.0) same)) ∙ f)) on at life e
   ] refl
 
--- in every run of the model world, from the start
+-- shares leave the union in every run of the model world from the start
 pub shares_run : (t : Table) (es : List WorldEvent) (answers : List Answer) (final : ModelWorld) → Run t (start t) es answers final → SharesUnite es answers
 shares_run t es answers final r b k know share =
     let first = take b es in

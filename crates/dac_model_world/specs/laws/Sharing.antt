@@ -1,5 +1,5 @@
--- A share leaves each running node all that the running nodes had: an accepted ship carries the sender's whole set, and one
--- that is refused as up to date is to a node that has it. No set ever has more than whole sets of running nodes.
+-- A share leaves the union of their sets to all running nodes: an accepted ship carries the sender's whole set, and a
+-- ship refused as up to date is to a node that has it. Each set only ever contains whole sets of running nodes.
 use Rattle.std.proofs.Common.{◌≡◌, ◌⊎◌, ◌<◌, ℕ, zero, suc, ◌+◌, ◌-◌, Bool, true, false, cond, List, [], ◌∷◌, ◌++◌, length, Option, Some, None, Ok, Err, inl, inr, nat_eq, refl, sym, ap, subst, ◌∙◌, arith, true≢false, eq-eqb}
 use Rattle.std.specs.FinMap as map
 use Rattle.std.specs.List.{slice_get}
@@ -94,7 +94,7 @@ counted_short xs k x e = elim (nat_eq k 0) as (λ b. cond b None (slice_get xs (
     too_far k l a b = omega arith
 
 -- ---- lives
--- the life that a set means of a node is that of a smaller set too, where one of the smaller set says it
+-- a smaller set means the same life of a node if one of its operations says it
 life_stays : (os ps : List Operation) (m : NodeId) (life : Life) → AreOperationsOf ps os → map.get (meaning_of os).lives m ≡ Some life → IsSaid life_said (pairs ps) m life → map.get (meaning_of ps).lives m ≡ Some life
 life_stays os ps m life inside e said = ap (λ lives. map.get lives m) (lives-meaning ps) ∙ by_life (map.get (lives_of ps) m) (lives_are ps m)
   where
@@ -108,8 +108,8 @@ life_stays os ps m life inside e said = ap (λ lives. map.get lives m) (lives-me
     by_life None none = absurd (none life said)
     by_life (Some l) g = ap (λ z. Some z) ((chain_laws lives_total (exact_lives flag_cmp flags_exact)).antisymm l life tt tt (is.1 l (said_more l g.0)) (g.1 life said))
 
--- ---- what goes on along a share
--- the node runs on as the same incarnation with as much or more
+-- ---- invariants of a share
+-- the node runs on as the same incarnation with at least as much
 pub record Grows (held : NodeSet) (after : Option NodeSet) : Type 0 where
   pub now : NodeSet
   pub on : after ≡ Some now
@@ -122,7 +122,7 @@ grows_same held after on = record { now = held; on = on; same = refl; within = �
 grows_more : (held : NodeSet) (ps : List Operation) (after : Option NodeSet) → after ≡ Some (and_more held ps) → Grows held after
 grows_more held ps after on = record { now = and_more held ps; on = on; same = refl; within = λ o i. In-append_left o held.operations ps i }
 
--- from s the world of sets goes on to next: running nodes run on, and copies stay
+-- the world of sets goes on from s to next: running nodes run on, and copies stay
 pub record Onward (s next : SetWorld) : Type 0 where
   pub sets : (n : NodeId) (held : NodeSet) → s.node n ≡ Some held → Grows held (next.node n)
   pub copies : (k : ℕ) (c : Copy) → counted s.copies k ≡ Some c → counted next.copies k ≡ Some c
@@ -145,9 +145,10 @@ same_node m n e = ap (λ k. record { 0 = k }) (exact_unsigned_eq m.0 n.0 e)
 other_node : (m n : NodeId) → nat_eq m.0 n.0 ≡ false → m ≡ n → ⊥
 other_node m n f e = true≢false (sym (eq-eqb m.0 n.0 (ap (λ (k : NodeId). k.0) e)) ∙ f)
 
--- ---- a share that begins in this world of sets, in which each running node knows the present incarnation of each, or nothing of its life
+-- ---- a share from this world of sets, in which each running node knows the others' present incarnations, or nothing
+-- of their lives
 module _ (first : SetWorld) (present : (n m : NodeId) (mine theirs : NodeSet) → first.node n ≡ Some mine → first.node m ≡ Some theirs → (life : Life) → map.get (meaning_of mine.operations).lives m ≡ Some life → life.inc ≡ theirs.inc) where
-  -- the operation came with all that a node had that ran
+  -- the set contains the operation with all that a running node had
   pub record From (os : List Operation) (o : Operation) : Type 0 where
     pub node : NodeId
     pub held : NodeSet
@@ -167,15 +168,15 @@ module _ (first : SetWorld) (present : (n m : NodeId) (mine theirs : NodeSet) �
     | inr b ↦ from_more ps (os ++ ps) o (λ q j. In-append_right q os ps j) (g o b)
   ]
 
-  -- what such a set knows of a node that ran is its present incarnation
+  -- such a set knows only the present incarnation of a node that ran
   pub knows_present : (os : List Operation) → AreFrom os → (m : NodeId) (theirs : NodeSet) → first.node m ≡ Some theirs → (life : Life) → map.get (meaning_of os).lives m ≡ Some life → life.inc ≡ theirs.inc
   knows_present os from m theirs on life e =
       let said = life_says os m life e in
       let f = from said.0 said.1.0 in
       present f.node m f.held theirs f.on on life (life_stays os f.held.operations m life f.all e (is_said life_said f.held.operations m life (said.0, (f.there, said.1.1))))
 
-  -- ---- what holds at each moment of the share
-  -- the node runs on, with whole sets alone
+  -- ---- the invariant at each moment of the share
+  -- the node runs on, and its set contains whole sets
   pub record Kept (held : NodeSet) (after : Option NodeSet) : Type 0 where
     pub grows : Grows held after
     pub from : AreFrom grows.now.operations
@@ -192,7 +193,7 @@ module _ (first : SetWorld) (present : (n m : NodeId) (mine theirs : NodeSet) �
     copies = λ k c lt e. absurd (counted_short first.copies k c e lt);
   }
 
-  -- who runs has whole sets alone
+  -- running nodes have sets of whole sets
   pub from_now : (s : SetWorld) → Shared s → (n : NodeId) (held : NodeSet) → s.node n ≡ Some held → AreFrom held.operations
   from_now s h n held on = by_first (first.node n) refl
     where
@@ -231,7 +232,7 @@ module _ (first : SetWorld) (present : (n m : NodeId) (mine theirs : NodeSet) �
       abbrev heard_world : SetWorld
       heard_world = set_step s n (Deliver k) (Ok (Heard fresh))
 
-      -- who ran has its set, or the copy's operations with it
+      -- a node that ran has its set, or that with the copy's operations
       left_at : (m : NodeId) (held : NodeSet) → s.node m ≡ Some held → (heard_world.node m ≡ Some held) ⊎ (heard_world.node m ≡ Some (and_more held u.copy.operations))
       left_at m held on = elim (nat_eq m.0 n.0) as (λ b. nat_eq m.0 n.0 ≡ b → (heard_world.node m ≡ Some held) ⊎ (heard_world.node m ≡ Some (and_more held u.copy.operations))) [
         | true ↦ λ t.
@@ -285,7 +286,7 @@ module _ (first : SetWorld) (present : (n m : NodeId) (mine theirs : NodeSet) �
       let rest = next_events mid es answers one.shared fits.1 u.1 in
       record { shared = rest.shared; onward = onward_on s mid (set_run mid es answers) one.onward rest.onward }
 
-  -- the node runs in the end and has these operations
+  -- the node runs at the end and has these operations
   record HasThem (os : List Operation) (after : Option NodeSet) : Type 0 where
     set : NodeSet
     on : after ≡ Some set
@@ -294,7 +295,7 @@ module _ (first : SetWorld) (present : (n m : NodeId) (mine theirs : NodeSet) �
   has_on : (os : List Operation) (n : NodeId) (held : NodeSet) (s next : SetWorld) → Onward s next → s.node n ≡ Some held → AreOperationsOf os held.operations → HasThem os (next.node n)
   has_on os n held s next on at inside = let g = on.sets n held at in record { set = g.now; on = g.on; within = λ o i. g.within o (inside o i) }
 
-  -- a copy that is on its way and heard later
+  -- a copy shipped and heard later
   heard_later : (s : SetWorld) (es : List WorldEvent) (answers : List Answer) (n : NodeId) (k : ℕ) (c : Copy) → Shared s → AreInShare (length first.copies) es answers → AllUnite s es answers →
       counted s.copies k ≡ Some c → IsHeardAt n k es answers → HasThem c.operations ((set_run s es answers).node n)
   heard_later s [] answers n k c h fits u there at = absurd at
@@ -313,7 +314,7 @@ module _ (first : SetWorld) (present : (n m : NodeId) (mine theirs : NodeSet) �
         | inr later ↦ heard_later mid es answers n k c one.shared fits.1 u.1 (one.onward.copies k c there) later
       ]
 
-  -- what an accepted ship puts on its way
+  -- the copy of an accepted ship
   record IsOnItsWay (s : SetWorld) (n : NodeId) (next : SetWorld) : Type 0 where
     held : NodeSet
     on : s.node n ≡ Some held
@@ -329,7 +330,7 @@ module _ (first : SetWorld) (present : (n m : NodeId) (mine theirs : NodeSet) �
   on_its_way s n to _ fits u = absurd fits
 
   module _ (n to : NodeId) (mine theirs : NodeSet) (from : first.node n ≡ Some mine) (goes : first.node to ≡ Some theirs) where
-    -- a ship that reaches the other node gives it all
+    -- a ship that reaches the other node gives it the whole set
     reached : (s : SetWorld) (a : Answer) (es : List WorldEvent) (answers : List Answer) → Shared s → InShare (length first.copies) (Ships to) a → Unites s n (Ships to) a → TellsUpToDate s (record { node = n; what = Ships to }) a →
         let mid = set_step s n (Ships to) a in
         AreInShare (length first.copies) es answers → AllUnite mid es answers → Reaches to (length s.copies + 1) a es answers → HasThem mine.operations ((set_run mid es answers).node to)
@@ -362,7 +363,7 @@ module _ (first : SetWorld) (present : (n m : NodeId) (mine theirs : NodeSet) �
       | inr later ↦ told (set_step s e.node e.what a) es answers (next_event s h e.node e.what a fits.0 u.0).shared fits.1 u.1 tells.1 later
     ]
 
-  -- all that a running node had is at each node that ran
+  -- the set of a running node is at each node that ran
   reaches_all : (es : List WorldEvent) (answers : List Answer) → IsShare first es answers → AllUnite first es answers → TellUpToDate first es answers → (n m : NodeId) (mine theirs : NodeSet) → first.node n ≡ Some mine → first.node m ≡ Some theirs →
       HasThem mine.operations ((set_run first es answers).node m)
   reaches_all es answers share u tells n m mine theirs from goes = elim (nat_eq n.0 m.0) as (λ b. nat_eq n.0 m.0 ≡ b → HasThem mine.operations ((set_run first es answers).node m)) [

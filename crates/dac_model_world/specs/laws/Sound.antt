@@ -1,6 +1,6 @@
--- The model world is the world of sets: what holds of the two together after every event. Each node stands beside its
--- set (see OneNode), and each message beside its copy. What is kept of peers holds of their logs (see Carried), and
--- no two operations have one dot.
+-- The model world refines the world of sets: the invariant of the two after every event. Each node agrees with its set
+-- (see OneNode), and each message with its copy. The peer tables agree with the nodes' logs (see Carried), and dots are
+-- distinct.
 use Rattle.std.proofs.Common.{◌≡◌, ℕ, zero, suc, ◌≤◌, ◌+◌, ◌-◌, Bool, true, false, not, cond, ◌&&◌, ◌⊎◌, inl, inr, List, [], ◌∷◌, ◌++◌, length, drop, drop-drop, Option, Some, None, Result, Ok, Err, nat_eq, nat_le, refl, sym, ap, subst, ◌∙◌, append-nil, true≢false, eq-eqb, le_refl, arith}
 use Rattle.std.specs.Prelude.{nat_lt}
 use Rattle.std.specs.Option.{option_map, option_map_or}
@@ -35,7 +35,7 @@ use Rattle.dac_messages.specs.declared.reply.Reply.{Reply}
 use Rattle.dac_events.specs.declared.refusal.Refusal.TheVariants.{OnSelf, NotForMe, DotsUsedUp}
 use Rattle.dac_commands.specs.Causes.{first}
 use Rattle.dac_commands.specs.Commands.{act_of, next_operation}
-use Rattle.dac_model_node.specs.Ticks.{turn_of}
+use Rattle.dac_model_node.specs.Ticks.{sweep_of}
 use Rattle.dac_model_node.specs.Issued.{AreIssued}
 use Rattle.dac_model_node.specs.NodeValue.{RunningValue}
 use Rattle.dac_model_node.specs.ModelNode.{ModelNode, ModelRunning, joined, shown, running_shown}
@@ -60,11 +60,11 @@ abbrev pub Answer : Type 0
 Answer = Result Reply WorldFault
 
 -- ---- the invariant
--- what is seen of each node
+-- each node as seen by the others
 abbrev pub seen : (NodeId → ModelNode) → (NodeId → Option NodeSet) → (NodeId → Entries) → NodeId → Seen
 seen node sets entries n = record { last = (node n).last; on = sets n; entries = entries n }
 
--- the two worlds, and of each node the sets that the states of its log mean
+-- the two worlds, and for each node the sets that the states of its log mean
 pub record Sound (w : ModelWorld) (s : SetWorld) : Type 0 where
   pub entries : NodeId → Entries
   pub nodes : (n : NodeId) → NodeOk w.operations n (w.node n) (s.node n) (entries n)
@@ -73,7 +73,7 @@ pub record Sound (w : ModelWorld) (s : SetWorld) : Type 0 where
   pub copies : CopiesOk w.operations (seen w.node s.node entries) w.messages s.copies
   pub distinct : DistinctDots w.operations
 
--- ---- one node goes on
+-- ---- one node changes
 abbrev with_entries : (NodeId → Entries) → NodeId → Entries → NodeId → Entries
 with_entries entries n es m = cond (nat_eq m.0 n.0) es (entries m)
 
@@ -83,7 +83,7 @@ same_node m n e = ap (λ k. record { 0 = k }) (exact_unsigned_eq m.0 n.0 e)
 other_node : (m n : NodeId) → nat_eq m.0 n.0 ≡ false → m ≡ n → ⊥
 other_node m n f e = true≢false (sym (eq-eqb m.0 n.0 (ap (λ (k : NodeId). k.0) e)) ∙ f)
 
--- what the set of a node is after it is put, and that of any other
+-- the set of a node after it is replaced, and that of any other
 pub put_at : (sets : NodeId → Option NodeSet) (n : NodeId) (held : Option NodeSet) → with_set sets n held n ≡ held
 put_at sets n held = ap (λ b. cond b held (sets n)) (eq-eqb n.0 n.0 refl)
 
@@ -94,7 +94,7 @@ none_in : (o : Operation) → IsOperationOf o [] → ⊥
 none_in o h = h
 
 module _ (w : ModelWorld) (s : SetWorld) (n : NodeId) (h : Sound w s) where
-  -- P holds of what is seen at each later moment at which node n is seen so
+  -- P holds of each later moment at which node n is seen as x
   abbrev Onward : Seen → ((NodeId → Seen) → Type 0) → Type 0
   Onward x P = (v : NodeId → Seen) → v n ≡ x → ((m : NodeId) → Later (seen w.node s.node h.entries m) (v m)) → P v
 
@@ -133,11 +133,11 @@ module _ (w : ModelWorld) (s : SetWorld) (n : NodeId) (h : Sound w s) where
         distinct = distinct;
       }
 
-  -- nothing more is shipped
+  -- nothing is shipped
   same_copies : (qs : List Operation) (v : NodeId → Seen) → ((m : NodeId) → Later (seen w.node s.node h.entries m) (v m)) → CopiesOk (w.operations ++ qs) v (w.messages ++ []) s.copies
   same_copies qs v on = subst (λ ms. CopiesOk (w.operations ++ qs) v ms s.copies) (sym (append-nil w.messages)) (CopiesOk-later w.operations (w.operations ++ qs) (seen w.node s.node h.entries) v w.messages s.copies (λ o i. In-append_left o w.operations qs i) on h.copies)
 
--- the issues of operations are of these
+-- the operations of the issues of these operations
 operations-issues_of : (before os : List Operation) → operations_of (issues_of before os) ≡ os
 operations-issues_of before [] = refl
 operations-issues_of before (o ∷ os) = ap (λ rest. o ∷ rest) (operations-issues_of (before ++ o ∷ []) os)
@@ -146,7 +146,7 @@ operations-issues_of before (o ∷ os) = ap (λ rest. o ∷ rest) (operations-is
 issued_more : (ops more before : List Operation) (issued : List Issue) → operations_of issued ≡ ops → operations_of (issued ++ issues_of before more) ≡ ops ++ more
 issued_more ops more before issued is = map-append (λ (i : Issue). i.operation) issued (issues_of before more) ∙ (λ i. is i ++ operations-issues_of before more i)
 
--- which event is which
+-- telling events apart
 pub no_message : {P : Type 0} (m : Option Message) (e : Event) → ((l : Message) → Hear l ≡ e → ⊥) → heard_by m ≡ Ok e → P
 no_message None e other p = cc
 no_message (Some l) e other p = absurd (other l cc)
@@ -155,7 +155,7 @@ pub no_operation : {P : Type 0} (o : Option Operation) (e : Event) → ((x : Ope
 no_operation None e other p = cc
 no_operation (Some x) e other p = absurd (other x cc)
 
--- the number of a message that comes
+-- the number of the message delivered
 pub record Delivers (ms : List Message) (what : What) (m : Message) : Type 0 where
   pub number : ℕ
   pub is : what ≡ Deliver number
@@ -170,7 +170,7 @@ hears os ms (Deliver k) m e = record { number = k; is = refl; there = yes (count
 hears os ms (Hand k) m e = no_operation (counted os k) (Hear m) (λ x p. cc) e
 hears os ms _ m e = cc
 
--- the number of an operation that comes by itself
+-- the number of the operation handed
 pub record Hands (os : List Operation) (what : What) (o : Operation) : Type 0 where
   pub number : ℕ
   pub is : what ≡ Hand number
@@ -185,7 +185,7 @@ hears_op os ms (Hand k) o e = record { number = k; is = refl; there = yes (count
     yes (Some l) p = cc
 hears_op os ms _ o e = cc
 
--- an operation of a number is one of them
+-- an operation with a number is one of them
 slice_get_in : (os : List Operation) (k : ℕ) (o : Operation) → slice_get os k ≡ Some o → IsOperationOf o os
 slice_get_in [] k o e = absurd (none_some e)
   where
@@ -204,7 +204,7 @@ counted_in os k o e =
     no : None ≡ Some o → ⊥
     no p = cc
 
--- ---- a running node beside its set
+-- ---- a running node and its set
 pub held_at : (w : ModelWorld) (s : SetWorld) (n : NodeId) (r : ModelRunning) (h : Sound w s) → (w.node n).running ≡ Some r → HeldBy w.operations n (w.node n).last r (s.node n) (h.entries n)
 held_at w s n r h on =
     let same : w.node n ≡ runs_as (w.node n).last r = λ i. record { last = (w.node n).last; running = on i } in
@@ -215,8 +215,8 @@ record Adds (r : ModelRunning) (adds : List StateValue) (after : ModelRunning) :
   origin : after.origin ≡ r.origin
   log : after.log ≡ r.log ++ adds
 
--- ---- what comes to a node
--- why a message isn't refused
+-- ---- deliveries to a node
+-- the reasons for which a message isn't refused
 pub record Accepts (n : NodeId) (last : ℕ) (m : Message) : Type 0 where
   pub to : nat_eq m.to.0 n.0 ≡ true
   pub from : nat_eq m.from.node.0 n.0 ≡ false
@@ -237,12 +237,13 @@ accepts n last m r mine none =
     passes false true false d e = cc
     passes false false c d e = cc
 
--- a message that a running node doesn't refuse
+-- a message that a running node accepts
 pub heard_accepts : (t : Table) (w : ModelWorld) (s : SetWorld) (n : NodeId) (r : ModelRunning) (h : Sound w s) → (w.node n).running ≡ Some r → (m : Message) → refusal_of t (shown t (w.node n)) (Hear m) ≡ None → Accepts n (w.node n).last m
 heard_accepts t w s n r h on m none =
     accepts n (w.node n).last m (running_shown t r) (held_at w s n r h on).mine (ap (λ (l : Option ModelRunning). refusal_by t (w.node n).last (option_map (running_shown t) l) (Hear m)) (sym on) ∙ none)
 
--- What an event brings to a node with this set in the world of sets, and the state that it brings. The state means some of it, and the node has the rest.
+-- The operations that an event brings to a node with this set in the world of sets, and the state that it brings. The
+-- state means a part of them, and the node has the rest.
 pub record Brings (w : ModelWorld) (s : SetWorld) (n : NodeId) (what : What) (body : StateValue) (os : List Operation) : Type 0 where
   pub operations : List Operation
   pub brought : brought_to s n what ≡ operations
@@ -253,7 +254,7 @@ pub record Brings (w : ModelWorld) (s : SetWorld) (n : NodeId) (what : What) (bo
   pub rest : (o : Operation) → IsOperationOf o operations → IsOperationOf o delta ⊎ IsOperationOf o os
 
 module _ (w : ModelWorld) (s : SetWorld) (n : NodeId) (what : What) (m : Message) (r : ModelRunning) (h : Sound w s) (on : (w.node n).running ≡ Some r) where
-  -- an accepted message's copy goes in
+  -- an accepted message's copy is for the node
   pub goes_in : (c : Copy) → CopyOk w.operations (seen w.node s.node h.entries) m c → Accepts n (w.node n).last m → is_for n (held_at w s n r h on).set.inc c ≡ true
   goes_in c k ok =
       let held = held_at w s n r h on in
@@ -297,15 +298,15 @@ brings_one w s n what o os h is =
       rest = λ x i. inl i;
     }
 
--- ---- what is shipped
--- what a message says of the sender's set
+-- ---- shipped messages
+-- the part of the sender's set that a message carries
 record Part (v : NodeId → Seen) (body : Body) (only : Option ℕ) (to : NodeId) (os : List Operation) : Type 0 where
   delta : List Operation
   is : content_of body ≡ meaning_of delta
   inside : AreOperationsOf delta os
   rest : (o : Operation) → IsOperationOf o os → IsOperationOf o delta ⊎ Bound v to only o
 
--- an interval, or nothing, is the log from the number on
+-- an interval, or nothing, is the log from the number
 interval_is : (t : Table) (r : ModelRunning) (p : Position) → r.base ≤ p.number → content_of (body_from (running_shown t r) (Some p)) ≡ joined (drop p.number r.log)
 interval_is t r p kept =
     elim (nat_le (length r.log) p.number) as (λ b. nat_le (length r.log) p.number ≡ b → content_of (cond b Nothing (Interval (joined (drop (p.number - r.base) (drop r.base r.log))))) ≡ joined (drop p.number r.log)) [
@@ -354,7 +355,7 @@ module _ (ops : List Operation) (v : NodeId → Seen) (n : NodeId) (r : ModelRun
         ack = subst (λ (q : Origin). Acknowledges v q (ack_for r.peers to)) (sym mine) (ack_ok v n (v n).last r.peers to ok);
       }
 
--- ---- what transitions do
+-- ---- the effect of transitions
 above_it : (l : ℕ) → l ≡ l + 1 → ⊥
 above_it l e = omega arith
 
@@ -368,7 +369,7 @@ module _ (w : ModelWorld) (s : SetWorld) (n : NodeId) (h : Sound w s) where
   all_distinct : DistinctDots (w.operations ++ [])
   all_distinct = subst DistinctDots (sym (append-nil w.operations)) h.distinct
 
-  -- a node comes up
+  -- a node boots
   sound_boot : (now : ℕ) → let own = own_origin n ((w.node n).last + 1) in
       Sound (record { count = w.count; node = with_node w.node n (runs_as ((w.node n).last + 1) (comes_up own now)); operations = w.operations ++ up own ∷ []; messages = w.messages ++ [] })
       (booting s n (up own))
@@ -420,7 +421,7 @@ module _ (w : ModelWorld) (s : SetWorld) (n : NodeId) (h : Sound w s) where
         (λ v now later q p. subst (λ (y : ModelRunning). PeersOk v n last y.peers) (some_same after q p) (peers v now later))
         copies distinct
 
-    -- a running node adds nothing, and more may be on its way
+    -- a running node adds nothing, and can ship
     sound_keep : (ms : List Message) (cs : List Copy) → Adds r [] after → ((v : NodeId → Seen) → PeersOk v n (w.node n).last r.peers → PeersOk v n (w.node n).last after.peers) →
         ((v : NodeId → Seen) → ((m : NodeId) → Later (seen w.node s.node h.entries m) (v m)) → CopiesOk (w.operations ++ []) v (w.messages ++ ms) cs) →
         Sound (record { count = w.count; node = with_node w.node n (runs_as (w.node n).last after); operations = w.operations ++ []; messages = w.messages ++ ms }) (record { node = s.node; issued = s.issued; copies = cs })
@@ -495,7 +496,7 @@ module _ (w : ModelWorld) (s : SetWorld) (n : NodeId) (h : Sound w s) where
       subst (λ (o : Option NodeSet). CopiesOk (w.operations ++ []) v (w.messages ++ m ∷ []) (s.copies ++ copied_by o n m)) (sym held.is)
       (CopiesOk-push (w.operations ++ []) v w.messages s.copies m copy (CopiesOk-later w.operations (w.operations ++ []) u v w.messages s.copies more later h.copies) (CopyOk-later w.operations (w.operations ++ []) u v m copy more later one))
 
-  -- what is kept of peers after a message
+  -- the peer table after a message
   heard_peers : (what : What) (m : Message) (r : ModelRunning) (on : (w.node n).running ≡ Some r) (is : event_of w.operations w.messages what ≡ Ok (Hear m)) (ok : Accepts n (w.node n).last m) →
       let b = brings_copy w s n what m r h on is ok in
       (v : NodeId → Seen) → ((k : NodeId) → Later (seen w.node s.node h.entries k) (v k)) → (v n).last ≡ (w.node n).last → (v n).on ≡ Some (and_more (held_at w s n r h on).set b.operations) →
@@ -520,10 +521,10 @@ module _ (w : ModelWorld) (s : SetWorld) (n : NodeId) (h : Sound w s) where
   sound_tick t what r on note noted now Shut = sound_keep r on _ [] s.copies (record { origin = refl; log = refl }) (λ v k. k) (λ v later. same_copies w s n h [] v later)
   sound_tick t what r on note noted now GiveUp = sound_off
   sound_tick t what r on note noted now Opened =
-      let turn = turn_of t r.origin noted now (joined r.log) in
-      sound_issue r on _ turn.ops (record { origin = refl; log = refl }) refl (claims_issued t r.origin noted now (joined r.log))
+      let sweep = sweep_of t r.origin noted now (joined r.log) in
+      sound_issue r on _ sweep.ops (record { origin = refl; log = refl }) refl (claims_issued t r.origin noted now (joined r.log))
 
-  -- ---- an event that isn't refused
+  -- ---- an accepted event
   sound_ok : (t : Table) (what : What) (e : Event) (running : Option ModelRunning) → event_of w.operations w.messages what ≡ Ok e → refusal_of t (shown t (w.node n)) e ≡ None → (w.node n).running ≡ running →
       let step = accepted t n (w.node n).last running e in
       Sound (answered_by w n step.node step.answer).world (set_step s n what (answered_by w n step.node step.answer).answer)
@@ -562,7 +563,7 @@ pub sound_step : (t : Table) (w : ModelWorld) (s : SetWorld) (e : WorldEvent) (a
 sound_step t w s e a next h (inl d) = subst (λ (p : ModelWorld × Answer). Sound p.0 (set_step s e.node e.what p.1)) (λ i. (sym d.went_on i, sym d.answered i)) (sound_happens t w s e h)
 sound_step t w s e a next h (inr l) = subst (λ (p : ModelWorld × Answer). Sound p.0 (set_step s e.node e.what p.1)) (λ i. (sym l.stayed i, sym l.answered i)) h
 
--- after every run of the model world, the world of sets stands beside it
+-- every run of the model world refines the world of sets
 pub sound_run : (t : Table) (w : ModelWorld) (s : SetWorld) (es : List WorldEvent) (answers : List Answer) (final : ModelWorld) → Sound w s → Run t w es answers final → Sound final (set_run s es answers)
 sound_run t w s [] [] final h r = subst (λ (x : ModelWorld). Sound x s) (sym r.1) h
 sound_run t w s [] (a ∷ answers) final h r = absurd r.0
@@ -571,6 +572,6 @@ sound_run t w s (e ∷ es) (a ∷ answers) final h run =
     let r = run_first t w e es a answers final run in
     sound_run t r.0 (set_step s e.node e.what a) es answers final (sound_step t w s e a r.0 h r.1.0) r.1.1
 
--- nothing has happened yet
+-- the worlds at the start
 pub sound_start : (t : Table) → Sound (start t) no_sets
 sound_start t = record { entries = λ _. []; nodes = λ n. off_ok [] n 0 (λ o i. absurd i); issued = refl; peers = λ n r e. none_some e; copies = tt; distinct = tt }

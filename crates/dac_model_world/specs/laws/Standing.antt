@@ -1,4 +1,4 @@
--- What stands in what a set means: one of the set's operations is it, and none replaces it.
+-- A dot stands in the meaning of a set if one of the operations has it, and none replaces it.
 use Rattle.std.proofs.Common.{◌≡◌, ◌⊎◌, Bool, true, false, not, cond, inl, inr, List, Option, None, refl, sym, ap, subst, ◌∙◌}
 use Rattle.std.specs.Prelude.{◌↔◌, is_some}
 use Rattle.std.specs.List.{list_any}
@@ -22,14 +22,14 @@ use Rattle.dac_wishes.specs.Writes.{Write, write, same_dot}
 use Rattle.dac_operations.specs.declared.act.Act.{Act}
 use Rattle.dac_operations.specs.declared.act.Act.TheVariants.{Permit, Start, Stop, Drain}
 use Rattle.dac_operations.specs.Operations.{Operation, over_list}
-use Rattle.dac_meaning.specs.Meaning.{meaning_of, IsOperationOf, has_dot, is_replaced, is_same, vote_says, is_vote, vote_said, vote_at, permit_vote, drain_vote, says, flag_said, wishes, is_start}
+use Rattle.dac_meaning.specs.Meaning.{meaning_of, IsOperationOf, has_dot, is_replaced, is_same, vote_says, is_vote, vote_flag, vote_at, permit_vote, drain_vote, says, flag_written, wishes, is_start}
 use Rattle.dac_meaning.specs.laws.Members.{found, finds}
 use Rattle.dac_meaning.specs.laws.Readers.{starts-meaning, permits-meaning, drains-meaning}
 use Rattle.dac_commands.specs.Written.{PermitStands, StartStands, DrainStands}
 use Rattle.dac_model_world.specs.Causality.{IsPermitOf, IsStartOf, IsDrainOf, EndsStart}
 use Rattle.dac_model_world.specs.laws.Replacing.{Replaces}
 
--- one of the operations writes so and has the dot, and none replaces the dot
+-- one of the operations is such a write and has the dot, and none replaces the dot
 pub record StandsAs (Writes : Act → Type 0) (os : List Operation) (d : Dot) : Type 0 where
   pub operation : Operation
   pub there : IsOperationOf operation os
@@ -40,9 +40,9 @@ pub record StandsAs (Writes : Act → Type 0) (os : List Operation) (d : Dot) : 
 dot_tested : (d : Dot) (o : Operation) → o.dot ≡ d → has_dot d o ≡ true
 dot_tested d o e = ap (same_dot d) e ∙ same_dot_itself d
 
-turned : (a : Bool) → not a ≡ true → a ≡ false
-turned true h = absurd (false≢true h)
-turned false h = refl
+swept : (a : Bool) → not a ≡ true → a ≡ false
+swept true h = absurd (false≢true h)
+swept false h = refl
 
 -- ---- start wishes
 wish_is : (key : Key) (act : Act) → wishes key act ≡ true → IsStartOf key act
@@ -60,7 +60,7 @@ starts_stand os key d = (
       let parts = and_parts (list_any (is_start w) os) (not (is_replaced d os)) (sym (starts-meaning os w) ∙ h) in
       let o = found (is_start w) os parts.0 in
       let both = and_parts (wishes key o.0.act) (has_dot d o.0) o.1.1 in
-      record { operation = o.0; there = o.1.0; writes = wish_is key o.0.act both.0; is = sym (same_dot_is d o.0.dot both.1); stays = turned (is_replaced d os) parts.1 },
+      record { operation = o.0; there = o.1.0; writes = wish_is key o.0.act both.0; is = sym (same_dot_is d o.0.dot both.1); stays = swept (is_replaced d os) parts.1 },
   λ x.
       let w : Write = write key d in
       let o = x.operation in
@@ -85,18 +85,18 @@ is_said key _ e = absurd e
 
 -- ---- votes
 
-either_said : (a b : Bool) → is_some (flag_said a b) ≡ true → (a ≡ true) ⊎ (b ≡ true)
+either_said : (a b : Bool) → is_some (flag_written a b) ≡ true → (a ≡ true) ⊎ (b ≡ true)
 either_said true b h = inl refl
 either_said false true h = inr refl
 either_said false false h = absurd (false≢true h)
 
-said_either : (a b : Bool) → (a ≡ true) ⊎ (b ≡ true) → is_some (flag_said a b) ≡ true
+said_either : (a b : Bool) → (a ≡ true) ⊎ (b ≡ true) → is_some (flag_written a b) ≡ true
 said_either true b h = refl
 said_either false true h = refl
 said_either false false (inl h) = absurd (false≢true h)
 said_either false false (inr h) = absurd (false≢true h)
 
--- what is said is what is Down, or what is Up
+-- the value said is `down`, or the other one
 one_value : (down v : Bool) (any : Bool → Bool) → any v ≡ true → (any down ≡ true) ⊎ (any (not down) ≡ true)
 one_value true true any h = inl h
 one_value true false any h = inr h
@@ -116,28 +116,28 @@ module _ {K : Type 0} (R : K → K → Ordering) (vote : Act → Option (K × Bo
       let both = and_parts (vote_says R key v (vote o.0.act)) (has_dot d o.0) o.1.1 in
       (o.0, (o.1.0, (writes_is key v o.0.act both.0, sym (same_dot_is d o.0.dot both.1))))
 
-  said_found : (os : List Operation) (key : K) (d : Dot) → is_some (vote_said R vote down (keyed_write key d) os) ≡ true → (o : Operation) × (IsOperationOf o os × (Writes key o.act × (o.dot ≡ d)))
+  said_found : (os : List Operation) (key : K) (d : Dot) → is_some (vote_flag R vote down (keyed_write key d) os) ≡ true → (o : Operation) × (IsOperationOf o os × (Writes key o.act × (o.dot ≡ d)))
   said_found os key d h = elim (either_said (list_any (is_vote R vote (keyed_write key d) down) os) (list_any (is_vote R vote (keyed_write key d) (not down)) os) h) [
     | inl t ↦ vote_found os key d down t
     | inr t ↦ vote_found os key d (not down) t
   ]
 
-  found_said : (os : List Operation) (key : K) (d : Dot) (v : Bool) → list_any (is_vote R vote (keyed_write key d) v) os ≡ true → is_some (vote_said R vote down (keyed_write key d) os) ≡ true
+  found_said : (os : List Operation) (key : K) (d : Dot) (v : Bool) → list_any (is_vote R vote (keyed_write key d) v) os ≡ true → is_some (vote_flag R vote down (keyed_write key d) os) ≡ true
   found_said os key d v h =
       said_either (list_any (is_vote R vote (keyed_write key d) down) os) (list_any (is_vote R vote (keyed_write key d) (not down)) os)
       (one_value down v (λ v. list_any (is_vote R vote (keyed_write key d) v) os) h)
 
-  -- a vote stands exactly if one of the operations writes so and none replaces it
+  -- a vote stands if and only if one of the operations is such a write and none replaces it
   votes_stand : (os : List Operation) (key : K) (d : Dot) → (is_some (vote_at R vote down os (keyed_write key d)) ≡ true) ↔ StandsAs (Writes key) os d
   votes_stand os key d = (
     λ h.
-        let parts = given (is_replaced d os) (vote_said R vote down (keyed_write key d) os) h in
+        let parts = given (is_replaced d os) (vote_flag R vote down (keyed_write key d) os) h in
         let p = said_found os key d parts.1 in
         record { operation = p.0; there = p.1.0; writes = p.1.1.0; is = p.1.1.1; stays = parts.0 },
     λ x.
         let o = x.operation in
         let v = is_told key o.act x.writes in
-        ap (λ b. is_some (cond b None (vote_said R vote down (keyed_write key d) os))) x.stays
+        ap (λ b. is_some (cond b None (vote_flag R vote down (keyed_write key d) os))) x.stays
         ∙ found_said os key d v.0 (finds (is_vote R vote (keyed_write key d) v.0) os o x.there (and_from (vote_says R key v.0 (vote o.act)) (has_dot d o) v.1 (dot_tested d o x.is))),
   )
 
@@ -160,8 +160,8 @@ drains_stand os at d =
     let stand = votes_stand origin_cmp drain_vote true IsDrainOf drain_is is_drain os at d in
     (λ h. stand.0 (ap is_some (sym (drains-meaning os (keyed_write at d))) ∙ h), λ x. ap is_some (drains-meaning os (keyed_write at d)) ∙ stand.1 x)
 
--- ---- what replaces what
--- an act that replaces another's dot: the other is of its kind and its key
+-- ---- which acts replace which
+-- an act replaces only dots of acts of its kind and key
 abbrev pub IsReplacedBy : Act → Act → Type 0
 IsReplacedBy p (Permit key value over) = IsPermitOf key p
 IsReplacedBy p (Start key over) = IsStartOf key p
@@ -202,7 +202,7 @@ pub drain_takes : (at : Origin) (os : List Operation) (act : Act) (d : Dot) → 
 drain_takes at os (Drain n i value over) d r e x = (r d).1 ((drains_stand os (origin n i) d).1 (subst (λ q. StandsAs (IsDrainOf q) os d) (sym e) x))
 drain_takes at os _ d r e x = absurd e
 
--- an act is of one kind and one key
+-- an act has one kind and one key
 one_permit : (k key : Key) (p : Act) → IsPermitOf k p → IsPermitOf key p → k ≡ key
 one_permit k key (Permit q value over) a b = sym a ∙ b
 one_permit k key _ a b = absurd a
@@ -227,7 +227,7 @@ no_start_drains : (key : Key) (at : Origin) (p : Act) → IsStartOf key p → Is
 no_start_drains key at (Start k over) a b = b
 no_start_drains key at _ a b = a
 
--- what replaces a permit of a key is one
+-- an act that replaces a permit of a key is one
 pub permit_ends : (key : Key) (p o : Act) → IsReplacedBy p o → IsPermitOf key p → IsPermitOf key o
 permit_ends key p (Permit k value over) a b = one_permit k key p a b
 permit_ends key p (Start k over) a b = not_both k key p a b
@@ -235,7 +235,7 @@ permit_ends key p (Stop k over) a b = not_both k key p a b
 permit_ends key p (Drain n i value over) a b = no_permit_drains key (origin n i) p b a
 permit_ends key p _ a b = a
 
--- what replaces a start of a key is a start or a stop of it
+-- an act that replaces a start of a key is a start or a stop of it
 pub start_ends : (key : Key) (p o : Act) → IsReplacedBy p o → IsStartOf key p → EndsStart key o
 start_ends key p (Permit k value over) a b = absurd (not_both key k p b a)
 start_ends key p (Start k over) a b = inl (one_start k key p a b)
@@ -243,7 +243,7 @@ start_ends key p (Stop k over) a b = inr (one_start k key p a b)
 start_ends key p (Drain n i value over) a b = absurd (no_start_drains key (origin n i) p b a)
 start_ends key p _ a b = absurd a
 
--- what replaces a drain of an incarnation is one
+-- an act that replaces a drain of an incarnation is one
 pub drain_ends : (at : Origin) (p o : Act) → IsReplacedBy p o → IsDrainOf at p → IsDrainOf at o
 drain_ends at p (Permit k value over) a b = no_permit_drains k at p a b
 drain_ends at p (Start k over) a b = no_start_drains k at p a b

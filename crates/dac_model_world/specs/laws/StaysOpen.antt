@@ -1,4 +1,4 @@
--- A start gate that opened stays open.
+-- A start gate that has opened stays open.
 use Rattle.std.proofs.Common.{◌≡◌, true, false, cond, nat_eq, List, [], ◌∷◌, ◌++◌, Option, Some, None, Result, Ok, Err, inl, inr, refl, sym, ap, subst, append-nil, eq-eqb}
 use Rattle.std.specs.Prelude.{nat_lt}
 use Rattle.std.proofs.lemmas.Map.Views.{exact_unsigned_eq}
@@ -70,7 +70,7 @@ module _ (t : Table) (w : ModelWorld) where
         | false ↦ λ shut. shut
       ]
 
-  -- what is answered so, by `NoMemory` perhaps
+  -- an event with this result, which can be `NoMemory`
   opens_by : (e : WorldEvent) (a : Result Reply WorldFault) → IsAnswer (happens t w e) a → Answers SaysOpen a → RunsOpen ((went t w e a).node e.node).running
   opens_by e a (inl is) says = subst (λ (v : ModelWorld). RunsOpen (v.node e.node).running) (sym (went_as_answered t w e a is)) (opened_there e (subst (Answers SaysOpen) is says))
   opens_by e a (inr lacked) says = absurd (subst (Answers SaysOpen) lacked.0 says)

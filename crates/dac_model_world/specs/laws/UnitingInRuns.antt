@@ -1,4 +1,4 @@
--- What is shipped is the sender's whole set, and what is heard is united with the receiver's.
+-- Ships send the sender's whole set, and hearing unites the receiver's set with it.
 use Rattle.std.proofs.Common.{◌≡◌, ℕ, true, false, cond, inl, inr, List, [], ◌∷◌, ◌++◌, Option, Some, None, Ok, Err, refl, sym, ap, subst, ◌∙◌}
 use Rattle.std.specs.Prelude.{nat_lt}
 use Rattle.std.specs.Option.{option_map}
@@ -27,7 +27,7 @@ use Rattle.dac_model_world.specs.laws.Runs.{run_first}
 use Rattle.dac_model_world.specs.laws.Carried.{none_some, message_copy}
 use Rattle.dac_model_world.specs.laws.Sound.{Answer, Sound, Accepts, seen, put_at, hears, hears_op, held_at, heard_accepts, goes_in, sound_step}
 
--- what is united at a node
+-- the world after a node unites its set with what an event brings
 abbrev hearing : SetWorld → NodeId → What → SetWorld
 hearing s n what = record { node = with_set s.node n (united (s.node n) (brought_to s n what)); issued = s.issued; copies = s.copies }
 
@@ -35,7 +35,7 @@ module _ (w : ModelWorld) (s : SetWorld) (n : NodeId) (r : ModelRunning) (h : So
   unite_ship : (m : Message) → IsPut s n m (record { node = s.node; issued = s.issued; copies = s.copies ++ copied_by (s.node n) n m })
   unite_ship m = let held = held_at w s n r h on in record { held = held.set; on = held.is; after = ap (λ (o : Option NodeSet). s.copies ++ copied_by o n m) held.is }
 
-  -- the set after a node united what an event brings
+  -- the set of that node
   after_union : (what : What) (os : List Operation) → brought_to s n what ≡ os → (hearing s n what).node n ≡ united (Some (held_at w s n r h on).set) os
   after_union what os is = put_at s.node n (united (s.node n) (brought_to s n what)) ∙ (λ i. united ((held_at w s n r h on).is i) (is i))
 
@@ -93,7 +93,7 @@ unite_step : (t : Table) (w : ModelWorld) (s : SetWorld) (e : WorldEvent) (a : A
 unite_step t w s e a next h (inl d) = subst (Unites s e.node e.what) (sym d.answered) (unite_happens t w s e h)
 unite_step t w s e a next h (inr l) = subst (Unites s e.node e.what) (sym l.answered) tt
 
--- in every run of the model world
+-- ships and hears unite sets in every run of the model world
 pub unite_run : (t : Table) (w : ModelWorld) (s : SetWorld) (es : List WorldEvent) (answers : List Answer) (final : ModelWorld) → Sound w s → Run t w es answers final → AllUnite s es answers
 unite_run t w s [] answers final h r = tt
 unite_run t w s (e ∷ es) [] final h r = tt

@@ -34,8 +34,8 @@ use Rattle.dac_model_world.specs.laws.Carried.{none_some, begins_is}
 use Rattle.dac_model_world.specs.laws.Runs.{run_first}
 use Rattle.dac_model_world.specs.laws.Sound.{Answer, Sound, seen, held_at, sound_step}
 
--- ---- where the sender begins
--- the life of the node that is named by the place from which an interval begins
+-- ---- where the sender's interval begins
+-- the life of the node that the position for an interval names
 record Known (s : StateValue) (to : NodeId) (p : Position) : Type 0 where
   life : Life
   known : map.get s.lives to ≡ Some life
@@ -64,7 +64,7 @@ begins_known p s base to q e = kept (acked_at p s to) refl e
       | false ↦ λ h. none_some h
     ] e
 
--- what is up to date has a place, with no state after it
+-- an up-to-date node has a position, with no state after it
 all_from : (p : PeersValue) (s : StateValue) (base count : ℕ) (to : NodeId) → is_up_to_date p s base count to ≡ true → (q : Position) × ((begins p s base to ≡ Some q) × (count ≤ q.number))
 all_from p s base count to e = by_place (begins p s base to) refl (left (has_all count (begins p s base to)) (not (set.contains p.owed to)) e)
   where
@@ -83,7 +83,7 @@ ship_refused false true c e = cc
 ship_refused false false true e = refl
 ship_refused false false false e = cc
 
--- where the sender runs, and nothing is to be shipped
+-- the sender runs, and nothing needs to be shipped
 all_had : (w : ModelWorld) (s : SetWorld) (n to : NodeId) (r : ModelRunning) → Sound w s → (w.node n).running ≡ Some r → is_up_to_date r.peers (joined r.log) r.base (length r.log) to ≡ true → HasAll s n to
 all_had w s n to r h on up =
     let from = all_from r.peers (joined r.log) r.base (length r.log) to up in
@@ -115,7 +115,7 @@ no_node_so e = cc
 same_why : (why : Refusal) → ◌≡◌ {A = Answer} (Err (Refused why)) (Err (Refused UpToDate)) → Some why ≡ Some UpToDate
 same_why why e = cc
 
--- the node refuses the ship so
+-- the node refuses the ship as up to date
 refused_so : (t : Table) (w : ModelWorld) (n to : NodeId) (b : Bool) → (cond b (happens_by t w n (Ok (Ship to))) (record { world = w; answer = Err NoSuchNode })).answer ≡ Err (Refused UpToDate) → refusal_of t (shown t (w.node n)) (Ship to) ≡ Some UpToDate
 refused_so t w n to false e = absurd (no_node_so e)
 refused_so t w n to true e = by_refusal (refusal_of t (shown t (w.node n)) (Ship to)) e
@@ -148,7 +148,7 @@ up_step t w s e a next h (inr l) = subst (TellsUpToDate s e) (sym l.answered) (�
     no : out_of_memory ≡ Err (Refused UpToDate) → ⊥
     no p = cc
 
--- in every run of the model world
+-- ships are refused as up to date only if the receiver has all, in every run of the model world
 pub up_to_date_run : (t : Table) (w : ModelWorld) (s : SetWorld) (es : List WorldEvent) (answers : List Answer) (final : ModelWorld) → Sound w s → Run t w es answers final → TellUpToDate s es answers
 up_to_date_run t w s [] answers final h r = tt
 up_to_date_run t w s (e ∷ es) [] final h r = tt

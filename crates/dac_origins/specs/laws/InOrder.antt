@@ -13,7 +13,7 @@ use Rattle.std.proofs.lemmas.Map.Lookups.{CmpEqualImpliesEq}
 use Rattle.dac_origins.specs.Keys.{is_below_all, IsRising, has_key}
 use Rattle.dac_origins.specs.InOrder.{in_order, placed, sorted}
 
--- ---- laws
+-- ---- disjunctions, and lists without a key
 
 or_again : (a b : Bool) → (a || (a || b)) ≡ (a || b)
 or_again true b = refl
@@ -24,7 +24,7 @@ or_swap true true c = refl
 or_swap true false c = refl
 or_swap false b c = refl
 
--- two tests that agree beside a third, and both fail where it holds, agree
+-- two tests are equal if their disjunctions with a third are, and both fail whenever it holds
 rest_same : (a x y : Bool) → (a ≡ true → x ≡ false) → (a ≡ true → y ≡ false) → (a || x) ≡ (a || y) → x ≡ y
 rest_same true x y p q e = p refl ∙ sym (q refl)
 rest_same false x y p q e = e
@@ -64,7 +64,7 @@ module _ {K : Type 0} {R : K → K → Ordering} (o : IsTotalOrder R) where
   rising_sorted [] = refl
   rising_sorted (k ∷ ks) = rising_placed k (sorted R ks) (rising_sorted ks)
 
-  -- a key below all others isn't among them
+  -- a key less than all of a list isn't in it
   pub below_absent : (k : K) (ks : List K) → is_below_all R k ks ≡ true → has_key R ks k ≡ false
   below_absent k [] h = refl
   below_absent k (x ∷ ks) h = ap (λ r. is_eq r || has_key R ks k) (less _ (and_parts _ _ h).0) ∙ below_absent k ks (and_parts _ _ h).1
@@ -88,7 +88,7 @@ module _ {K : Type 0} {R : K → K → Ordering} (o : IsTotalOrder R) where
     tied_absent : (q k : K) (ks : List K) → is_below_all R k ks ≡ true → eq_by_cmp R q k ≡ true → has_key R ks q ≡ false
     tied_absent q k ks h e = ap (has_key R ks) (exact q k (tie _ e)) ∙ below_absent k ks h
 
-    -- of two rising lists with the same keys, the first isn't below all of the second
+    -- if two sorted lists have the same keys, the first key of one isn't less than all of the other
     not_below : (x : K) (xs ys : List K) → ((q : K) → has_key R (x ∷ xs) q ≡ has_key R ys q) → is_below_all R x ys ≡ true → ⊥
     not_below x xs ys same h = true≢false (sym (has_itself x xs) ∙ same x ∙ below_absent x ys h)
 
@@ -101,7 +101,7 @@ module _ {K : Type 0} {R : K → K → Ordering} (o : IsTotalOrder R) where
           absurd (not_below y ys (x ∷ xs) (λ q. sym (same q)) (and_from _ _ (ap is_lt y_first) (below_more y x xs y_first (and_parts _ _ g).0)))
     ] refl
 
-    -- two rising lists with the same keys are one list
+    -- two sorted lists with the same keys are equal
     pub same_rising : (xs ys : List K) → IsRising R xs → IsRising R ys → ((q : K) → has_key R xs q ≡ has_key R ys q) → xs ≡ ys
     same_rising [] [] g h same = refl
     same_rising [] (y ∷ ys) g h same = absurd (true≢false (sym (has_itself y ys) ∙ sym (same y)))
@@ -118,7 +118,7 @@ module _ {K : Type 0} {R : K → K → Ordering} (o : IsTotalOrder R) where
     unfolding in_order
     in_order-rising s = rising_sorted (set.items s)
 
-    -- it has the keys of the set
+    -- the sorted list of a set has the keys of the set
     pub has_key-in_order : (s : set.FinSet R) (q : K) → has_key R (in_order s) q ≡ set.contains s q
     unfolding in_order
     has_key-in_order s q = has_key-sorted (set.items s) q ∙ sym (set.contains-items s q)
@@ -126,6 +126,6 @@ module _ {K : Type 0} {R : K → K → Ordering} (o : IsTotalOrder R) where
     pub in_order-same : (s : set.FinSet R) → set.from_list (in_order s) ≡ s
     in_order-same s = set.same_set o exact _ _ (λ q. set.contains-from_list o (in_order s) q ∙ has_key-in_order s q)
 
-    -- a rising list is its set in order
+    -- a sorted list equals the sorted list of its set
     pub in_order-one : (s : set.FinSet R) (ks : List K) → IsRising R ks → set.from_list ks ≡ s → ks ≡ in_order s
     in_order-one s ks h is = same_rising ks (in_order s) h (in_order-rising s) (λ q. sym (set.contains-from_list o ks q) ∙ ap (λ t. set.contains t q) is ∙ sym (has_key-in_order s q))

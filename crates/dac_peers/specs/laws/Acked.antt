@@ -1,4 +1,4 @@
--- Of each origin the greatest number is kept that it acknowledged.
+-- The greatest number that each origin acknowledged is recorded.
 use Rattle.std.specs.Prelude.{◌≡◌, ◌≢◌, ◌⊎◌, ◌≤◌, ◌&&◌, ℕ, Bool, true, false, cond, nat_eq, nat_le, max, Option, None, Some, refl}
 use Rattle.std.proofs.Common.{inl, inr, arith, leb, ap, sym, subst, ◌∙◌}
 use Rattle.std.proofs.lemmas.Bool.{eqb-true, eq-eqb, leb-true, leb-false, le-leb, true≢false}
@@ -15,17 +15,17 @@ use Rattle.dac_messages.specs.declared.message.Message.{Message}
 use Rattle.dac_peers.specs.Peers.{PeersValue, counts, acked_after}
 use Rattle.dac_peers.specs.InWords.{Acknowledges, AckedIsGreatest}
 
--- ---- the greatest of a number and of others
+-- ---- the greatest of a number and others
 module _ (Q : ℕ → Type 0) where
   abbrev WithOld : Option ℕ → ℕ → Type 0
   WithOld old n = (old ≡ Some n) ⊎ Q n
 
-  -- where there are no others
+  -- without others
   old_alone : (old : Option ℕ) → ((n : ℕ) → ¬ (Q n)) → IsGreatest (WithOld old) old
   old_alone None none = λ n s. elim s [ inl e ↦ none-some n e | inr q ↦ none n q ]
   old_alone (Some g) none = (inl refl, λ n s. elim s [ inl e ↦ let is = same_Some g n e in omega arith | inr q ↦ absurd (none n q) ])
 
-  -- where there is one other
+  -- with one other
   with_new : (old : Option ℕ) (new : ℕ) → Q new → ((n : ℕ) → Q n → new ≡ n) → IsGreatest (WithOld old) (Some (greater old new))
   with_new None new q one = (inr q, λ n s. elim s [ inl e ↦ absurd (none-some n e) | inr r ↦ let is = one n r in omega arith ])
   with_new (Some g) new q one = (
@@ -36,7 +36,7 @@ module _ (Q : ℕ → Type 0) where
     λ n s. elim s [ inl e ↦ let is = same_Some g n e in omega arith | inr r ↦ let is = one n r in omega arith ],
   )
 
--- two origins are equal or not, and the test tells
+-- origins are equal or not, as the test says
 pub same_or_not : (a b : Origin) → ((a ≡ b) × (eq_by_cmp origin_cmp a b ≡ true)) ⊎ ((a ≢ b) × (eq_by_cmp origin_cmp a b ≡ false))
 same_or_not a b = elim (eq_by_cmp origin_cmp a b) as (λ t. eq_by_cmp origin_cmp a b ≡ t → ((a ≡ b) × (eq_by_cmp origin_cmp a b ≡ true)) ⊎ ((a ≢ b) × (eq_by_cmp origin_cmp a b ≡ false))) [
   | true ↦ λ e. inl (exact_origins a b ((Equal-is (origin_cmp a b)).0 e), e)
@@ -70,7 +70,7 @@ module _ (own : Origin) (count : ℕ) (p : PeersValue) (m : Message) where
   abbrev new : ℕ → ℕ
   new n = greater (map.get p.acked m.from) n
 
-  -- it acknowledges nothing
+  -- a message without an acknowledgement that counts
   unchanged : ((n : ℕ) → m.ack ≡ Some (own, n) → ¬ (n ≤ count)) → After p.acked
   unchanged none = (λ origin. old_alone (Acknowledges own count m origin) (map.get p.acked origin) (λ n a. none n a.ack a.within), λ origin apart. refl)
 

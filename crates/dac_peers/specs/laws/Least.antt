@@ -1,4 +1,4 @@
--- What all have acknowledged is the least of what each other node did.
+-- The number that all nodes acknowledged is the least of the other nodes' numbers.
 use Rattle.std.specs.Prelude.{◌≡◌, ◌≢◌, ◌≤◌, ℕ, zero, suc, true, false, cond, nat_eq, min, [], ◌∷◌, ◌++◌, map as list_map, fold, Option, None, Some, unwrap_or, refl}
 use Rattle.std.specs.Option.{option_map, option_and_then}
 use Rattle.std.proofs.Common.{inl, inr, arith, leb, ap, sym, subst, ◌∙◌}
@@ -57,7 +57,7 @@ module _ (number : NodeId → ℕ) (own : NodeId) where
   same_node : (node : NodeId) (n : ℕ) → node.0 ≡ n → node ≡ next n
   same_node node n e = ap next e
 
-  -- no other is added
+  -- number n is this node
   with_own : (n : ℕ) → n ≡ own.0 → (x : Option ℕ) → IsLeast n x → IsLeast (suc n) x
   with_own n is None h = λ node other. let apart : node.0 ≡ n → ⊥ = λ e. other.1 (ap next (e ∙ is)) in h node (omega arith, other.1)
   with_own n is (Some least) h = (
@@ -65,7 +65,7 @@ module _ (number : NodeId → ℕ) (own : NodeId) where
     (h.1.0, (omega arith, h.1.1.1), h.1.2),
   )
 
-  -- one other is added
+  -- number n is another node
   with_other : (n : ℕ) → n ≢ own.0 → (x : Option ℕ) → IsLeast n x → IsLeast (suc n) (lesser x (number (next n)))
   with_other n is_not None h = (
     λ node other. elim (eqb_tells node.0 n) [

@@ -1,4 +1,4 @@
--- What was got of a node never goes back.
+-- Positions got never go back.
 use Rattle.std.specs.Prelude.{◌≡◌, ◌≢◌, ◌⊎◌, ℕ, true, false, cond, nat_eq, nat_lt, max, Option, None, Some, refl}
 use Rattle.std.proofs.Common.{inl, inr, arith, leb, ap, sym, subst, ◌∙◌}
 use Rattle.std.proofs.lemmas.Bool.{eqb-true, eqb-false, leb-true, leb-false, ltb-true, ltb-false, true≢false}
@@ -18,7 +18,7 @@ use Rattle.dac_peers.specs.declared.positions.Position.{Position}
 use Rattle.dac_peers.specs.Peers.{PeersValue, later, got_after, heard_from}
 use Rattle.dac_peers.specs.InWords.{IsUpTo, position_of, IsOnward, GotGoesOnward}
 
--- two nodes are equal or not, and the test tells
+-- nodes are equal or not, as the test says
 pub same_or_not : (a b : NodeId) → ((a ≡ b) × (eq_by_cmp node_cmp a b ≡ true)) ⊎ ((a ≢ b) × (eq_by_cmp node_cmp a b ≡ false))
 same_or_not a b = elim (eq_by_cmp node_cmp a b) as (λ t. eq_by_cmp node_cmp a b ≡ t → ((a ≡ b) × (eq_by_cmp node_cmp a b ≡ true)) ⊎ ((a ≢ b) × (eq_by_cmp node_cmp a b ≡ false))) [
   | true ↦ λ e. inl (exact_nodes a b ((Equal-is (node_cmp a b)).0 e), e)
@@ -43,7 +43,7 @@ later_is old new = elim (nat_lt old.inc new.inc) as (λ b. nat_lt old.inc new.in
       ] refl
 ] refl
 
--- what is got at last is no earlier than what was got and than what comes, and is one of them
+-- the position after an update is one of the old and the new one, and no earlier than either
 record IsAfter (before : Option Position) (new position : Position) : Type 0 where
   from_old : (b : Position) → before ≡ Some b → IsUpTo b position
   from_new : IsUpTo new position
@@ -69,7 +69,7 @@ after_is (Some b) new = elim (later_is b new) [
 
 -- ---- after a message
 module _ (p : PeersValue) (m : Message) (after : PeersValue) where
-  -- one that brings nothing
+  -- a message without a state
   of_nothing : m.body ≡ Nothing → after.got ≡ p.got → IsOnward p m after
   of_nothing none same = record {
     onward = λ node old e. (old, ap (λ g. map.get g node) same ∙ e, up_to_itself old);
@@ -84,7 +84,7 @@ module _ (p : PeersValue) (m : Message) (after : PeersValue) where
   abbrev latest : Position
   latest = got_after (map.get p.got from) (position_of m)
 
-  -- one that brings something
+  -- a message with a state
   of_more : m.body ≢ Nothing → after.got ≡ map.insert p.got from latest → IsOnward p m after
   of_more some is = record {
     onward = λ node old e. elim (same_or_not node from) [

@@ -1,4 +1,4 @@
--- Who is owed an answer.
+-- Replies that are due.
 use Rattle.std.specs.Prelude.{◌≡◌, ◌≢◌, ◌⊎◌, ◌↔◌, ◌||◌, ◌&&◌, not, ℕ, true, refl}
 use Rattle.std.proofs.Common.{inl, inr, ap, sym, ◌∙◌}
 use Rattle.std.proofs.lemmas.Bool.{true≢false}
@@ -17,7 +17,7 @@ use Rattle.dac_peers.specs.laws.Onward.{same_or_not}
 
 -- ---- after a message
 module _ (p : PeersValue) (node from : NodeId) (Some : Type 0) where
-  -- the sender is one more
+  -- a reply to the sender becomes due
   one_more : Some → (set.contains (set.insert p.owed from) node ≡ true) ↔ (IsOwed p node ⊎ ((node ≡ from) × Some))
   one_more some = elim (same_or_not node from) [
     | inl same ↦ (λ _. inr (same.0, some), λ _. is ∙ ap (λ b. b || set.contains p.owed node) same.1)
@@ -30,7 +30,7 @@ module _ (p : PeersValue) (node from : NodeId) (Some : Type 0) where
       is : set.contains (set.insert p.owed from) node ≡ (eq_by_cmp node_cmp node from || set.contains p.owed node)
       is = set.contains-insert nodes_total p.owed from node
 
-  -- no one is
+  -- no further reply becomes due
   no_more : ¬ Some → IsOwed p node ↔ (IsOwed p node ⊎ ((node ≡ from) × Some))
   no_more none = (inl, λ s. elim s [ inl e ↦ e | inr h ↦ absurd (none h.1) ])
 
@@ -46,7 +46,7 @@ module _ (own : Origin) (count : ℕ) (p : PeersValue) (m : Message) (node : Nod
 pub heard_are_owed : HeardAreOwed
 heard_are_owed own count p m node = by_body own count p m node m.body
 
--- ---- after something is shipped
+-- ---- after a ship
 pub shipped_are_not_owed : ShippedAreNotOwed
 shipped_are_not_owed p to = record {
   owed = λ node. elim (same_or_not node to) [

@@ -1,4 +1,4 @@
--- From where is shipped to a node, what it is told to have been got, and when nothing is shipped to it.
+-- Where an interval for a node begins, the acknowledgement for it, and when nothing needs to be shipped to it.
 use Rattle.std.specs.Prelude.{◌≡◌, ◌≤◌, ◌&&◌, not, ℕ, Bool, true, false, cond, nat_le, Option, None, Some, refl}
 use Rattle.std.specs.Option.{option_map, option_and_then}
 use Rattle.std.proofs.Common.{ap, sym, subst, ◌∙◌}
@@ -64,7 +64,7 @@ module _ (p : PeersValue) (s : StateValue) (to : NodeId) (position : Position) w
 pub begins_where_acked : BeginsWhereAcked
 begins_where_acked p s base to position = (begins_is p s to position base, begins_has p s to position base)
 
--- ---- what was got
+-- ---- positions got
 module _ (node : NodeId) (origin : Origin) (n : ℕ) where
   abbrev read : Option Position → Option (Origin × ℕ)
   read got = option_map (λ (g : Position). (record { node = node; inc = g.inc }, g.number)) got
@@ -84,7 +84,7 @@ module _ (node : NodeId) (origin : Origin) (n : ℕ) where
 pub acks_are_got : AcksAreGot
 acks_are_got p node origin n = (read_is node origin n (map.get p.got node), read_has node origin n (map.get p.got node))
 
--- ---- when nothing is shipped
+-- ---- when nothing needs to be shipped
 not_is : (b : Bool) → not b ≡ true → ¬ (b ≡ true)
 not_is true e = λ _. true≢false (sym e)
 not_is false e = λ is. true≢false (sym is)

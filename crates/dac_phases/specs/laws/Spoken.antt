@@ -1,4 +1,4 @@
--- What lines ask and are answered, as they come.
+-- The events and results of lines, line by line.
 use Rattle.std.proofs.Common.{◌≡◌, ◌⊎◌, inl, inr, ℕ, zero, suc, ◌+◌, ◌<◌, ◌≤◌, min, List, [], ◌∷◌, ◌++◌, length, take, get_or, map, Option, Some, None, refl, sym, ap, ◌∙◌, subst, arith, append-nil, append_assoc, take_all}
 use Rattle.std.specs.List.{AllZip, flat_map, zip}
 use Rattle.std.proofs.lemmas.List.{take_more}
@@ -7,11 +7,11 @@ use Rattle.std.proofs.lemmas.Slice.Zip.{all_zipped_more, length-zip, get_or-zip}
 use Rattle.dac_crews.specs.Compared.{found}
 use Rattle.dac_workers.specs.laws.Found.{found_more, listed}
 
--- what is found in one more, behind what was there
+-- one more value found, after a list
 pub found_on : {A B : Type 0} (b : List B) (f : A → Option B) (xs : List A) (i : ℕ) (x : A) (o : Option B) → i < length xs → x ≡ get_or xs i x → f x ≡ o → b ++ found f (take (i + 1) xs) ≡ (b ++ found f (take i xs)) ++ listed o
 found_on b f xs i x o within at is = ap (λ l. b ++ l) (found_more f xs i x o within at is) ∙ sym (append_assoc b (found f (take i xs)) (listed o))
 
--- the pieces of one more
+-- the pieces of one more element
 pub flat_more : {X A : Type 0} (f : X → List A) (xs : List X) (i : ℕ) (x : X) → i < length xs → x ≡ get_or xs i x → flat_map f (take (i + 1) xs) ≡ flat_map f (take i xs) ++ f x
 flat_more f xs i x within at =
     ap (flat_map f) (take_more xs i x within) ∙ flat_map-append f (take i xs) (get_or xs i x ∷ []) ∙ ap (λ l. flat_map f (take i xs) ++ l) (append-nil (f (get_or xs i x)))
@@ -44,7 +44,7 @@ all_zip_next {A} {B} R xs ys i x y left right at on all here =
     let Q : List B → Type 0 = λ w. AllZip R (take i xs ++ x ∷ []) w in
     subst P (sym first) (subst Q (sym second) (all_zipped_more R (take i xs) (take i ys) x y all here))
 
--- from the numbers below four to those from 1 to 4
+-- from the numbers below 4 to those from 1 to 4
 pub from_one : (P : ℕ → Type 0) → ((k : ℕ) → k < 4 → P (k + 1)) → (n : ℕ) → 1 ≤ n → n ≤ 4 → P n
 from_one P each zero low high = absurd (omega (arith, low))
 from_one P each (suc k) low high = let less : k < 4 = omega (arith, high) in let on : k + 1 ≡ suc k = omega arith in subst P on (each k less)

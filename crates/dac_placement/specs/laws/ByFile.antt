@@ -1,5 +1,5 @@
--- What an operator reads off the file: the permission there counts where nothing else is said, nobody of an earlier group is left
--- waiting, what is taken over comes from a later one, and within a group it goes where the fewest run.
+-- Consequences for the configuration file: its permission decides if no permit stands, no eligible node of an earlier
+-- group is passed over, a takeover comes from a later group, and within a group the node with the fewest wins.
 use Rattle.std.proofs.Common.{◌≡◌, ◌⊎◌, ℕ, ◌<◌, ◌≤◌, true, false, List, length, Option, Some, None, refl, sym, ap, subst, ◌∙◌, arith, inl, inr}
 use Rattle.std.specs.Prelude.{nat_lt, IsSome}
 use Rattle.std.proofs.lemmas.Bool.{true≢false, ltb-true, ltb-false}

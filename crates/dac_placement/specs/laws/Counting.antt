@@ -1,4 +1,4 @@
--- The load, one application after another.
+-- The load as a loop over the applications.
 use Rattle.std.proofs.Common.{◌≡◌, ℕ, ◌+◌, Bool, true, false, cond, ◌&&◌, not, eqb, [], ◌∷◌, length, refl, ap, ◌∙◌, arith}
 use Rattle.std.specs.Prelude.{filter, map as list_map}
 use Rattle.std.specs.List.{range_with_len}
@@ -14,7 +14,7 @@ abbrev pub numbered_app : ℕ → AppId
 numbered_app n = record { 0 = n }
 
 module _ (table : Table) (s : StateValue) (app : AppId) (node : NodeId) where
-  -- another application, and it runs at the node
+  -- this is another application that runs at the node
   abbrev pub counts : AppId → Bool
   counts other = not (eqb other.0 app.0) && runs_at table s other node
 

@@ -1,4 +1,4 @@
--- The first choice has the least rank, and so is the first in words.
+-- The computed first choice has the least rank, so it is the first choice in words.
 use Rattle.std.proofs.Common.{◌≡◌, ◌↔◌, ℕ, ◌+◌, ◌<◌, ◌≤◌, Bool, true, false, cond, [], ◌∷◌, Option, Some, None, option_map, refl, sym, ap, subst, ◌∙◌, arith, inl, inr, zero, suc, add-one}
 use Rattle.std.specs.Prelude.{MatchOption, IsSome, map as list_map}
 use Rattle.std.specs.Option.{is_some}
@@ -41,7 +41,7 @@ module _ (table : Table) (s : StateValue) (app : AppId) where
   first_is_least (suc n) = subst (λ m. IsLeast rank_at m (first_below m)) (add-one n)
       (subst (IsLeast rank_at (n + 1)) (sym (first_more n)) (least_more rank_at n (first_below n) (rank_at n) (first_is_least n) refl))
 
-  -- what a rank says of its node
+  -- the group, load and node of a rank
   of_group : (node : NodeId) (o : Option ℕ) (r : Rank) → option_map (λ group. record { group = group; load = load_of table s app node; node = node }) o ≡ Some r
       → (o ≡ Some r.group) × (r.load ≡ load_of table s app node) × (r.node ≡ node)
   of_group node None r e = absurd (false≢true (ap is_some e))
@@ -56,7 +56,7 @@ module _ (table : Table) (s : StateValue) (app : AppId) where
         | false ↦ λ e. absurd (false≢true (ap is_some e))
       ] e
 
-  -- the least rank is that of a node, with its group
+  -- the group and load of the least rank are those of its node
   pub first_parts : (n : ℕ) (r : Rank) → first_below n ≡ Some r → (group_of table app r.node ≡ Some r.group) × (r.load ≡ load_of table s app r.node)
   first_parts n r e =
       let least = subst (IsLeast rank_at n) e (first_is_least n) in
@@ -67,7 +67,7 @@ module _ (table : Table) (s : StateValue) (app : AppId) where
   some_rank None e = absurd (false≢true e)
   some_rank (Some r) e = (r, refl)
 
-  -- who has a rank is eligible
+  -- a node has a rank exactly when it is eligible
   ranked_is : (node : NodeId) → IsSome (rank_of table s app node) ↔ IsEligible table s app node
   ranked_is node = (
     λ some. (eligible_is table s app node).0 (by_test (is_eligible table s app node) some),
@@ -135,7 +135,7 @@ module _ (table : Table) (s : StateValue) (app : AppId) where
       numbers : (a b x y : ℕ) → a ≤ b → a ≡ x → b ≡ y → x ≤ y
       numbers a b x y e f g = omega arith
 
-  -- the least rank is that of the first choice in words, and where there is none, no node is eligible
+  -- the computed first choice is the first choice in words, and if there is none, no node is eligible
   pub first_is : MatchOption (first_choice table s app) (EachEligible table s app (λ _. ⊥)) (λ n. IsFirst table s app n)
   first_is = by_least (first_below (node_count table)) (first_is_least (node_count table))
     where

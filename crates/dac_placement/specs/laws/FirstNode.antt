@@ -1,4 +1,4 @@
--- There is one first choice: what is so in words is the one that is computed.
+-- The first choice is unique, so the one in words is the computed one.
 use Rattle.std.proofs.Common.{◌≡◌, ◌⊎◌, ℕ, ◌<◌, ◌≤◌, true, Option, Some, None, refl, sym, ap, arith, inl, inr}
 use Rattle.std.specs.Prelude.{MatchOption, is_some}
 use Rattle.std.proofs.lemmas.Bool.{false≢true}
@@ -13,7 +13,7 @@ use Rattle.dac_placement.specs.laws.FirstChoice.{first_is}
 module _ (t : Table) (app : AppId) where
   -- ---- groups
 
-  -- neither node's group is earlier, and both are in the list
+  -- if both nodes are in the list and neither's group is earlier, their groups are equal
   level_by : (m n : NodeId) (g h : Option ℕ) → group_of t app m ≡ g → group_of t app n ≡ h → is_some g ≡ true → is_some h ≡ true → ¬ IsEarlier t app m n → ¬ IsEarlier t app n m → g ≡ h
   level_by m n None h of_m of_n a b p q = absurd (false≢true a)
   level_by m n (Some g) None of_m of_n a b p q = absurd (false≢true b)
@@ -33,7 +33,7 @@ module _ (t : Table) (app : AppId) where
     one_node : (m n : NodeId) → m.0 ≤ n.0 → n.0 ≤ m.0 → m ≡ n
     one_node m n p q = let same : m.0 ≡ n.0 = omega arith in λ i. record { 0 = same i }
 
-    -- one node's load, another's, and their names
+    -- a smaller load, or an equal one and no later name
     abbrev Before : ℕ → ℕ → NodeId → NodeId → Type 0
     Before a b m n = (a < b) ⊎ ((a ≡ b) × (m.0 ≤ n.0))
 
@@ -46,7 +46,7 @@ module _ (t : Table) (app : AppId) where
     one_of : (m n : NodeId) → IsPreferred t s app m n → IsPreferred t s app n m → m ≡ n
     one_of m n p q = by_loads m n (load_of t s app m) (load_of t s app n) ((preferred_is t s app m n).0 p) ((preferred_is t s app n m).0 q)
 
-    -- there is one first node
+    -- the first choice in words is unique
     pub one_first : (m n : NodeId) → IsFirst t s app m → IsFirst t s app n → m ≡ n
     one_first m n a b =
         let same = level m n a.eligible.listed b.eligible.listed (b.earliest m a.node a.eligible) (a.earliest n b.node b.eligible) in
@@ -63,6 +63,6 @@ module _ (t : Table) (app : AppId) where
     none_by nobody None none = refl
     none_by nobody (Some m) is = absurd (nobody m is.node is.eligible)
 
-    -- where no node is eligible there is none
+    -- if no node is eligible, the computed first choice is none
     pub none_first : ((m : NodeId) → m.0 < node_count t → ¬ IsEligible t s app m) → first_choice t s app ≡ None
     none_first nobody = none_by nobody (first_choice t s app) (first_is t s app)

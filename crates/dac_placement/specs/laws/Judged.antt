@@ -1,4 +1,4 @@
--- How an application stands and its first choice give the verdict in words.
+-- The standing and the first choice determine the verdict in words.
 use Rattle.std.proofs.Common.{◌≡◌, ◌↔◌, ℕ, ◌<◌, ◌≤◌, true, false, cond, Option, Some, None, refl, sym, ap, ◌∙◌, arith, inl, inr}
 use Rattle.std.specs.Prelude.{MatchOption, nat_lt, is_some}
 use Rattle.std.proofs.lemmas.Bool.{true≢false, false≢true, false_from_ne_true, ltb-true, ltb-false, lt-ltb}
@@ -13,7 +13,7 @@ use Rattle.dac_placement.specs.Placement.{EachEligible, IsEarlier, is_less, is_e
 use Rattle.dac_placement.specs.laws.Standing.{standing_is}
 use Rattle.dac_placement.specs.laws.FirstChoice.{first_is}
 
--- who is first, or that no node is eligible
+-- a first choice, or no node is eligible
 abbrev pub IsChoice : Table → StateValue → AppId → Option NodeId → Type 0
 IsChoice table s app first = MatchOption first (EachEligible table s app (λ _. ⊥)) (λ n. IsFirst table s app n)
 
@@ -23,7 +23,7 @@ module _ (table : Table) (app : AppId) (m n : NodeId) where
   by_groups (Some g) None of_m of_n e = absurd (false≢true e)
   by_groups (Some g) (Some h) of_m of_n e = record { early = g; late = h; first = of_m; second = of_n; less = ltb-true g h e }
 
-  -- the test of the groups
+  -- the test of groups agrees with the definition
   pub earlier_if : is_earlier table app m n ≡ true → IsEarlier table app m n
   earlier_if e = by_groups (group_of table app m) (group_of table app n) refl refl e
 
@@ -33,7 +33,7 @@ module _ (table : Table) (app : AppId) (m n : NodeId) where
   pub earlier_is : (is_earlier table app m n ≡ true) ↔ IsEarlier table app m n
   earlier_is = (λ e. earlier_if e, λ e. if_earlier e)
 
--- where the first choice is of no earlier group than the holder, no eligible node is
+-- if the first choice is in no earlier group than the holder, no eligible node is
 pub none_earlier : (table : Table) (s : StateValue) (app : AppId) (n holder : NodeId) → IsFirst table s app n → is_earlier table app n holder ≡ false → EachEligible table s app (λ m. ¬ IsEarlier table app m holder)
 none_earlier table s app n holder first level m lt may before = by_group (group_of table app n) refl first.eligible.listed
   where
@@ -65,7 +65,7 @@ verdict_is table s app Barred None stands none = (none, inr (inr stands))
 pub verdict_in_words : (table : Table) (s : StateValue) (app : AppId) → IsVerdict table s app (verdict_of table s app)
 verdict_in_words table s app = verdict_is table s app (standing_of table s app) (first_choice table s app) (standing_is table s app) (first_is table s app)
 
--- where no eligible node is of an earlier group than the holder's, all stays as it is, whoever is the first choice
+-- if no eligible node is in an earlier group than the holder, the application is kept, whatever the first choice is
 pub kept_by : (table : Table) (s : StateValue) (app : AppId) (holder : NodeId) (first : Option NodeId) → IsChoice table s app first → EachEligible table s app (λ m. ¬ IsEarlier table app m holder) → verdict_by table app (Upheld holder) first ≡ Kept holder
 kept_by table s app holder None is none = refl
 kept_by table s app holder (Some n) is none = ap (λ b. cond b (Takeover n) (Kept holder)) (false_from_ne_true (is_earlier table app n holder) (λ e. none n is.node is.eligible (earlier_if table app n holder e)))

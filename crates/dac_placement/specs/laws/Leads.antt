@@ -1,4 +1,4 @@
--- Who leads alone is the first choice, whatever the loads are.
+-- A node that leads alone is the first choice, whatever the loads are.
 use Rattle.std.proofs.Common.{◌≡◌, ℕ, ◌+◌, ◌<◌, ◌≤◌, Bool, true, false, cond, Option, Some, None, refl, sym, ap, subst, ◌∙◌, arith, inl, inr, below_more}
 use Rattle.std.specs.Prelude.{◌==◌, nat_lt, is_some}
 use Rattle.std.proofs.lemmas.Bool.{true≢false, false≢true, eqb-true, eq-eqb, ltb-true, ltb-false}
@@ -15,7 +15,7 @@ use Rattle.dac_placement.specs.laws.FirstChoice.{numbered}
 use Rattle.dac_placement.specs.laws.FirstNode.{first_to, none_first}
 
 module _ (table : Table) (s : StateValue) (app : AppId) where
-  -- ---- one node more
+  -- ---- one more node
 
   one_group : {g h : ℕ} → ◌≡◌ {A = Option ℕ} (Some g) (Some h) → g ≡ h
   one_group e = cc
@@ -29,13 +29,13 @@ module _ (table : Table) (s : StateValue) (app : AppId) where
   wider : (a n : ℕ) → a < n → a < n + 1
   wider a n h = omega arith
 
-  -- what holds of each eligible node below n, and of node n where it is eligible, holds of each one below n + 1
+  -- a property of the eligible nodes below n, and of node n if it is eligible, holds of those below n + 1
   more : (P : NodeId → Type 0) (n : ℕ) → ((m : NodeId) → m.0 < n → IsEligible table s app m → P m) → (IsEligible table s app (numbered n) → P (numbered n))
       → (m : NodeId) → m.0 < n + 1 → IsEligible table s app m → P m
   more P n below at m lt may = below_more (λ k. IsEligible table s app (numbered k) → P (numbered k)) n (λ k lt. below (numbered k) lt) at m.0 lt may
 
   module _ (n : ℕ) where
-    -- one that isn't eligible
+    -- node n isn't eligible: the lead stays
     passes : (o : Option Lead) → Leads table s app n o → ¬ IsEligible table s app (numbered n) → Leads table s app (n + 1) o
     passes None none barred = more (λ _. ⊥) n none barred
     passes (Some lead) l barred = record {
@@ -47,7 +47,7 @@ module _ (table : Table) (s : StateValue) (app : AppId) where
     }
 
     module _ (may : IsEligible table s app (numbered n)) (group : ℕ) (is : group_of table app (numbered n) ≡ Some group) where
-      -- the first one
+      -- node n is the first eligible one
       begins : ((m : NodeId) → m.0 < n → ¬ IsEligible table s app m) → IsLead table s app (n + 1) (record { group = group; node = numbered n; alone = true })
       begins none = record {
         node = next n;
@@ -64,7 +64,7 @@ module _ (table : Table) (s : StateValue) (app : AppId) where
         before : (a b g : ℕ) → a < b → b ≤ g → a ≤ g
         before a b g p q = omega arith
 
-        -- one of an earlier group
+        -- node n is in an earlier group than the lead
         overtakes : group < lead.group → IsLead table s app (n + 1) (record { group = group; node = numbered n; alone = true })
         overtakes less = record {
           node = next n;
@@ -79,7 +79,7 @@ module _ (table : Table) (s : StateValue) (app : AppId) where
         not_earlier : lead.group ≤ group → (m : NodeId) → m.0 < n + 1 → IsEligible table s app m → (g : ℕ) → group_of table app m ≡ Some g → lead.group ≤ g
         not_earlier le = more (λ m. (g : ℕ) → group_of table app m ≡ Some g → lead.group ≤ g) n l.earliest (λ _ g e. up_to lead.group group g le (one_group (sym is ∙ e)))
 
-        -- one of the same group
+        -- node n is in the same group
         shares : lead.group ≤ group → group ≡ lead.group → IsLead table s app (n + 1) (record { group = group; node = lead.node; alone = false })
         shares le same = record {
           node = wider lead.node.0 n l.node;
@@ -89,7 +89,7 @@ module _ (table : Table) (s : StateValue) (app : AppId) where
           alone = λ a. absurd (false≢true a);
         }
 
-        -- one of a later group
+        -- node n is in a later group
         follows : lead.group ≤ group → (group ≡ lead.group → ⊥) → IsLead table s app (n + 1) lead
         follows le apart = record {
           node = wider lead.node.0 n l.node;
@@ -144,7 +144,7 @@ module _ (table : Table) (s : StateValue) (app : AppId) where
     preferred = λ m lt may level. subst (IsPreferred table s app lead.node) (sym (l.alone alone m lt may (level ∙ l.group))) (itself lead.node);
   }
 
-  -- no tie: the least group decides
+  -- a lead without a tie is the first choice
   pub alone_decides : (lead : Lead) → IsLead table s app (node_count table) lead → lead.alone ≡ true → first_choice table s app ≡ Some lead.node
   alone_decides lead l alone = first_to table app s lead.node (alone_is_first lead l alone)
 

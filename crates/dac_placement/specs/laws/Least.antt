@@ -1,4 +1,4 @@
--- The least of ranks, one after another.
+-- The minimum of ranks, as a loop over places.
 use Rattle.std.proofs.Common.{◌≡◌, ℕ, ◌+◌, ◌<◌, ◌≤◌, true, false, cond, List, [], ◌∷◌, ◌++◌, Option, Some, None, refl, sym, ap, subst, ◌∙◌, arith, append-nil, inl, inr, below_more}
 use Rattle.std.specs.Prelude.{◌⊎◌, MatchOption}
 use Rattle.std.specs.Option.{is_some}
@@ -14,7 +14,7 @@ use Rattle.dac_base.specs.laws.Ids.{nodes_total}
 use Rattle.dac_lattice.specs.Lattices.{join_options}
 use Rattle.dac_placement.specs.Ranks.{Rank, rank_cmp}
 
--- ---- one more of them
+-- ---- one more rank
 
 none_right : {A : Type 0} (f : A → A → A) (o : Option A) → join_options f o None ≡ o
 none_right f None = refl
@@ -27,11 +27,11 @@ reduce_more f (x ∷ xs) (Some y) = ap (λ z. Some z) (fold-append f x xs (y ∷
 
 -- ---- the order of ranks
 
--- it is a total order
+-- rank_cmp is a total order
 ranks_total : IsTotalOrder rank_cmp
 ranks_total = then_total (on_total (λ (r : Rank). r.group) nat_cmp_total) (then_total (on_total (λ (r : Rank). r.load) nat_cmp_total) (on_total (λ (r : Rank). r.node) nodes_total))
 
--- a comes first, or ties with b
+-- a comes first, or equals b
 abbrev pub IsUpTo : Rank → Rank → Type 0
 IsUpTo a b = is_gt (rank_cmp a b) ≡ false
 
@@ -67,7 +67,7 @@ last_part a b Less m e = omega arith
 last_part a b Equal m e = omega arith
 last_part a b Greater m e = absurd (true≢false e)
 
--- what the order says, field by field
+-- the order, field by field
 pub up_to_parts : (a b : Rank) → IsUpTo a b → (a.group < b.group) ⊎ ((a.group ≡ b.group) × ((a.load < b.load) ⊎ ((a.load ≡ b.load) × (a.node.0 ≤ b.node.0))))
 up_to_parts a b e = elim (then_parts a.group b.group _ e) [
   | inl less ↦ inl less
@@ -80,10 +80,10 @@ up_to_parts a b e = elim (then_parts a.group b.group _ e) [
   )
 ]
 
--- ---- the least of those at the first n places
+-- ---- the least rank of the first n places
 
 module _ (at : ℕ → Option Rank) where
-  -- there is none at these places, or this is one of them, and it comes first
+  -- there is none at these places, or this is one of them and no other comes first
   abbrev pub IsLeast : ℕ → Option Rank → Type 0
   IsLeast n o = MatchOption o ((k : ℕ) → k < n → at k ≡ None) (λ r. ((k : ℕ) × (k < n) × (at k ≡ Some r)) × ((k : ℕ) → k < n → (q : Rank) → at k ≡ Some q → IsUpTo r q))
 

@@ -1,4 +1,4 @@
--- The load in words.
+-- The computed load is the load in words.
 use Rattle.std.proofs.Common.{◌≡◌, ◌⊎◌, ℕ, ◌<◌, ◌≤◌, ◌+◌, Bool, true, false, cond, ◌&&◌, not, List, [], ◌∷◌, length, zero, suc, inl, inr, refl, sym, ap, subst, ◌∙◌, arith}
 use Rattle.std.specs.Prelude.{◌↔◌, ◌==◌, filter, map as list_map}
 use Rattle.std.specs.List.{range_with_len}
@@ -118,9 +118,9 @@ load_is table s app node =
       count = refl;
     }
 
--- ---- there is one load
+-- ---- the load is unique
 
--- what is left of a list that names an application
+-- a list without one of its applications
 record Split (a : AppId) (ys : List AppId) : Type 0 where
   rest : List AppId
   longer : length ys ≡ length rest + 1
@@ -134,7 +134,7 @@ split a (y ∷ ys) (inr later) =
     let longer = more.longer in
     record { rest = y ∷ more.rest; longer = omega (arith, longer); others = λ b h ne. elim h [ inl same ↦ inl same | inr there ↦ inr (more.others b there ne) ] }
 
--- a list without repeats, each of which the other names, isn't longer
+-- a list without repeats is no longer than a list that contains all its applications
 pub no_longer : (xs ys : List AppId) → AreDistinct xs → ((b : AppId) → IsOneOf b xs → IsOneOf b ys) → length xs ≤ length ys
 no_longer [] ys distinct within = omega arith
 no_longer (x ∷ xs) ys distinct within =
@@ -152,7 +152,7 @@ one_load table s app node n m x y =
     level : (n m : ℕ) → n ≤ m → m ≤ n → n ≡ m
     level n m h k = omega arith
 
--- who is preferred, by the loads that are computed
+-- `IsPreferred` by the computed loads
 pub preferred_is : (table : Table) (s : StateValue) (app : AppId) (n m : NodeId)
     → IsPreferred table s app n m ↔ ((load_of table s app n < load_of table s app m) ⊎ ((load_of table s app n ≡ load_of table s app m) × (n.0 ≤ m.0)))
 preferred_is table s app n m = (

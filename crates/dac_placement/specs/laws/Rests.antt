@@ -1,5 +1,5 @@
--- What a verdict leaves alone is said by how the application stands and by which nodes are eligible, and by no load.
--- This is so for every configuration and every state.
+-- The standing and the eligible nodes decide whether a verdict leaves an application alone, for every configuration and
+-- every state; loads don't matter.
 use Rattle.std.specs.Prelude.{◌≡◌, ◌↔◌, ℕ, true, false, cond, Option, None, Some, refl}
 use Rattle.std.proofs.Common.{sym, ap, subst, ◌∙◌}
 use Rattle.std.proofs.lemmas.Bool.{false_from_ne_true}
@@ -21,7 +21,7 @@ some_none : {X : Type 0} {v : X} {Y : Type 0} → ◌≡◌ {A = Option X} (Some
 some_none e = cc
 
 module _ (table : Table) (s : StateValue) (app : AppId) where
-  -- ---- what has no candidate
+  -- ---- verdicts without a candidate
 
   rests_by : (standing : Standing) (first : Option NodeId) → IsChoice table s app first → candidate_of (verdict_by table app standing first) ≡ None → Rests table s app standing
   rests_by (Stopped n) first is none = tt
@@ -54,7 +54,7 @@ module _ (table : Table) (s : StateValue) (app : AppId) where
     if_rests_by (standing_of table s app) (first_choice table s app) (first_is table s app),
   )
 
-  -- ---- who is a candidate
+  -- ---- candidates
 
   candidate_by : (standing : Standing) (first : Option NodeId) (n : NodeId) → candidate_of (verdict_by table app standing first) ≡ Some n → first ≡ Some n
   candidate_by (Stopped m) first n e = some_none (sym e)
@@ -73,7 +73,7 @@ module _ (table : Table) (s : StateValue) (app : AppId) where
   pub candidate_is : (n : NodeId) → candidate_of (verdict_of table s app) ≡ Some n → IsFirst table s app n
   candidate_is n e = subst (IsChoice table s app) (candidate_by (standing_of table s app) (first_choice table s app) n e) (first_is table s app)
 
-  -- ---- where it runs
+  -- ---- the runner
 
   same_inc : (a b : ℕ) (live : Option ℕ) → live ≡ Some a → live ≡ Some b → a ≡ b
   same_inc a b live e f = one (sym e ∙ f)
@@ -81,7 +81,7 @@ module _ (table : Table) (s : StateValue) (app : AppId) where
       one : {x y : ℕ} → ◌≡◌ {A = Option ℕ} (Some x) (Some y) → x ≡ y
       one e = cc
 
-  -- ---- what runs nothing
+  -- ---- drained incarnations
 
   pub drained_runs_nothing : (n : NodeId) (inc : ℕ) → IsLive s.lives n inc → IsDrainedAt s n inc → ¬ RunsAt table s app n
   drained_runs_nothing n inc live drained r =

@@ -1,4 +1,4 @@
--- How an application stands at its holder, in words, for every configuration and every state.
+-- The computed standing is the standing in words, for every configuration and every state.
 use Rattle.std.specs.Prelude.{◌≡◌, true, false, not, cond, None, Some, refl}
 use Rattle.std.proofs.Common.{sym, ◌∙◌}
 use Rattle.std.specs.Option.{option_map_or}

@@ -1,4 +1,5 @@
--- What was stopped at its holder stays there while the holder is live, also where it is barred there: stopped is looked at before.
+-- An application that was stopped at a live holder stays there even if it is barred there, because stops are tested
+-- first.
 use Rattle.std.specs.Prelude.{◌≡◌, Bool, true, false, not, cond, Some}
 use Rattle.std.proofs.Common.{ap, ◌∙◌}
 use Rattle.std.specs.Option.{option_map_or}

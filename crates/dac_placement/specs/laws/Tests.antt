@@ -1,4 +1,4 @@
--- The tests of who may run an application and where one runs, in words, for every configuration and every state.
+-- The tests of eligibility and of running agree with the definitions in words, for every configuration and every state.
 use Rattle.std.specs.Prelude.{◌≡◌, ◌↔◌, ℕ, true, false, cond, ◌&&◌, ◌==◌, Option, None, Some, refl}
 use Rattle.std.proofs.Common.{Bool, ap, sym, subst, ◌∙◌}
 use Rattle.std.specs.Option.{is_some, option_map_or, option_and_then}
@@ -70,7 +70,7 @@ module _ (table : Table) (s : StateValue) where
       λ e. and_from _ _ e.listed (ap wanted ((live_is s.lives node e.inc).1 e.live) ∙ and_from _ _ ((allowed_is app node e.inc).1 e.allowed) ((started_is app node e.inc).1 e.started)),
     )
 
-    -- ---- where an application runs
+    -- ---- running at a node
 
     abbrev held_here : Option Origin → Bool
     held_here holder = option_map_or (λ (o : Origin). (o.node.0 == node.0) && is_up s o) holder false
@@ -91,7 +91,7 @@ module _ (table : Table) (s : StateValue) where
       λ r. and_from _ _ (ap held_here r.holder ∙ and_from _ _ (itself node.0) ((up_is s (record { node = node; inc = r.inc })).1 r.up)) (eligible_is.1 r.eligible),
     )
 
-  -- ---- the node at which it runs
+  -- ---- the runner
 
   module _ (app : AppId) (node : NodeId) where
     abbrev at_holder : Option Origin → Option NodeId

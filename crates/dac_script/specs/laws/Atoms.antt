@@ -16,7 +16,7 @@ use Rattle.dac_config.specs.Canonical.{begins_small, is_bare}
 use Rattle.dac_script.specs.Words.{before_quote, quoted_name, name_in}
 use Rattle.dac_script.specs.Forms.{IsAtom}
 
--- ---- the tests of bytes
+-- ---- tests of bytes
 
 tells_begin : (name : List ℕ) → Decides (begins_small name) (Begins IsAsciiLowercase name)
 tells_begin [] = (λ e. absurd cc, λ h. absurd h)
@@ -55,7 +55,7 @@ pub name_read : (name word : List ℕ) → IsAtom name word → name_in word ≡
 name_read name word (inl bare) = ap name_in bare.0 ∙ cond-true (is_bare name) (Some name) (quoted_name name) ((tells_bare name).1 bare.1)
 name_read name word (inr quoted) = ap name_in quoted.0 ∙ closed name ((tells_all_quotable name).1 quoted.1)
 
--- ---- what is read as a name is an atom
+-- ---- a name is read only from its atoms
 
 ends_quoted : (bs name : List ℕ) → before_quote bs ≡ Some name → (bs ≡ name ++ 39 ∷ []) × All IsQuotable name
 ends_quoted [] name e = absurd (none-some name e)
@@ -80,7 +80,7 @@ begins_quoted (b ∷ bs) name e = by (b == 39) refl e
         (ap (λ (c : ℕ). c ∷ bs) (eqb-true b 39 quote) ∙ ap (λ (l : List ℕ). 39 ∷ l) inner.0, inner.1)
     by false quote e = absurd (none-some name e)
 
--- a word that has a name is an atom of it
+-- a word with a name is an atom of that name
 pub name_spelled : (name word : List ℕ) → name_in word ≡ Some name → IsAtom name word
 name_spelled name word e = by (is_bare word) refl e
   where

@@ -1,5 +1,5 @@
--- Which words spell bytes: an even number of digits, of which the letters are small. Each has the bytes of which it is the
--- text.
+-- A word spells bytes exactly if it has an even number of lower-case hexadecimal digits, and it is then the text of
+-- those bytes.
 use Rattle.std.proofs.Common.{◌≡◌, ℕ, zero, suc, ◌+◌, ◌-◌, ◌*◌, ◌/◌, ◌%◌, ◌<◌, Bool, true, false, cond, not, ◌&&◌, ◌||◌, List, [], ◌∷◌, length, leb, ltb, nat_le, slice_index, ◌==◌, Option, Some, None, Result, Ok, Err, refl, sym, ap, ◌∙◌, arith, inl, inr}
 use Rattle.std.specs.Prelude.{is_some, slice_index_or}
 use Rattle.std.specs.Char.{is_ascii_digit}
@@ -13,11 +13,11 @@ use Rattle.hex.proofs.HexLemmas.{decode_of-digits, decode_of-encode_lower, decod
 use Rattle.dac_script.specs.Words.{is_small_digit, bytes_in}
 use Rattle.dac_script.specs.LineFaults.{IsNoHex}
 
--- a digit with a small letter is a digit
+-- a lower-case hexadecimal digit is a hexadecimal digit
 is_digit : (digit : ℕ) → is_small_digit digit ≡ true → is_hex_digit digit ≡ true
 is_digit digit small = grind (arith)
 
--- where bytes are found, they are what the digits decode to
+-- the bytes found are the decoded digits
 decoded : (word bytes : List ℕ) (b : Bool) (r : Result (List ℕ) FromHexError) → cond b (result_ok r) None ≡ Some bytes → (b ≡ true) × (r ≡ Ok bytes)
 decoded word bytes true (Ok xs) is = (refl, ap (λ o. result_of o xs) is)
   where
@@ -52,7 +52,7 @@ no_bytes word none = elim (cases_eq (length word % 2) 1) [
 
 -- ---- the bytes of a word
 
--- the digit at each place of the table is small
+-- every digit in the table is in lower case
 small_at : (d : ℕ) → d < 16 → is_small_digit (slice_index lower_digits d) ≡ true
 small_at d lt = agree_below_at (λ d. is_small_digit (slice_index lower_digits d)) (λ d. true) 16 d refl lt
 
@@ -73,7 +73,7 @@ bytes_read bytes word same all =
     ap bytes_in same ∙ cond-true (list_all is_small_digit text) (result_ok (decode_of text)) None (small_digits bytes all)
     ∙ ap result_ok (decode_of-encode_lower bytes all)
 
--- the place of a small digit in the table
+-- the position of a digit in the table
 abbrev place_of : ℕ → ℕ
 place_of digit = cond (leb digit 57) (digit - 48) (digit - 87)
 
@@ -100,7 +100,7 @@ cons_bytes : (b : ℕ) (rest : List ℕ) → b < 256 → IsBytes rest → IsByte
 cons_bytes b rest first more zero = first
 cons_bytes b rest first more (suc k) = more k
 
--- an even number of small digits is the text of some bytes
+-- an even number of lower-case digits is the text of some bytes
 text_of_bytes : (word : List ℕ) → length word % 2 ≡ 0 → list_all is_small_digit word ≡ true → (bytes : List ℕ) × (encode_with lower_digits bytes ≡ word) × IsBytes bytes
 unfolding encode_with
 text_of_bytes [] even small = ([], refl, λ k. omega arith)
@@ -120,7 +120,7 @@ text_of_bytes (a ∷ b ∷ rest) even small =
       cons_bytes byte more.0 (omega (arith, high.0, low.0)) more.2,
     )
 
--- what a word spells are the bytes of which it is the text
+-- a word that spells bytes is their text
 pub bytes_spelled : (bytes word : List ℕ) → bytes_in word ≡ Some bytes → (word ≡ encode_lower bytes) × IsBytes bytes
 bytes_spelled bytes word is =
     let both = decoded word bytes (list_all is_small_digit word) (decode_of word) is in

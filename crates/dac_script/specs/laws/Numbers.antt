@@ -1,4 +1,4 @@
--- A word is read as a number exactly if it is that number's decimal text, and the number isn't too large.
+-- A word is read as a number exactly if it is that number's decimal text and the number isn't too large.
 use Rattle.std.proofs.Common.{◌≡◌, ℕ, ◌+◌, ◌-◌, ◌*◌, ◌^◌, ◌<◌, ◌≤◌, true, not, ◌&&◌, List, [], ◌∷◌, length, get_or, nat_le, Some, None, decimal, leb, ◌==◌, refl, sym, ap, subst, ◌∙◌, arith, inl, inr}
 use Rattle.std.specs.List.{list_all}
 use Rattle.std.specs.Char.{is_ascii_digit}
@@ -35,7 +35,7 @@ folds = record {
 own : IsNumeralModel AreDigits (value_from 0)
 own = numerals_by_fold AreDigits tells_digits value_from folds
 
--- digits in the form of a number: at least one, and no zero before another one
+-- at least one digit, and no leading zero
 digits_parts : (digits : List ℕ) → is_digits digits ≡ true → AreDigits digits × (0 < length digits) × (get_or digits 0 0 ≡ 48 → length digits ≡ 1)
 digits_parts [] e = absurd (false≢true e)
 digits_parts (d ∷ []) e = (and_from (is_ascii_digit d) true e refl, omega arith, λ lead. refl)
@@ -56,7 +56,7 @@ fits number le =
     let most : MAX_NUMBER ≡ 2 ^ 62 = refl in
     omega (arith, le, most)
 
--- the first digit of a number's text is a zero only if that is all
+-- only the text of 0 begins with a zero
 leads : (number : ℕ) → number < 2 ^ 64 → get_or (decimal number) 0 0 ≡ 48 → length (decimal number) ≡ 1
 leads number small first =
     elim (cases_lt 0 number) [
@@ -76,7 +76,7 @@ number_read number word same le =
     ∙ cond-true (is_digits text && nat_le (value_from 0 text) MAX_NUMBER) (Some (value_from 0 text)) None (and_from (is_digits text) (nat_le (value_from 0 text) MAX_NUMBER) form most)
     ∙ ap (λ (m : ℕ). Some m) value
 
--- what is read as a number is its text
+-- a word read as a number is its text
 pub number_spelled : (number : ℕ) (word : List ℕ) → number_in word ≡ Some number → (word ≡ decimal number) × (number ≤ MAX_NUMBER)
 number_spelled number word e =
     let value = value_from 0 word in

@@ -1,4 +1,4 @@
--- The words of a line are what stands between its spaces.
+-- The words of a line are separated by its spaces.
 use Rattle.std.proofs.Common.{◌≡◌, ◌≢◌, ℕ, ◌<◌, Bool, false, not, List, [], ◌∷◌, ◌++◌, length, filter, All, ◌==◌, refl, sym, ap, subst, ◌∙◌, arith, inl, inr, append_assoc, append-nil}
 use Rattle.std.specs.List.{slice_split}
 use Rattle.std.proofs.lemmas.Bool.{cases_eq, cond-true, eq-eqb, ne_eqb, not_from_false}
@@ -17,9 +17,9 @@ is_filled word = not (length word == 0)
 abbrev HasNoSpace : List ℕ → Type 0
 HasNoSpace bytes = All (λ b. b ≢ 32) bytes
 
--- ---- what is read
+-- ---- words that stand in a line are read
 
--- a space at the front is no word
+-- a leading space adds no word
 behind_space : (b : ℕ) (line : List ℕ) → b ≡ 32 → words_of (b ∷ line) ≡ words_of line
 behind_space b line space = ap (filter is_filled) (slice_split-cons_yes is_space b line (eq-eqb b 32 space))
 
@@ -34,7 +34,7 @@ no_splits word none = All-weaker (λ b. b ≢ 32) (λ b. is_space b ≡ false) (
 kept : (word : List ℕ) (words : List (List ℕ)) → 0 < length word → filter is_filled (word ∷ words) ≡ word ∷ filter is_filled words
 kept word words some = cond-true (is_filled word) (word ∷ filter is_filled words) (filter is_filled words) (not_from_false (length word == 0) (ne_eqb (length word) 0 (λ none. absurd (omega (arith, some, none)))))
 
--- a word at the front is the first one
+-- a leading word is the first one
 first_word : (word behind : List ℕ) → IsWord word → EndsWord behind → words_of (word ++ behind) ≡ word ∷ words_of behind
 first_word word [] is ends =
     ap words_of (append-nil word) ∙ ap (filter is_filled) (slice_split_none is_space word (no_splits word is.1)) ∙ kept word [] is.0
@@ -43,33 +43,33 @@ first_word word (b ∷ bs) is (inr space) =
     ap (filter is_filled) (slice_split_at is_space word b bs (no_splits word is.1) (eq-eqb b 32 space))
     ∙ kept word (slice_split is_space bs) is.0 ∙ ap (λ (words : List (List ℕ)). word ∷ words) (sym (behind_space b bs space))
 
--- these words are read
+-- the words that stand in a line are read
 words_read : (words : List (List ℕ)) (line : List ℕ) → HasWords words line → words_of line ≡ words
 words_read [] line has = ap words_of (sym (append-nil line)) ∙ behind_spaces line [] has
 words_read (word ∷ words) line has =
     ap words_of has.2 ∙ behind_spaces has.0 (word ++ has.1) has.3 ∙ first_word word has.1 has.4 has.5
     ∙ ap (λ (rest : List (List ℕ)). word ∷ rest) (words_read words has.1 has.6)
 
--- ---- what stands there
+-- ---- words that are read stand in the line
 
--- a further space before a line
+-- a leading space keeps the words
 space_more : (words : List (List ℕ)) (b : ℕ) (line : List ℕ) → b ≡ 32 → HasWords words line → HasWords words (b ∷ line)
 space_more [] b line space has = All-cons (λ b. b ≡ 32) b line space has
 space_more (word ∷ words) b line space has =
     (b ∷ has.0, has.1, ap (λ (l : List ℕ). b ∷ l) has.2, All-cons (λ b. b ≡ 32) b has.0 space has.3, has.4, has.5, has.6)
 
--- a line that begins with a word
+-- a leading word is one of the words
 word_first : (word behind : List ℕ) → IsWord word → EndsWord behind → HasWords (words_of behind) behind → HasWords (words_of (word ++ behind)) (word ++ behind)
 word_first word behind is ends has =
     subst (λ (words : List (List ℕ)). HasWords words (word ++ behind)) (sym (first_word word behind is ends))
     ([], behind, refl, All-nil (λ b. b ≡ 32), is, ends, has)
 
--- bytes without a space, and behind them the end or a space
+-- a piece without spaces, before a space or the end
 cut : (word behind : List ℕ) → HasNoSpace word → EndsWord behind → HasWords (words_of behind) behind → HasWords (words_of (word ++ behind)) (word ++ behind)
 cut [] behind none ends has = has
 cut (b ∷ bs) behind none ends has = word_first (b ∷ bs) behind (omega arith, none) ends has
 
--- the words that are read stand there; the word at the front has been gone through so far
+-- the words that are read stand in the line; word is the part of the first word scanned so far
 stand : (word line : List ℕ) → HasNoSpace word → HasWords (words_of (word ++ line)) (word ++ line)
 stand word [] none = cut word [] none (inl refl) (All-nil (λ b. b ≡ 32))
 stand word (b ∷ bs) none =

@@ -1,4 +1,4 @@
--- From what was read to what the input says, of a script of `sim` or of `live`.
+-- From the text read to the input, for scripts of `sim` or `live`.
 use Rattle.std.proofs.Common.{◌≡◌, ℕ, List, Option, Some, None, Err, Bool, true, false, sym, ap, subst, ◌∙◌}
 use Rattle.std.proofs.lemmas.Bool.{false≢true}
 use Rattle.std.specs.Prelude.{IfSome}
@@ -22,7 +22,7 @@ use Rattle.dac_script.specs.Sources.{Sourced, IsLeftBy}
 use Rattle.dac_script.specs.declared.source.Progress.{Progress}
 use Rattle.dac_script.specs.declared.source.Progress.TheVariants.{Open, Ended, Failed}
 
--- what holds of the text that was read holds of the bytes that there were
+-- a fact about the text that was read holds for the input's bytes
 pub of_bytes : (a : Option (List ℕ)) (text : List ℕ) (P : List ℕ → Type 0) → IfSome a (λ bytes. text ≡ bytes) → P text → IfSome a P
 of_bytes None text P same p = tt
 of_bytes (Some bytes) text P same p = subst P same p
@@ -47,7 +47,7 @@ module _ {Line : Type 0} (Spells : Table → Line → List (List ℕ) → Type 0
   read_fails (Some bytes) (failure.Script fault) fails = absurd fails
   read_fails (Some bytes) failure.NoMemory fails = tt
 
-  -- what fails in the parts of a text that isn't too long
+  -- a failure of the parts is a failure of the input
   pub parts_fail : (text : List ℕ) (why : Failure) → IsTaken text → IsPartsFailure Spells HasFault text why → IsInputFailure Spells HasFault text why
   parts_fail text (failure.Input TooLong) taken fails = absurd fails
   parts_fail text (failure.Input NoScript) taken fails = (taken, fails)
@@ -56,7 +56,7 @@ module _ {Line : Type 0} (Spells : Table → Line → List (List ℕ) → Type 0
   parts_fail text (failure.Script fault) taken fails = (taken, fails)
   parts_fail text failure.NoMemory taken fails = tt
 
-  -- the source of an input whose parts fail was read to its end
+  -- a source that was read to its end is left as a failure of the parts requires
   pub left_by_parts : (text : List ℕ) (source : Sourced) (why : Failure) → source.progress ≡ Ended → IsPartsFailure Spells HasFault text why → IsLeftBy why source
   left_by_parts text source (failure.Input TooLong) ended fails = absurd fails
   left_by_parts text source (failure.Input NoScript) ended fails = ended

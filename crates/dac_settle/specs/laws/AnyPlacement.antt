@@ -1,7 +1,7 @@
--- Each round settles one application more, where one is left. What a node holds in a round is the common set of its
--- beginning with claims that are well made beside it. Such a claim settles its application for good. The candidate of
--- an unsettled application runs and ticks. It knows such a claim by then, or makes one, since what it knows otherwise
--- is the common set itself.
+-- Each round settles one more application, if one is left. In a round a node holds the common set of the round's
+-- beginning, with added claims that are good at it. A good claim settles its application for good. The candidate of an
+-- unsettled application runs and ticks. By its tick it knows such a claim or makes one, because otherwise its set is
+-- the common one.
 use Rattle.std.proofs.Common.{◌≡◌, ◌⊎◌, ℕ, ◌+◌, ◌<◌, ◌≤◌, Bool, true, false, cond, List, [], ◌∷◌, ◌++◌, length, Option, Some, None, zero, suc, refl, sym, ap, subst, ◌∙◌, arith, inl, inr, append_assoc, append-nil}
 use Rattle.std.specs.Prelude.{IsSome, nat_eq}
 use Rattle.std.specs.Option.{is_some}
@@ -59,7 +59,7 @@ module _ (p : Placement) where
       ];
     }
 
-    -- a well made claim is in the set
+    -- a good claim is in the set
     abbrev pub HasNew : List Operation → Type 0
     HasNew x = (o : Operation) × IsOperationOf o x × IsWellMade p s o
 
@@ -94,7 +94,7 @@ module _ (p : Placement) where
       | inr other ↦ tick_grown n apps x made (λ b i. are b (inr i)) g other.1
     ]
 
-    -- the tick of a candidate leaves a well made claim
+    -- the tick of a candidate leaves a good claim
     tick_new : (n : NodeId) (apps : List AppId) (x made : List Operation) (app : AppId) → AreApps apps → IsGrown p s x → Claims p n apps x made → IsApp app apps → p.candidate s app ≡ Some n → HasNew s (x ++ made)
     tick_new n [] x made app are g c i is = absurd i
     tick_new n (b ∷ apps) x made app are g c i is = elim c [
@@ -153,9 +153,9 @@ module _ (p : Placement) where
     run_sound [] w final sound r = subst IsSound (sym r) sound
     run_sound (e ∷ es) w final sound r = run_sound es r.0 final (happens_sound w r.0 e sound r.1) r.2
 
-    -- ---- sets only grow, and who ticks is the better for it
+    -- ---- sets only grow, and a node that ticks gains a claim
 
-    -- node n holds more there
+    -- node n then holds at least the set x
     abbrev pub HoldsMore : List Operation → Held → NodeId → Type 0
     HoldsMore x held n = (y : List Operation) × (held n ≡ Some y) × AreOperationsOf x y
 
@@ -178,7 +178,7 @@ module _ (p : Placement) where
         let rest = run_grows es r.0 final n here.0 r.2 here.1 in
         (rest.0, rest.1, λ o i. rest.2 o (here.2 o i))
 
-    -- who runs after events ran before them
+    -- a node that runs after events ran before them
     put_back : (held : Held) (m n : NodeId) (z : List Operation) → IsSome (held m) → IsSome (with_held held m z n) → IsSome (held n)
     put_back held m n z of_m e = by_test (nat_eq n.0 m.0) refl e
       where
@@ -195,7 +195,7 @@ module _ (p : Placement) where
     run_back [] w final n r e = subst (λ (v : Sets). IsSome (v.held n)) r e
     run_back (event ∷ es) w final n r e = back w r.0 event n r.1 (run_back es r.0 final n r.2 e)
 
-    -- after the tick of a candidate of the beginning its node holds a well made claim
+    -- after the tick of a candidate at the round's beginning, its node holds a good claim
     pub run_new : (es : List SetsEvent) (w final : Sets) (n : NodeId) (app : AppId) → IsSound w → Run p w es final → p.candidate s app ≡ Some n → IsApp app p.apps → Ticks n es
         → (y : List Operation) × (final.held n ≡ Some y) × HasNew s y
     run_new [] w final n app sound r is i t = absurd t
@@ -210,7 +210,7 @@ module _ (p : Placement) where
 
   -- ---- a round
 
-  -- how many applications a set leaves unsettled
+  -- the number of unsettled applications by a set
   abbrev pub unsettled : List Operation → ℕ
   unsettled x = count (λ app. is_some (p.candidate x app)) p.apps
 
@@ -234,14 +234,14 @@ module _ (p : Placement) where
     goes_on : HoldsMore law s s later m
     goes_on = run_grows law s round.events first last m s round.run of_m
 
-    -- a candidate's claim, or one that it knew, is at node m in the end
+    -- a good claim, made or known by the candidate, is at node m at the end
     new_at_end : (app : AppId) (n : NodeId) (x : List Operation) → IsApp app p.apps → p.candidate s app ≡ Some n → later m ≡ Some x → HasNew s x
     new_at_end app n x i is of_x =
         let runs = ready.runs m n s of_m (law.live s app n is) in
         let new = run_new law s round.events first last n app at_start round.run is i (round.ticks n runs) in
         more_new s new.0 x (round.same n m new.0 x new.1 of_x) new.2
 
-    -- what is settled stays so, and where something isn't, less is left
+    -- settled applications stay settled, and if one wasn't, fewer are unsettled
     fewer : (x : List Operation) → later m ≡ Some x → (k : ℕ) → unsettled s ≤ k + 1 → unsettled x ≤ k
     fewer x of_x k le =
         let grown = at_end.held m x of_x in
@@ -285,7 +285,7 @@ module _ (p : Placement) where
     rounds_back (suc k) held final n r e =
         run_back law [] r.1.events (record { held = held; copies = [] }) (record { held = r.0; copies = r.1.copies }) n r.1.run (rounds_back k r.0 final n r.2 e)
 
-    -- as many rounds as there are applications, begun in a ready world, settle all at each running node
+    -- after as many rounds as there are applications, begun in a ready world, all are settled at each running node
     pub any_settle : (held final : Held) → IsReady p held → Rounds p (length p.apps) held final
         → (m : NodeId) (x : List Operation) → final m ≡ Some x → (app : AppId) → IsApp app p.apps → p.candidate x app ≡ None
     any_settle held final ready r m x of_x app i =

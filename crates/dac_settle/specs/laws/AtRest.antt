@@ -16,8 +16,8 @@ use Rattle.dac_messages.specs.declared.event.Event.TheVariants.{Tick}
 use Rattle.dac_messages.specs.declared.reply.Reply.{Reply}
 use Rattle.dac_messages.specs.declared.reply.Reply.TheVariants.{Ticked}
 use Rattle.dac_events.specs.declared.refusal.Refusal.{Refusal}
-use Rattle.dac_ticks.specs.Ticks.{Turn, turn_of, is_mine}
-use Rattle.dac_ticks.specs.laws.Turning.{numbered, turned_by, turn_reaches}
+use Rattle.dac_ticks.specs.Ticks.{Sweep, sweep_of, is_mine}
+use Rattle.dac_ticks.specs.laws.Sweeping.{numbered, swept_by, sweep_reaches}
 use Rattle.dac_ticks.specs.laws.Words.{own_if}
 use Rattle.dac_model_world.specs.ModelNode.{ModelNode, ModelRunning, joined, shown, running_shown}
 use Rattle.dac_model_world.specs.EventRefusals.{refusal_of}
@@ -31,27 +31,27 @@ use Rattle.dac_settle.specs.laws.WorkedRound.{nobody_claims}
 none_some : {X : Type 0} {v : X} {Y : Type 0} → ◌≡◌ {A = Option X} None (Some v) → Y
 none_some e = cc
 
--- ---- a turn
+-- ---- the effect of a tick
 
 module _ (t : Table) (own : Origin) (noted : List (Option Noted)) (now : ℕ) (s : StateValue)
     (settled : (app : AppId) → app.0 < app_count t → IsSettled (judged t s app))
   where
-    -- nothing is claimed so far
-    record IsIdle (turn : Turn) : Type 0 where
-      state : turn.state ≡ s
-      ops : turn.ops ≡ []
+    -- no claim is made yet
+    record IsIdle (sweep : Sweep) : Type 0 where
+      state : sweep.state ≡ s
+      ops : sweep.ops ≡ []
 
-    not_mine : (turn : Turn) (app : AppId) → app.0 < app_count t → turn.state ≡ s → ¬ (is_mine t own noted now turn.state app ≡ true)
-    not_mine turn app lt same mine =
-        let own_is : candidate_of (verdict_of t turn.state app) ≡ Some own.node = own_if own (candidate_of (verdict_of t turn.state app)) (and_parts _ _ mine).0 in
+    not_mine : (sweep : Sweep) (app : AppId) → app.0 < app_count t → sweep.state ≡ s → ¬ (is_mine t own noted now sweep.state app ≡ true)
+    not_mine sweep app lt same mine =
+        let own_is : candidate_of (verdict_of t sweep.state app) ≡ Some own.node = own_if own (candidate_of (verdict_of t sweep.state app)) (and_parts _ _ mine).0 in
         none_some (sym (nobody_claims (verdict_of t s app) (settled app lt)) ∙ ap (λ u. candidate_of (verdict_of t u app)) (sym same) ∙ own_is)
 
-    idle : IsIdle (turn_of t own noted now s)
-    idle = turn_reaches t own noted now (λ n turn. IsIdle turn) s (record { state = refl; ops = refl }) (λ n turn lt h.
-        turned_by t own noted now IsIdle turn (numbered n)
+    idle : IsIdle (sweep_of t own noted now s)
+    idle = sweep_reaches t own noted now (λ n sweep. IsIdle sweep) s (record { state = refl; ops = refl }) (λ n sweep lt h.
+        swept_by t own noted now IsIdle sweep (numbered n)
         (λ none. h)
         (λ mine used. record { state = h.state; ops = h.ops })
-        (λ mine left. absurd (not_mine turn (numbered n) lt h.state mine)))
+        (λ mine left. absurd (not_mine sweep (numbered n) lt h.state mine)))
 
 -- ---- a tick
 
@@ -63,7 +63,7 @@ module _ (t : Table) (me : NodeId) (last now : ℕ) (r : ModelRunning) (settled 
   by_opening Shut answer = cc
   by_opening GiveUp answer = cc
   by_opening Opened answer =
-      let same : (turn_of t r.origin noted now (joined r.log)).ops ≡ ops = cc in
+      let same : (sweep_of t r.origin noted now (joined r.log)).ops ≡ ops = cc in
       sym same ∙ (idle t r.origin noted now (joined r.log) settled).ops
 
   by_refusal : (x : Option Refusal) → (step_by x t me (record { last = last; running = Some r }) (Tick now)).answer ≡ Ok (Ticked ops passed) → ops ≡ []

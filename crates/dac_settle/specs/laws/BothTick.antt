@@ -1,4 +1,4 @@
--- The round of the worked cases: two nodes that hold the same tick, tell each other all, and hold the same then.
+-- The round of the worked cases: two nodes with the same set tick, ship all to each other, and hold the same set again.
 use Rattle.std.proofs.Common.{◌≡◌, ◌⊎◌, Bool, true, false, cond, List, [], ◌∷◌, ◌++◌, Option, Some, None, refl, sym, ap, subst, ◌∙◌, inl, inr}
 use Rattle.std.specs.Prelude.{nat_eq, IsSome}
 use Rattle.std.specs.Option.{is_some}
@@ -9,10 +9,10 @@ use Rattle.dac_meaning.specs.Meaning.{IsOperationOf, AreOperationsOf, DotsDeterm
 use Rattle.dac_meaning.specs.laws.Members.{In-append_left, In-append_right, In-append_cases}
 use Rattle.dac_decide.specs.FailoverWait.{Note, waits_of}
 use Rattle.dac_commands.specs.Causes.{terms_used_up}
-use Rattle.dac_ticks.specs.Ticks.{turn_from}
-use Rattle.dac_ticks.specs.laws.Turning.{turned_by}
+use Rattle.dac_ticks.specs.Ticks.{sweep_from}
+use Rattle.dac_ticks.specs.laws.Sweeping.{swept_by}
 use Rattle.dac_ticks.specs.Again.{noting}
-use Rattle.dac_settle.specs.Settling.{Member, with_member, own_of, turn_at, holding, ticked, IsTick, MemberEvent, Run, AllSame, IsRound}
+use Rattle.dac_settle.specs.Settling.{Member, with_member, own_of, sweep_at, holding, ticked, IsTick, MemberEvent, Run, AllSame, IsRound}
 use Rattle.dac_settle.specs.Settling.MemberEvent.{Tick, Ship, Deliver}
 use Rattle.dac_settle.specs.Worked.{first_node, second_node, IsEither, the_app, worked_table, member_with, both_hold}
 use Rattle.dac_settle.specs.laws.AnyPlacement.{same_node, one, some_is}
@@ -25,7 +25,7 @@ no_row [] begin before e = cc
 no_row (note ∷ row) begin before e = cc
 
 module _ (held : List Operation) where
-  -- ---- who runs
+  -- ---- the running nodes
   pub is_member : (m : NodeId) (d : Member) → both_hold held m ≡ Some d → (member_with held ≡ d) × IsEither m
   is_member m d e = by_tests (nat_eq m.0 0) (nat_eq m.0 1) refl refl e
     where
@@ -44,15 +44,15 @@ module _ (held : List Operation) where
       agree = agree;
       late = λ app claim since noted. absurd (no_row noted.row noted.begin noted.before noted.parts);
       passed =
-          turned_by worked_table (own_of n (member_with held)) (waits_of worked_table (noting (meaning_of held) 0 [])) 0 (λ turn. turn.passed ≡ []) (turn_from (meaning_of held)) the_app
+          swept_by worked_table (own_of n (member_with held)) (waits_of worked_table (noting (meaning_of held) 0 [])) 0 (λ sweep. sweep.passed ≡ []) (sweep_from (meaning_of held)) the_app
           (λ none. refl) (λ mine used. absurd (true≢false (sym used ∙ left))) (λ mine left. refl);
     }
 
     -- ---- the round
     abbrev made : NodeId → List Operation
-    made n = (turn_at worked_table n (member_with held) 0).ops
+    made n = (sweep_at worked_table n (member_with held) 0).ops
 
-    -- a node after its tick, and once it heard of the other's
+    -- a node after its tick, and after it has heard the other's claims
     abbrev after_tick : NodeId → Member
     after_tick n = ticked (member_with held) 0 (made n)
 

@@ -1,4 +1,4 @@
--- How many of some applications pass a test.
+-- The number of applications that pass a test.
 use Rattle.std.proofs.Common.{◌≡◌, ◌⊎◌, ℕ, ◌+◌, ◌<◌, ◌≤◌, Bool, true, false, cond, List, [], ◌∷◌, suc, length, refl, sym, ap, subst, ◌∙◌, arith, inl, inr}
 use Rattle.dac_base.specs.declared.AppId.{AppId}
 use Rattle.dac_settle.specs.Rounds.{IsApp}
@@ -7,12 +7,12 @@ abbrev pub count : (AppId → Bool) → List AppId → ℕ
 count p [] = 0
 count p (x ∷ xs) = cond (p x) (count p xs + 1) (count p xs)
 
--- no more than there are
+-- no more pass than there are
 pub count_few : (p : AppId → Bool) (xs : List AppId) → count p xs ≤ length xs
 count_few p [] = omega arith
 count_few p (y ∷ ys) = let rest = count_few p ys in elim (p y) as (λ b. cond b (count p ys + 1) (count p ys) ≤ suc (length ys)) [ true ↦ omega arith | false ↦ omega arith ]
 
--- where none is counted, none passes
+-- if the count is zero, none passes
 pub count_none : (p : AppId → Bool) (xs : List AppId) → count p xs ≡ 0 → (x : AppId) → IsApp x xs → p x ≡ false
 count_none p [] e x h = absurd h
 count_none p (y ∷ ys) e x h =
@@ -49,7 +49,7 @@ module _ (p q : AppId → Bool) (narrower : (x : AppId) → p x ≡ false → q 
         | false ↦ λ is. subst (λ c. cond c (count q ys + 1) (count q ys) ≤ count p ys) (sym (narrower y is)) rest
       ] refl
 
-  -- and less where one passes the wider test alone
+  -- it counts fewer if some pass only the wider test
   pub count_lt : (xs : List AppId) (x : AppId) → IsApp x xs → p x ≡ true → q x ≡ false → count q xs < count p xs
   count_lt [] x h passes fails = absurd h
   count_lt (y ∷ ys) x h passes fails =

@@ -1,4 +1,4 @@
--- In a ready world each candidate's verdict is due: its lost claim was noted, and has waited its time.
+-- In a ready world each candidate's verdict is due: its lost claim was noted, and has waited.
 use Rattle.std.proofs.Common.{◌≡◌, ℕ, true, ◌∷◌, ◌++◌, [], List, Option, Some, None, option_map, refl, sym, ap, subst, inr}
 use Rattle.std.specs.Option.{is_some}
 use Rattle.std.specs.FinMap as map
@@ -32,7 +32,7 @@ module _ (s : StateValue) (app : AppId) where
   lost_of : (o : Origin) → holder_of s app ≡ Some o → ¬ IsUp s o → (claim : Claim) × IsLost s app claim
   lost_of o held down = lost_by o (map.get s.claims app) refl held down
 
--- one note more of a row
+-- one more note in a row
 row_more : (note : Note) (older : List Note) (app : AppId) (claim : Claim) (since : ℕ) → IsLost note.state app claim → IsNotedSince older app claim since → IsNotedSince (note ∷ older) app claim since
 row_more note older app claim since lost is = record {
   row = note ∷ is.row;
@@ -47,7 +47,7 @@ row_more note older app claim since lost is = record {
 module _ (t : Table) (s : StateValue) (app : AppId) (note : Note) (notes : List Note) (now : ℕ) (late : IsLate t notes now)
     (before : (claim : Claim) → IsLost s app claim → IsLostByNewest notes app claim)
     (found : (claim : Claim) → IsLost s app claim → IsLost note.state app claim) where
-  -- the wait of its lost claim is over
+  -- the wait of the lost claim is over
   over : (claim : Claim) → IsLost s app claim → IsWaitOver t (note ∷ notes) s app now
   over claim lost =
       let n = lost_newest app notes claim (before claim lost) in
@@ -64,6 +64,6 @@ module _ (t : Table) (s : StateValue) (app : AppId) (note : Note) (notes : List 
   due_by n (Kept m) is e = none_some e
   due_by n Nobody is e = none_some e
 
-  -- who is to claim the application is to do it now
+  -- the candidate should claim the application now
   pub candidate_due : (n : NodeId) → candidate_of (verdict_of t s app) ≡ Some n → is_due t (note ∷ notes) s app now ≡ true
   candidate_due n e = (due_to_words t (note ∷ notes) s app now).1 (due_by n (verdict_of t s app) (verdict_in_words t s app) e)

@@ -1,4 +1,5 @@
--- When an application is left alone, in words that name no load: so claims of other applications don't change it.
+-- The conditions under which an application has no candidate, in terms without loads, so that claims of other
+-- applications don't change them.
 use Rattle.std.proofs.Common.{◌≡◌, ◌⊎◌, Option, Some, None, refl, sym, ap, subst, ◌∙◌, inl, inr}
 use Rattle.std.specs.Prelude.{is_some}
 use Rattle.std.specs.FinSet as set
@@ -25,11 +26,11 @@ use Rattle.dac_settle.specs.Placed.{IsFit}
 abbrev pub IsWellAt : Table → StateValue → AppId → Origin → Type 0
 IsWellAt t s app o = IsStartedAt s (key_of app o) × IsAllowedAt t s (key_of app o) × EachEligible t s app (λ m. ¬ IsEarlier t app m o.node)
 
--- the incarnation is live, and the application was stopped there or is well there
+-- the incarnation is live, and the application was stopped there, or meets the conditions above
 abbrev pub IsLeftAt : Table → StateValue → AppId → Origin → Type 0
 IsLeftAt t s app o = IsUp s o × ((¬ IsStartedAt s (key_of app o)) ⊎ IsWellAt t s app o)
 
--- no node may run the application, or it is left at its holder
+-- no node can run the application, or its holder is left alone with it
 abbrev pub IsLeft : Table → StateValue → AppId → Type 0
 IsLeft t s app = EachEligible t s app (λ _. ⊥) ⊎ HeldBy s app (IsLeftAt t s app)
 
@@ -37,7 +38,7 @@ some_none : {X : Type 0} {v : X} {Y : Type 0} → ◌≡◌ {A = Option X} (Some
 some_none e = absurd (false≢true (sym (ap is_some e)))
 
 module _ (t : Table) (s : StateValue) (app : AppId) where
-  -- ---- what has no candidate is left alone
+  -- ---- an application without a candidate is left alone
 
   left_by : (v : Verdict) → IsVerdict t s app v → candidate_of v ≡ None → IsLeft t s app
   left_by (Start n) is e = some_none e
@@ -51,7 +52,7 @@ module _ (t : Table) (s : StateValue) (app : AppId) where
   pub left_if : candidate_of (verdict_of t s app) ≡ None → IsLeft t s app
   left_if e = left_by (verdict_of t s app) (verdict_in_words t s app) e
 
-  -- ---- and the other way
+  -- ---- an application left alone has no candidate
 
   none_by : (v : Verdict) → IsVerdict t s app v → EachEligible t s app (λ _. ⊥) → candidate_of v ≡ None
   none_by (Start n) is none = absurd (none n is.1.node is.1.eligible)
@@ -90,9 +91,9 @@ module _ (t : Table) (s : StateValue) (app : AppId) where
     | inr held ↦ held_by (verdict_of t s app) (verdict_in_words t s app) held
   ]
 
--- ---- states that differ in claims alone
+-- ---- states that differ only in claims
 
--- a state of these places, and of no claims
+-- a state with these parts, and without claims
 abbrev places : Lives → Permits → Writes → Drains → StateValue
 places lives permits starts drains = record { heard = set.empty; known = set.empty; permits = permits; starts = starts; lives = lives; claims = map.empty; drains = drains }
 
@@ -116,11 +117,11 @@ module _ (t : Table) (s u : StateValue) (a : MayRunAlike s u) (app : AppId) wher
   to_up : (o : Origin) → IsUp s o → IsUp u o
   to_up o up = subst (λ (l : Lives). IsLive l o.node o.inc) a.lives up
 
--- what holds of each eligible node of one holds of each of the other
+-- a property of all eligible nodes of one state holds of those of the other
 pub each_alike : (t : Table) (s u : StateValue) → MayRunAlike s u → (app : AppId) (P : NodeId → Type 0) → EachEligible t s app P → EachEligible t u app P
 each_alike t s u a app P all = λ m lt may. all m lt (to_eligible t u s (alike_back s u a) app m may)
 
--- who may run an application stays so
+-- the nodes that can run an application are the same
 pub fit_alike : (t : Table) (s u : StateValue) → MayRunAlike s u → (app : AppId) (o : Origin) → IsFit t s app o → IsFit t u app o
 fit_alike t s u a app o fit = record {
   eligible = to_eligible t s u a app o.node fit.eligible;
@@ -137,7 +138,7 @@ left_at_alike t s u a app o left = (
   ],
 )
 
--- what is left alone in one is so in the other, where the holder is the same
+-- an application left alone in one state is left alone in the other, if the holder is the same
 pub left_alike : (t : Table) (s u : StateValue) → MayRunAlike s u → (app : AppId) → holder_of s app ≡ holder_of u app → IsLeft t s app → IsLeft t u app
 left_alike t s u a app same left = elim left [
   | inl none ↦ inl (each_alike t s u a app (λ _. ⊥) none)

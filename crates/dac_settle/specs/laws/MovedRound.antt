@@ -1,4 +1,4 @@
--- The worked case of a drain: its nodes are ready, the application is to be moved, and a round moves it.
+-- The worked case of a drain: its nodes are ready, the verdict is to move the application, and a round moves it.
 use Rattle.std.proofs.Common.{◌≡◌, ℕ, ◌+◌, false, List, [], ◌∷◌, Option, Some, None, option_map, refl, sym, ap, subst, ◌∙◌, arith, inl, inr}
 use Rattle.std.specs.Prelude.{nat_lt}
 use Rattle.std.specs.Option.{option_map_or}
@@ -43,7 +43,7 @@ none_some e = cc
 abbrev pub drained_state : StateValue
 drained_state = meaning_of drained_set
 
--- ---- who is live
+-- ---- the live nodes
 abbrev the_rest : List Operation
 the_rest = start_of the_app first_node 2 ∷ start_of the_app second_node 2 ∷ claiming ∷ draining ∷ []
 
@@ -60,7 +60,7 @@ is_live = up_live the_rest silent
 pub only_live : (n : NodeId) (inc : ℕ) → IsLive drained_state.lives n inc → IsEither n × (1 ≡ inc)
 only_live = only_up_live the_rest silent
 
--- ---- what is claimed
+-- ---- the claims
 pub said_by : (app : AppId) (c : Claim) → SaysFor claim_said drained_set app c → (the_app ≡ app) × (first_claim ≡ c)
 said_by app c says = by_place says.0 says.1.0 says.1.1
   where
@@ -93,7 +93,7 @@ of_first app claim e = by_claim (map.get drained_state.claims app) (claim_greate
 pub never_lost : (app : AppId) (claim : Claim) → IsLost drained_state app claim → ⊥
 never_lost app claim lost = lost.down (subst (λ (c : Claim). IsUp drained_state c.origin) (of_first app claim lost.greatest) (is_live first_node (inl refl)))
 
--- ---- both are ready
+-- ---- both nodes are ready
 is_ready : IsReady (both_hold drained_set)
 is_ready = record {
   same = λ m n d e of_m of_n o i. subst (λ (k : Member). IsOperationOf o k.held) ((sym (is_member drained_set m d of_m).0) ∙ (is_member drained_set n e of_n).0) i;
@@ -107,7 +107,7 @@ is_ready = record {
   noted = λ m d of_m app claim lost. absurd (never_lost app claim (subst (λ (k : Member). IsLost (meaning_of k.held) app claim) (sym (is_member drained_set m d of_m).0) lost));
 }
 
--- ---- the application is to be moved
+-- ---- the verdict is to move the application
 pub is_drained : IsDrainedAt drained_state first_node 1
 is_drained = (dot (first_of second_node) 3, drains-meaning drained_set (keyed_write (origin first_node 1) (dot (first_of second_node) 3)))
 
@@ -126,7 +126,7 @@ may_run = record {
   started = started second_node (inr refl);
 }
 
--- its holder is the first node, which is up, and where it was started and isn't allowed
+-- the holder is the first node, which is live, and where the application is started but not allowed
 is_holder : (o : Origin) → holder_of drained_state the_app ≡ Some o → first_of first_node ≡ o
 is_holder o held = one (sym (ap (option_map (λ (c : Claim). c.origin)) claimed) ∙ held)
 

@@ -1,4 +1,4 @@
--- What settling sees of one event of the model world: a tick, a ship or a delivery of a member, or nothing.
+-- The effect of one event of the model world on its members: a tick, a ship or a delivery, or none.
 use Rattle.std.proofs.Common.{◌≡◌, ℕ, ◌-◌, ◌<◌, ◌≤◌, Bool, true, false, not, cond, List, [], ◌∷◌, ◌++◌, length, drop, map as list_map, Option, Some, None, Ok, Err, nat_eq, zero, suc, refl, sym, ap, subst, ◌∙◌, arith, inl, inr}
 use Rattle.std.specs.Prelude.{nat_lt}
 use Rattle.std.specs.Option.{option_map}
@@ -21,7 +21,7 @@ use Rattle.dac_messages.specs.declared.event.Event.{Event as NodeEvent}
 use Rattle.dac_messages.specs.declared.event.Event.TheVariants.{Boot, Crash, Command as Commanded, Tick as Ticks, Ship as ShipsTo, Hear, HearOp}
 use Rattle.dac_messages.specs.declared.reply.Reply.TheVariants.{Ticked, Shipped, Heard}
 use Rattle.dac_events.specs.declared.refusal.Refusal.TheVariants.{NoMemory}
-use Rattle.dac_ticks.specs.Ticks.{Turn}
+use Rattle.dac_ticks.specs.Ticks.{Sweep}
 use Rattle.dac_ticks.specs.Again.{tick_of}
 use Rattle.dac_model_world.specs.ModelNode.{ModelNode, ModelRunning, joined, shown, running_shown}
 use Rattle.dac_model_world.specs.EventRefusals.{refusal_of, refusal_by}
@@ -36,14 +36,14 @@ use Rattle.dac_model_world.specs.laws.Operations.{Agree-within, DistinctDots-agr
 use Rattle.dac_model_world.specs.laws.Carried.{none_some}
 use Rattle.dac_model_world.specs.laws.Sound.{Answer, Sound, held_at, no_message, no_operation}
 use Rattle.dac_settle.specs.Rounds.{InCopies}
-use Rattle.dac_settle.specs.Settling.{Member, Members, with_member, own_of, turn_at, holding, ticked, IsTick, MemberEvent, Run, Ticks as TicksIn}
+use Rattle.dac_settle.specs.Settling.{Member, Members, with_member, own_of, sweep_at, holding, ticked, IsTick, MemberEvent, Run, Ticks as TicksIn}
 use Rattle.dac_settle.specs.Settling.MemberEvent.{Tick, Ship, Deliver}
 use Rattle.dac_settle.specs.WorldRounds.{member_by, members_of, IsLateBy, InRound, IsTicked}
 use Rattle.dac_settle.specs.laws.AnyPlacement.{one, same_node}
 
 -- ---- the copies of a round
 
--- what was shipped after the first so many
+-- the copies shipped after the first b
 abbrev pub since : ℕ → List Copy → List (List Operation)
 since b cs = list_map (λ (c : Copy). c.operations) (drop b cs)
 
@@ -73,11 +73,11 @@ counted_since b k cs c lt e = elim (nat_eq k 0) as (λ z. cond z None (slice_get
 
 -- ---- members
 
--- what settling sees of the two worlds in a round before which so much was shipped
+-- the members of the two worlds, in a round that began after b copies
 abbrev pub seen_in : ℕ → ModelWorld → SetWorld → Members
 seen_in b w s = record { node = members_of w s; copies = since b s.copies }
 
--- a node and its set put in place put their member in place
+-- replacing a node and its set replaces their member
 put_members : (w : ModelWorld) (s : SetWorld) (n : NodeId) (d : ModelNode) (held : Option NodeSet) (k : Member) → member_by d.running held ≡ Some k
     → (m : NodeId) → member_by (with_node w.node n d m).running (with_set s.node n held m) ≡ with_member (members_of w s) n k m
 put_members w s n d held k is m = by_test (nat_eq m.0 n.0)
@@ -86,7 +86,7 @@ put_members w s n d held k is m = by_test (nat_eq m.0 n.0)
     by_test true = is
     by_test false = refl
 
--- a node put in place that keeps its member keeps all
+-- replacing a node by one with the same member leaves all members
 keep_members : (w : ModelWorld) (s : SetWorld) (n : NodeId) (d : ModelNode) → member_by d.running (s.node n) ≡ members_of w s n → (m : NodeId) → member_by (with_node w.node n d m).running (s.node m) ≡ members_of w s m
 keep_members w s n d is m = by_test (nat_eq m.0 n.0) refl
   where
@@ -95,11 +95,12 @@ keep_members w s n d is m = by_test (nat_eq m.0 n.0) refl
     by_test false e = refl
 
 module _ (t : Table) (b : ℕ) (w : ModelWorld) (s : SetWorld) where
-  -- From here to there by one event of the members or none. Where node n ticked by this answer, it ticks there.
+  -- At most one event of the members leads from one pair of worlds to the next. If the result is a tick of node n, that
+  -- event is one too.
   abbrev pub Goes : NodeId → Answer → ModelWorld → SetWorld → Type 0
   Goes n a next later = (es : List MemberEvent) × Run t (seen_in b w s) es (seen_in b next later) × (IsTicked a → TicksIn n es)
 
-  -- so it goes if the event with its answer fits a round
+  -- an event that fits a round leads there
   abbrev pub GoesBy : NodeId → What → WorldStepped → Type 0
   GoesBy n what by = InRound t b w n what by.answer → Unites s n what by.answer → Goes n by.answer by.world (set_step s n what by.answer)
 
@@ -117,34 +118,34 @@ module _ (t : Table) (b : ℕ) (w : ModelWorld) (s : SetWorld) where
     ticks_what now (Delivering k) e = no_message (counted w.messages k) (Ticks now) (λ l p. cc) e
     ticks_what now (Hand k) e = no_operation (counted w.operations k) (Ticks now) (λ x p. cc) e
 
-    abbrev turn : ℕ → Turn
-    turn now = tick_of t r.origin r.notes now (joined r.log)
+    abbrev sweep : ℕ → Sweep
+    sweep now = tick_of t r.origin r.notes now (joined r.log)
 
     goes_tick : (what : What) (now : ℕ) → what ≡ Ticking now →
-        let d : ModelNode = record { last = (w.node n).last; running = goes_on r (note_of (joined r.log) (Ticks now)) (looks_after (running_shown t r) now (turn now)) } in
-        (turn now).passed ≡ [] → IsLateBy t (w.node n).running what → Goes n (Ok (Ticked (turn now).ops (turn now).passed)) (answered_by w n d (Ok (Ticked (turn now).ops (turn now).passed))).world (issuing s n (turn now).ops)
+        let d : ModelNode = record { last = (w.node n).last; running = goes_on r (note_of (joined r.log) (Ticks now)) (looks_after (running_shown t r) now (sweep now)) } in
+        (sweep now).passed ≡ [] → IsLateBy t (w.node n).running what → Goes n (Ok (Ticked (sweep now).ops (sweep now).passed)) (answered_by w n d (Ok (Ticked (sweep now).ops (sweep now).passed))).world (issuing s n (sweep now).ops)
     goes_tick what now is none late =
         let held = held_at w s n r h on in
         let note = note_of (joined r.log) (Ticks now) in
-        let d : ModelNode = record { last = (w.node n).last; running = goes_on r note (looks_after (running_shown t r) now (turn now)) } in
+        let d : ModelNode = record { last = (w.node n).last; running = goes_on r note (looks_after (running_shown t r) now (sweep now)) } in
         let me : Member = record { inc = r.origin.inc; held = held.set.operations; notes = r.notes } in
         let own : own_of n me ≡ r.origin = λ i. record { node = sym (ap (λ (o : Origin). o.node) held.mine) i; inc = r.origin.inc } in
-        let same : turn_at t n me now ≡ turn now = λ i. tick_of t (own i) r.notes now (sym held.state i) in
-        let k = ticked me now (turn_at t n me now).ops in
-        let put : member_by d.running (united (s.node n) (turn now).ops) ≡ Some k =
-        (λ i. member_by d.running (united (held.is i) (turn now).ops))
+        let same : sweep_at t n me now ≡ sweep now = λ i. tick_of t (own i) r.notes now (sym held.state i) in
+        let k = ticked me now (sweep_at t n me now).ops in
+        let put : member_by d.running (united (s.node n) (sweep now).ops) ≡ Some k =
+        (λ i. member_by d.running (united (held.is i) (sweep now).ops))
         ∙ (λ i. Some (record { inc = r.origin.inc; held = held.set.operations ++ (sym same i).ops; notes = record { state = held.state i; moment = now } ∷ r.notes })) in
         let tick : IsTick t n me now = record {
           agree = Agree-within held.set.operations w.operations held.ok.within (DistinctDots-agree w.operations h.distinct);
           late = subst (λ (p : Option ModelRunning × What). IsLateBy t p.0 p.1) (λ i. (on i, is i)) late;
-          passed = ap (λ (v : Turn). v.passed) same ∙ none;
+          passed = ap (λ (v : Sweep). v.passed) same ∙ none;
         } in
         let next : Members = record { node = with_member (members_of w s) n k; copies = since b s.copies } in (
           Tick n now ∷ [],
           (
             next,
             (me, (λ i. member_by (on i) (held.is i)), tick, refl),
-            (λ i. record { node = λ m. put_members w s n d (united (s.node n) (turn now).ops) k put m i; copies = since b s.copies }),
+            (λ i. record { node = λ m. put_members w s n d (united (s.node n) (sweep now).ops) k put m i; copies = since b s.copies }),
           ),
           λ i. inl (now, refl),
         )
@@ -171,7 +172,7 @@ module _ (t : Table) (b : ℕ) (w : ModelWorld) (s : SetWorld) where
           λ i. absurd i,
         )
 
-    -- a node that hears goes on as the same incarnation with the same notes
+    -- a node that hears keeps its incarnation and its notes
     pub record HearsAs (d : ModelNode) : Type 0 where
       pub after : ModelRunning
       pub running : d.running ≡ Some after

@@ -1,4 +1,4 @@
--- Claims alone change no more of a meaning than what is heard, what is known and the claims.
+-- Claims change only the claims of a meaning, and its heard and known dots.
 use Rattle.std.proofs.Common.{◌≡◌, ◌⊎◌, ℕ, Bool, true, false, not, cond, ◌&&◌, List, Option, Some, None, refl, sym, ap, subst, ◌∙◌, inl, inr}
 use Rattle.std.specs.declared.cmp.Ordering.{Ordering}
 use Rattle.std.specs.Cmp.{IsTotalOrder}
@@ -30,7 +30,7 @@ use Rattle.dac_wishes.specs.laws.Writes.{writes_total, exact_writes}
 use Rattle.dac_operations.specs.declared.act.Act.{Act}
 use Rattle.dac_operations.specs.declared.act.Act.TheVariants.{Up, Down, Permit, Start, Stop, Drain, Claim}
 use Rattle.dac_operations.specs.Operations.{Operation, operation}
-use Rattle.dac_meaning.specs.Meaning.{IsOperationOf, AreOperationsOf, meaning_of, has_dot, replaces, is_start, vote_says, is_vote, vote_at, permit_vote, drain_vote, flag_said, pairs, life_said, claim_said}
+use Rattle.dac_meaning.specs.Meaning.{IsOperationOf, AreOperationsOf, meaning_of, has_dot, replaces, is_start, vote_says, is_vote, vote_at, permit_vote, drain_vote, flag_written, pairs, life_said, claim_said}
 use Rattle.dac_meaning.specs.laws.Members.{found, finds}
 use Rattle.dac_meaning.specs.laws.Readers.{starts-meaning, permits-meaning, drains-meaning, lives-meaning, lives_are, claims-meaning, claims_are}
 use Rattle.dac_meaning.specs.Chained.{SaysFor}
@@ -42,14 +42,14 @@ abbrev pub is_claim : Act → Bool
 is_claim (Claim app term how from) = true
 is_claim _ = false
 
--- x is s and claims
+-- x consists of s and of claims
 pub record AddsClaims (s x : List Operation) : Type 0 where
   pub keeps : AreOperationsOf s x
   pub new : (o : Operation) → IsOperationOf o x → IsOperationOf o s ⊎ (is_claim o.act ≡ true)
 
--- ---- what a claim isn't
+-- ---- other acts
 
--- what is so of every claim is so of an act that is one
+-- a property of every claim holds of an act that is one
 by_claim : (P : Act → Type 0) → ((app : AppId) (term : ℕ) (how : How) (from : Option NodeId) → P (Claim app term how from)) → (a : Act) → is_claim a ≡ true → P a
 by_claim P all Up h = absurd (false≢true h)
 by_claim P all (Down node inc) h = absurd (false≢true h)
@@ -75,7 +75,7 @@ no_drain a h = by_claim (λ b. drain_vote b ≡ None) (λ app term how from. ref
 no_life : (e : Dot) (a : Act) → is_claim a ≡ true → life_said e a ≡ None
 no_life e a h = by_claim (λ b. life_said e b ≡ None) (λ app term how from. refl) a h
 
--- what says a claim is one
+-- an act that says a claim is one
 pub said_is_claim : (e : Dot) (a : Act) (said : AppId × ClaimValue) → claim_said e a ≡ Some said → is_claim a ≡ true
 said_is_claim e Up said h = cc
 said_is_claim e (Down node inc) said h = cc
@@ -87,7 +87,7 @@ said_is_claim e (Claim app term how from) said h = refl
 
 -- ---- greatest values
 
--- what is said in one way and in another has one greatest value
+-- two equivalent properties have one greatest value
 one_greatest : {T : Type 0} {cmp : T → T → Ordering} → IsTotalOrder cmp → CmpEqualImpliesEq cmp → (P Q : T → Type 0) (x y : Option T) → ((v : T) → P v → Q v) → ((v : T) → Q v → P v) → IsGreatest cmp P x → IsGreatest cmp Q y → x ≡ y
 one_greatest o exact P Q None None to back g h = refl
 one_greatest o exact P Q None (Some w) to back g h = absurd (g w (back w h.0))
@@ -117,7 +117,7 @@ module _ (s x : List Operation) (adds : AddsClaims s x) where
   vote_alike : {K : Type 0} (R : K → K → Ordering) (vote : Act → Option (K × Bool)) (down : Bool) → ((a : Act) → is_claim a ≡ true → vote a ≡ None) → (w : KeyedWrite K) → vote_at R vote down x w ≡ vote_at R vote down s w
   vote_alike R vote down none w =
       let no_vote = λ (v : Bool) (o : Operation) (c : is_claim o.act ≡ true). ap (λ u. vote_says R w.key v u && has_dot w.dot o) (none o.act c) in
-      λ i. cond (replaced_alike w.dot i) None (flag_said (any_alike (is_vote R vote w down) (no_vote down) i) (any_alike (is_vote R vote w (not down)) (no_vote (not down)) i))
+      λ i. cond (replaced_alike w.dot i) None (flag_written (any_alike (is_vote R vote w down) (no_vote down) i) (any_alike (is_vote R vote w (not down)) (no_vote (not down)) i))
 
   permits_alike : (meaning_of x).permits ≡ (meaning_of s).permits
   permits_alike = map.same_map writes_total exact_writes _ _ (λ w. permits-meaning x w ∙ vote_alike key_cmp permit_vote false no_permit w ∙ sym (permits-meaning s w))
@@ -138,7 +138,7 @@ module _ (s x : List Operation) (adds : AddsClaims s x) where
       (λ l said. let o = of_said life_said s n l said in is_said life_said x n l (o.0, (adds.keeps o.0 o.1.0, o.1.1)))
       (lives_are x n) (lives_are s n)) ∙ sym (lives-meaning s)
 
-  -- both mean the same lives, permits, starts and drains
+  -- both sets mean the same lives, permits, starts and drains
   pub alike : MayRunAlike (meaning_of x) (meaning_of s)
   alike = record { lives = lives_alike; permits = permits_alike; starts = starts_alike; drains = drains_alike }
 

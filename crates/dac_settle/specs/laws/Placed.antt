@@ -1,5 +1,4 @@
--- The definitions of placement are such that rounds settle. What is used of any placement holds of verdicts over the
--- meanings of sets of operations.
+-- Verdicts over the meanings of sets of operations have the properties that rounds rely on.
 use Rattle.std.proofs.Common.{◌≡◌, ◌⊎◌, ℕ, ◌+◌, ◌<◌, ◌≤◌, true, List, Option, Some, None, option_map, refl, sym, ap, subst, ◌∙◌, arith, inl, inr}
 use Rattle.std.specs.Prelude.{unwrap_or, IsSome}
 use Rattle.std.specs.Option.{is_some, option_map_or}
@@ -56,12 +55,12 @@ is_inc : (o : Option ℕ) (inc : ℕ) → o ≡ Some inc → o ≡ Some (unwrap_
 is_inc None inc e = some_none (sym e)
 is_inc (Some i) inc e = refl
 
--- one incarnation of a node is live
+-- at most one incarnation of a node is live
 pub one_inc : (lives : Lives) (n : NodeId) (a b : ℕ) → IsLive lives n a → IsLive lives n b → a ≡ b
 one_inc lives n a b p q = one (sym ((live_is lives n a).1 p) ∙ (live_is lives n b).1 q)
 
 module _ (t : Table) where
-  -- who is live is so at its live incarnation
+  -- a live incarnation is the one that `here` gives
   pub live_here : (x : List Operation) (n : NodeId) (inc : ℕ) → IsLive (meaning_of x).lives n inc → IsLive (meaning_of x).lives n (here n x).inc
   live_here x n inc alive =
       let lives = (meaning_of x).lives in
@@ -121,7 +120,7 @@ module _ (t : Table) where
       pub claims_cases : (map.get (meaning_of x).claims app ≡ map.get (meaning_of s).claims app) ⊎ IsTaken
       claims_cases = by_greatest (map.get (meaning_of x).claims app) (map.get (meaning_of s).claims app) refl (claim_greatest x app) (claim_greatest s app)
 
-      -- where a good claim is the greatest, it settles the application
+      -- if a good claim is the greatest, it settles the application
       pub taken_settles : IsTaken → (placed t).candidate x app ≡ None
       taken_settles taken =
           let u = meaning_of x in
@@ -140,7 +139,7 @@ module _ (t : Table) where
         | inr taken ↦ absurd (false≢true (sym (ap is_some none) ∙ taken.good.open_app))
       ]
 
-      -- where a good claim is in the set, one is the greatest: its term is above that of each claim of s
+      -- if a good claim is in the set, one is the greatest, because its term is above that of each claim of s
       pub taken_if : (o : Operation) → IsOperationOf o x → IsGood t s app o → IsTaken
       taken_if o there good = elim claims_cases [
         | inl same ↦ absurd (above (map.get (meaning_of x).claims app) (claim_greatest x app) (good.next ∙ ap term_after (sym same)))
@@ -154,7 +153,7 @@ module _ (t : Table) where
           above None greatest e = greatest good.claim (o, (there, good.says))
           above (Some c) greatest e = past good.claim.term c.term (terms_at_most good.claim c (greatest.1 good.claim (o, (there, good.says)))) e
 
-      -- what is claimed at its set wasn't settled
+      -- an application claimed at its set wasn't settled
       was_open : (n : NodeId) → (placed t).candidate x app ≡ Some n → (o : Option NodeId) → (placed t).candidate s app ≡ o → IsSome o
       was_open n is None e = some_none (sym is ∙ stays e)
       was_open n is (Some m) e = refl
@@ -176,7 +175,7 @@ module _ (t : Table) where
             }
       ]
 
-  -- ---- what is used of placement
+  -- ---- the properties of placement
 
   pub is_placement : IsPlacement (placed t)
   is_placement = record {

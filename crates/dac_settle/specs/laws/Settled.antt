@@ -1,4 +1,4 @@
--- As many rounds as there are applications, begun in a ready world, settle each of them.
+-- After as many rounds as there are applications, begun in a ready world, each of them is settled.
 use Rattle.std.proofs.Common.{◌≡◌, ℕ, ◌<◌, ◌≤◌, ◌+◌, Bool, true, false, cond, List, [], ◌∷◌, ◌++◌, length, Option, Some, None, option_map, zero, suc, refl, sym, ap, subst, ◌∙◌, arith, inl, inr}
 use Rattle.std.specs.Prelude.{nat_eq}
 use Rattle.std.specs.Option.{is_some}
@@ -16,16 +16,16 @@ use Rattle.dac_placement.specs.declared.verdicts.Verdict.{Verdict}
 use Rattle.dac_placement.specs.declared.verdicts.Verdict.TheVariants.{Start, Failover, Halted, Move, Takeover, Kept, Nobody}
 use Rattle.dac_placement.specs.Placement.{apps_of, verdict_of, candidate_of}
 use Rattle.dac_decide.specs.FailoverWait.{Note, IsLost, IsLostByNewest}
-use Rattle.dac_ticks.specs.laws.Turning.{numbered, apps_from}
+use Rattle.dac_ticks.specs.laws.Sweeping.{numbered, apps_from}
 use Rattle.dac_ticks.specs.Again.{noting}
 use Rattle.dac_settle.specs.Rounds.{Held, IsApp, IsGrown, SetsEvent, Sets, InCopies, with_held, Happens as SetsHappen, Run as SetsRun, IsTickOf as IsSetsTick, Ticks as SetsTick, IsReady as AreReady, IsRound as IsRoundOfSets, Rounds as RoundsOfSets}
 use Rattle.dac_settle.specs.Rounds.SetsEvent.{Tick as Ticked, Ship as Shipped, Deliver as Delivered}
-use Rattle.dac_settle.specs.Settling.{Member, Members, with_member, turn_at, holding, ticked, MemberEvent, Happens, Run, Ticks, IsReady, IsRound, Rounds, IsSettled, RoundsSettleBy}
+use Rattle.dac_settle.specs.Settling.{Member, Members, with_member, sweep_at, holding, ticked, MemberEvent, Happens, Run, Ticks, IsReady, IsRound, Rounds, IsSettled, RoundsSettleBy}
 use Rattle.dac_settle.specs.Settling.MemberEvent.{Tick, Ship, Deliver}
 use Rattle.dac_settle.specs.laws.AnyPlacement.{in_copies, same_node, one, some_is, grown_united, tick_grown, any_settle}
 use Rattle.dac_settle.specs.laws.Placed.{one_inc, grown_alike, is_placement}
 use Rattle.dac_settle.specs.Placed.{placed}
-use Rattle.dac_settle.specs.laws.Turns.{lost_back, IsMemberOf, tick_claims}
+use Rattle.dac_settle.specs.laws.Sweeps.{lost_back, IsMemberOf, tick_claims}
 
 -- ---- members and their sets
 
@@ -46,7 +46,7 @@ holds_if : (o : Option Member) → is_some (set_of o) ≡ is_some o
 holds_if None = refl
 holds_if (Some d) = refl
 
--- a member put in place puts its set in place
+-- replacing a member replaces its set
 put_by : (b : Bool) (d : Member) (o : Option Member) → set_of (cond b (Some d) o) ≡ cond b (Some d.held) (set_of o)
 put_by true d o = refl
 put_by false d o = refl
@@ -57,7 +57,7 @@ put_sets node copies n d = λ i. record { held = λ m. put_by (nat_eq m.0 n.0) d
 module _ (t : Table) where
   -- ---- one event
 
-  -- a tick stays a tick of its node
+  -- a tick of a member is a tick of its node's set
   abbrev StaysTick : MemberEvent → SetsEvent → Type 0
   StaysTick e f = (n : NodeId) (now : ℕ) → Tick n now ≡ e → IsSetsTick n f
 
@@ -74,7 +74,7 @@ module _ (t : Table) where
         by_test m e true at is = subst (IsMemberOf t s m) (one is) (subst (λ k. IsMemberOf t s k d) (sym (same_node at)) member)
         by_test m e false at is = ok.nodes m e is
 
-    -- with more in its set, and with one note more, a member is one
+    -- a member with more operations and one more note is still one
     member_more : (n : NodeId) (d : Member) (more : List Operation) (notes : List Note) → IsMemberOf t s n d → IsGrown (placed t) s (d.held ++ more)
         → ((app : AppId) (claim : Claim) → IsLost (meaning_of d.held) app claim → IsLostByNewest notes app claim)
         → IsMemberOf t s n (record { inc = d.inc; held = d.held ++ more; notes = notes })
@@ -100,7 +100,7 @@ module _ (t : Table) where
     goes w next (Tick n now) ok h =
         let d = h.0 in
         let m = ok.nodes n d h.1 in
-        let made = (turn_at t n d now).ops in
+        let made = (sweep_at t n d now).ops in
         let claims = tick_claims t s n d now m h.2 in
         let grown = tick_grown (placed t) (is_placement t) s n (placed t).apps d.held made (λ app i. i) m.grown claims in
         let after = ticked d now made in
@@ -145,7 +145,7 @@ module _ (t : Table) where
           ),
         )
 
-  -- ---- who runs
+  -- ---- the running nodes
 
   put_same : (node : NodeId → Option Member) (n m : NodeId) (d : Member) → is_some (node n) ≡ true → is_some (with_member node n d m) ≡ is_some (node m)
   put_same node n m d there = by_test (nat_eq m.0 n.0) refl
@@ -172,7 +172,7 @@ module _ (t : Table) where
 
   -- ---- a round
 
-  -- sets of members are within each other as their members' are
+  -- the sets of members are contained in each other if the members' are
   same_sets : (node : NodeId → Option Member) → ((m n : NodeId) (d e : Member) → node m ≡ Some d → node n ≡ Some e → AreOperationsOf d.held e.held)
       → (m n : NodeId) (x y : List Operation) → held_of node m ≡ Some x → held_of node n ≡ Some y → AreOperationsOf x y
   same_sets node same m n x y of_m of_n =
@@ -221,7 +221,7 @@ module _ (t : Table) where
     lives_as_before : (p : NodeId) (e : Member) → later p ≡ Some e → (meaning_of e.held).lives ≡ (meaning_of d.held).lives
     lives_as_before p e of_p = (grown_alike t d.held e.held (ran.0.nodes p e of_p).grown).lives
 
-    -- the world is ready again
+    -- the world is ready again, for the next round
     ready_again : IsReady later
     ready_again = record {
       same = round.same;
@@ -254,7 +254,7 @@ settled (Takeover n) e = some_none e
 settled (Kept n) e = tt
 settled Nobody e = tt
 
--- the applications of a range are in it
+-- the applications of a range
 in_range : (a n k : ℕ) → a ≤ k → k < a + n → IsApp (numbered k) (apps_from a n)
 in_range a zero k le lt = absurd (omega arith)
 in_range a (suc n) k le lt = elim (nat_eq k a) as (λ b. nat_eq k a ≡ b → IsApp (numbered k) (apps_from a (suc n))) [

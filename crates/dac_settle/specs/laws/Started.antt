@@ -1,5 +1,5 @@
--- Sets by which two nodes are up in their first incarnations and applications are started. The laws say who is live
--- by them, and that nothing is claimed or permitted.
+-- Sets in which two nodes boot their first incarnations and applications are started. The laws say who is live by them,
+-- and that nothing is claimed or permitted.
 use Rattle.std.proofs.Common.{◌≡◌, ℕ, List, Option, Some, None, refl, sym, ap, subst, ◌∙◌, inl, inr}
 use Rattle.std.specs.FinMap as map
 use Rattle.dac_base.specs.declared.NodeId.{NodeId}
@@ -20,7 +20,7 @@ use Rattle.dac_meaning.specs.laws.Chained.{of_said, is_said}
 use Rattle.dac_meaning.specs.laws.Readers.{lives-meaning, lives_are, claims-meaning, claims_are}
 use Rattle.dac_settle.specs.Worked.{IsEither, first_node, second_node, up_of, begun}
 
--- ---- what is said
+-- ---- what operations say
 
 -- the operation is a start
 abbrev pub IsStart : Operation → Type 0
@@ -57,9 +57,9 @@ module _ (rest : List Operation) (silent : SayNoLives rest) where
   up_says : (m : NodeId) (o : Operation) → o ≡ up_of m → (n : NodeId) (l : Life) → life_said o.dot o.act ≡ Some (n, l) → (m ≡ n) × (up_life ≡ l)
   up_says m o is n l says = pair_of (sym (ap (λ (q : Operation). life_said q.dot q.act) is) ∙ says)
 
-  -- each life that is said is that of the first incarnation of either node, up
-  said_life : (n : NodeId) (l : Life) → SaysFor life_said s n l → IsEither n × (up_life ≡ l)
-  said_life n l says = elim says.1.0 [
+  -- each life that the operations say is that of the first incarnation of one of the nodes, up
+  life_report : (n : NodeId) (l : Life) → SaysFor life_said s n l → IsEither n × (up_life ≡ l)
+  life_report n l says = elim says.1.0 [
     | inl one ↦ let is = up_says first_node says.0 one n l says.1.1 in (inl (sym is.0), is.1)
     | inr more ↦ elim more [
       | inl two ↦ let is = up_says second_node says.0 two n l says.1.1 in (inr (sym is.0), is.1)
@@ -73,20 +73,20 @@ module _ (rest : List Operation) (silent : SayNoLives rest) where
     | inr two ↦ (up_of second_node, (inr (inl refl), ap (λ m. Some (m, up_life)) (sym two)))
   ]
 
-  -- both are live
+  -- both nodes are live
   pub up_live : (n : NodeId) → IsEither n → IsLive (meaning_of s).lives n 1
   up_live n either = ap (λ lives. map.get lives n) (lives-meaning s) ∙ by_life (map.get (lives_of s) n) (lives_are s n)
     where
       by_life : (o : Option Life) → IsGreatest life_cmp (IsSaid life_said (pairs s) n) o → o ≡ Some up_life
       by_life None none = absurd (none up_life (is_said life_said s n up_life (up_said n either)))
-      by_life (Some l) is = ap (λ k. Some k) (sym (said_life n l (of_said life_said s n l is.0)).1)
+      by_life (Some l) is = ap (λ k. Some k) (sym (life_report n l (of_said life_said s n l is.0)).1)
 
-  -- and nothing else is
+  -- only the two nodes are live
   pub only_up_live : (n : NodeId) (inc : ℕ) → IsLive (meaning_of s).lives n inc → IsEither n × (1 ≡ inc)
   only_up_live n inc alive =
       let there : map.get (lives_of s) n ≡ Some (record { inc = inc; flag = IsUp }) = sym (ap (λ lives. map.get lives n) (lives-meaning s)) ∙ alive in
       let is : IsGreatest life_cmp (IsSaid life_said (pairs s) n) (Some (record { inc = inc; flag = IsUp })) = subst (IsGreatest life_cmp (IsSaid life_said (pairs s) n)) there (lives_are s n) in
-      let said = said_life n (record { inc = inc; flag = IsUp }) (of_said life_said s n (record { inc = inc; flag = IsUp }) is.0) in
+      let said = life_report n (record { inc = inc; flag = IsUp }) (of_said life_said s n (record { inc = inc; flag = IsUp }) is.0) in
       (said.0, ap (λ (l : Life). l.inc) said.1)
 
 -- ---- starts

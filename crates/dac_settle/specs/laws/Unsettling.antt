@@ -1,6 +1,6 @@
--- A takeover inside a tuple unsettles. The application a runs at the first of two nodes of a tuple, and no other
--- runs. Then b is claimed at the first node, where alone it may run. So fewer run at the second, and it is to take a
--- over.
+-- A takeover inside a tuple unsettles. Application a runs at the first of two nodes of a tuple, and nothing else runs.
+-- Then b is claimed at the first node, the only one where it can run. Now the second node runs fewer, so the rule makes
+-- it take over a.
 use Rattle.std.proofs.Common.{◌≡◌, ℕ, ◌<◌, Bool, true, false, cond, ◌&&◌, List, [], ◌∷◌, ◌++◌, length, Option, Some, None, option_map, refl, sym, ap, subst, ◌∙◌, arith, inl, inr}
 use Rattle.std.specs.Prelude.{nat_eq, nat_lt, IsSome, ◌==◌}
 use Rattle.std.specs.Option.{is_some, option_map_or}
@@ -54,7 +54,7 @@ none_some e = cc
 abbrev other_app : AppId
 other_app = record { 0 = 1 }
 
--- both nodes may run a, and the first alone may run b
+-- both nodes can run a, and only the first can run b
 abbrev two : Table
 two = record {
   nodes = (record { name = 97 ∷ []; mandatory = false; optional = false }) ∷ (record { name = 98 ∷ []; mandatory = false; optional = false }) ∷ [];
@@ -87,7 +87,7 @@ s = begun the_starts ++ claiming ∷ []
 abbrev known : StateValue
 known = meaning_of s
 
--- ---- before
+-- ---- before the claim of b
 
 adds : AddsClaims (begun the_starts) s
 adds = record {
@@ -177,7 +177,7 @@ a_left = if_left two known the_app (inr (
 
 -- ---- loads
 
--- b alone is counted for a
+-- only b counts as load for a
 load_is : (u : StateValue) (n : NodeId) → load_of two u the_app n ≡ cond (runs_at two u other_app n) 1 0
 load_is u n = by_test (runs_at two u other_app n)
   where
@@ -277,7 +277,7 @@ module _ (n : NodeId) (is : candidate_of (verdict_of two known other_app) ≡ So
   load_second : load_of two known_then the_app second_node ≡ 0
   load_second = load_is known_then second_node ∙ ap (λ b. cond b 1 0) b_not_at_second
 
-  -- the second node is first
+  -- the second node is the first choice
   second_first : (m : NodeId) → IsFirst two known_then the_app m → second_node ≡ m
   second_first m first = elim (nat_eq m.0 0) as (λ b. nat_eq m.0 0 ≡ b → second_node ≡ m) [
     | true ↦ λ at. absurd (not_zero (same_node at))
@@ -303,7 +303,7 @@ module _ (n : NodeId) (is : candidate_of (verdict_of two known other_app) ≡ So
       subst (λ j. is_lighter two known_then the_app m j ≡ true) first
       (subst (λ j. is_lighter two known_then the_app j first_node ≡ true) second (λ i. nat_lt (load_second i) (load_first i) && is_one_group (group_of two the_app second_node) (group_of two the_app first_node)))
 
-  -- so a is to be taken over
+  -- the rule takes over a
   some_is_none : {v : NodeId} {Y : Type 0} → ◌≡◌ {A = Option NodeId} (Some v) None → Y
   some_is_none e = cc
 

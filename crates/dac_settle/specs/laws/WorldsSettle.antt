@@ -1,4 +1,4 @@
--- Rounds of the model world are rounds of its members, so they settle all.
+-- Rounds of the model world are rounds of its members, so they settle all applications.
 use Rattle.std.proofs.Common.{◌≡◌, ℕ, ◌<◌, ◌≤◌, true, List, [], ◌∷◌, ◌++◌, length, Option, Some, None, Ok, zero, suc, refl, sym, subst, ◌∙◌, arith, inl, inr, length-append, le_refl}
 use Rattle.std.specs.Option.{is_some, option_map}
 use Rattle.dac_base.specs.declared.NodeId.{NodeId}
@@ -39,7 +39,7 @@ ticks_right : (n : NodeId) (es fs : List MemberEvent) → Ticks n fs → Ticks n
 ticks_right n [] fs h = h
 ticks_right n (f ∷ es) fs h = inr (ticks_right n es fs h)
 
--- copies are never taken away
+-- copies are never removed
 copies_more : (s : SetWorld) (n : NodeId) (what : What) (a : Answer) → length s.copies ≤ length (set_step s n what a).copies
 copies_more s n what (Ok (Shipped m)) = let all = length-append s.copies (copied_by (s.node n) n m) in omega arith
 copies_more s n what _ = le_refl (length s.copies)
@@ -97,7 +97,7 @@ module _ (t : Table) where
       same = round.same;
     }
 
-  -- events after events, with their answers
+  -- the world after two lists of events, one after the other
   after_both : (w : ModelWorld) (es fs : List WorldEvent) (answers more : List Answer) → AnsweredAs t w es answers → world_after t w (es ++ fs) (answers ++ more) ≡ world_after t (world_after t w es answers) fs more
   after_both w [] fs [] more answered = refl
   after_both w [] fs (a ∷ answers) more answered = absurd answered
@@ -110,7 +110,7 @@ module _ (t : Table) where
   sets_both w s (e ∷ es) fs [] more answered = absurd answered
   sets_both w s (e ∷ es) fs (a ∷ answers) more answered = sets_both (went t w e a) (set_step s e.node e.what a) es fs answers more answered.1
 
-  -- from one pair of worlds to another by so many rounds
+  -- this many rounds lead from one pair of worlds to another
   abbrev Reaches : ℕ → ModelWorld → SetWorld → ModelWorld → SetWorld → Type 0
   Reaches k w s final last = Rounds t k (members_of w s) (members_of final last) × Sound final last
 
@@ -126,7 +126,7 @@ module _ (t : Table) where
       subst (λ (p : List WorldEvent × List Answer). Reaches (suc k) w s (world_after t w p.0 p.1) (set_run s p.0 p.1)) (λ i. (sym r.4 i, sym r.5 i))
       (subst (λ (p : ModelWorld × SetWorld). Reaches (suc k) w s p.0 p.1) (λ i. (sym (after_both w r.0 r.1 r.2 r.3 r.6.answered) i, sym (sets_both w s r.0 r.1 r.2 r.3 r.6.answered) i)) whole)
 
--- ---- what shows as the program's world
+-- ---- the program's world
 
 pub set_there : (o : Option NodeSet) (state : StateValue) → option_map state_by o ≡ Some state → (set : NodeSet) × (o ≡ Some set) × (meaning_of set.operations ≡ state)
 set_there None state e = cc
@@ -139,11 +139,11 @@ run_there : (o : Option ModelRunning) (state : StateValue) → option_map state_
 run_there None state e = cc
 run_there (Some r) state e = (r, refl)
 
--- each state of it is that of a set
+-- each state of the program's world is that of a set
 pub held_shown : (t : Table) (final : ModelWorld) (last : SetWorld) (v : WorldValue) → Shows t final v → Sound final last → (n : ℕ) (state : StateValue) → RunsWith v n state → option_map state_by (last.node (numbered n)) ≡ Some state
 held_shown t final last v shows h n state runs = sym ((holds_sets t final v last shows h).each n runs.node runs.there) ∙ runs.state
 
--- where all rounds came to, each state of the program's world is settled
+-- after all rounds each state of the program's world is settled
 settled_there : (t : Table) (w final : ModelWorld) (s last : SetWorld) (v : WorldValue) → IsReadyWorld w s → Rounds t (app_count t) (members_of w s) (members_of final last) → Sound final last → Shows t final v
     → (n : ℕ) (state : StateValue) → RunsWith v n state → (app : AppId) → app.0 < app_count t → IsSettled (verdict_of t state app)
 settled_there t w final s last v ready rounds h shows n state runs app lt =

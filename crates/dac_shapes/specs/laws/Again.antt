@@ -1,4 +1,4 @@
--- What is in the grammar, with names that may stand where they stand, is read.
+-- Completeness of the parser: a text in the grammar that keeps the limits is read.
 use Rattle.std.proofs.Common.{◌≡◌, ℕ, ◌<◌, ◌≤◌, Bool, true, false, not, ◌&&◌, eqb, ltb, leb, List, [], ◌∷◌, ◌++◌, length, map, Option, None, Some, ◌≢◌, Result, Ok, refl, sym, ap, subst, ◌∙◌, append_assoc, arith, codes, inl, inr}
 use Rattle.std.proofs.lemmas.Bool.{le-ltb, lt-ltb, lt-leb, eq-eqb}
 use Rattle.dac_tokens.specs.declared.fault.ConfigFault.{ConfigFault}
@@ -29,7 +29,7 @@ short_name_again : (t : Located) (name : List ℕ) → t.word ≡ Name name → 
 unfolding short_name_of
 short_name_again t name e short = let long : ltb 255 (length name) ≡ false = le-ltb 255 (length name) short in rw (atom_again t.word t.at name e, long) refl
 
--- a test whose first part is false leaves the second to be false
+-- if a test's first part is false, its second must be false
 both_false : (a b : Bool) → (a ≡ false → b ≡ false) → (not a && b) ≡ false
 both_false true b f = refl
 both_false false b f = f refl
@@ -75,7 +75,7 @@ module _ (last : Result Located ConfigFault) where
   unfolding item_at
   tuple_again t f ts seen w e = rw (w, e) refl
 
-  -- tokens from a symbol on, up to the symbol that closes it: things parted by commas are between
+  -- tokens from a symbol to the one that closes it, with items separated by commas between them
   record Within (ts : List Located) (inner : List Word) (right : Word) : Type 0 where
     pub first : Located
     pub mid : List Located
@@ -247,7 +247,7 @@ module _ (last : Result Located ConfigFault) where
   unfolding param_name_of
   param_named_again before t name w once = rw (atom_again t.word t.at (spelled name) w, spelled_so name, once) refl
 
-  -- a name that no parameter that is read has
+  -- a name that differs from those of all parameters that are read
   unknown_so : (name : List ℕ) → ((known : ParamName) → name ≢ spelled known) → param_named name ≡ None
   unknown_so name other = by (param_named name) refl
     where

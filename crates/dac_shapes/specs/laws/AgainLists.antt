@@ -1,4 +1,4 @@
--- What is in the grammar is read: tokens, lists and pairs.
+-- Completeness of the parser for tokens, lists and pairs.
 use Rattle.std.proofs.Common.{◌≡◌, ℕ, zero, suc, ◌<◌, true, false, List, [], ◌∷◌, ◌++◌, length, map, Result, Ok, refl, sym, ap, subst, ◌∙◌, append_assoc, length-append, arith}
 use Rattle.dac_tokens.specs.declared.fault.ConfigFault.{ConfigFault}
 use Rattle.dac_tokens.specs.declared.token.Symbol.{Symbol}
@@ -14,7 +14,7 @@ words_of ts = map (λ t. t.word) ts
 pub cons_is : {A : Type 0} (x y : A) (xs ys : List A) → x ∷ xs ≡ y ∷ ys → (x ≡ y) × (xs ≡ ys)
 cons_is x y xs ys e = (cc, cc)
 
--- tokens whose words are in two parts are in two parts
+-- tokens whose words are two parts split into two parts
 pub record Split (ts : List Located) (a b : List Word) : Type 0 where
   pub front : List Located
   pub rest : List Located
@@ -30,7 +30,7 @@ split (t ∷ ts) (w ∷ a) b e =
     let s = split ts a b c.1 in
     record { front = t ∷ s.front; rest = s.rest; whole = ap (λ (l : List Located). t ∷ l) s.whole; first = ap (λ (v : Word). v ∷ words_of s.front) c.0 ∙ ap (λ (l : List Word). w ∷ l) s.first; second = s.second }
 
--- tokens of which the first is this word
+-- tokens whose first word is this one
 pub record Cut (ts : List Located) (w : Word) (a : List Word) : Type 0 where
   pub head : Located
   pub tail : List Located
@@ -46,7 +46,7 @@ pub none : (ts : List Located) → words_of ts ≡ [] → ts ≡ []
 none [] e = refl
 none (t ∷ ts) e = absurd cc
 
--- tokens of which the last is this word
+-- tokens whose last word is this one
 pub record Ended (ts : List Located) (a : List Word) (w : Word) : Type 0 where
   pub front : List Located
   pub end : Located
@@ -61,7 +61,7 @@ ended ts a w e =
     let only : s.rest ≡ c.head ∷ [] = c.whole ∙ ap (λ (l : List Located). c.head ∷ l) (none c.tail c.rest) in
     record { front = s.front; end = c.head; whole = s.whole ∙ ap (λ (l : List Located). s.front ++ l) only; first = s.first; is = c.is }
 
--- words that begin with no closing symbol
+-- words that don't begin with a closing symbol
 pub record Begins (ws : List Word) : Type 0 where
   pub head : Word
   pub tail : List Word
@@ -69,7 +69,7 @@ pub record Begins (ws : List Word) : Type 0 where
   pub no_list : is_symbol CloseList head ≡ false
   pub no_tuple : is_symbol CloseTuple head ≡ false
 
--- these tokens are left, and then the last
+-- these tokens remain, followed by the last one
 abbrev pub at : Result Located ConfigFault → List Located → Seen → State
 at last ts seen = record { left = record { tokens = ts; last = last }; seen = seen }
 
@@ -90,14 +90,14 @@ module _ {A : Type 0} (last : Result Located ConfigFault) (Is : List Word → A 
     (not_comma : is_symbol Comma (Punctuation close) ≡ false) (is_close : is_symbol close (Punctuation close) ≡ true)
     (begins : (ws : List Word) (x : A) → Is ws x → Begins ws)
     (again : (before : List A) (t : Located) (ts us : List Located) (seen : Seen) (x : A) → Is (words_of (t ∷ ts)) x → May before seen x → read before t (at last (ts ++ us) seen) ≡ Ok (x, at last us (step seen x))) where
-  -- one thing, and the closing symbol
+  -- one item, and the closing symbol
   last_again : (n : ℕ) (before : List A) (t : Located) (ts : List Located) (c : Located) (us : List Located) (seen : Seen) (x : A) → Is (words_of (t ∷ ts)) x → May before seen x → c.word ≡ Punctuation close
       → comma_list read close (suc n) before t (at last (ts ++ c ∷ us) seen) ≡ Ok (before ++ x ∷ [], at last us (step seen x))
   unfolding comma_list
   last_again n before t ts c us seen x is may e =
       rw (again before t ts (c ∷ us) seen x is may, more_close last close c us (step seen x) not_comma is_close e) refl
 
-  -- one thing, a comma and what is read from the token after it on
+  -- one item, a comma, and the items from the token after it
   more_again : (n : ℕ) (before : List A) (t : Located) (ts : List Located) (k t' : Located) (us : List Located) (seen : Seen) (x : A) → Is (words_of (t ∷ ts)) x → May before seen x → k.word ≡ Punctuation Comma
       → comma_list read close (suc n) before t (at last (ts ++ k ∷ t' ∷ us) seen) ≡ comma_list read close n (before ++ x ∷ []) t' (at last us (step seen x))
   unfolding comma_list
@@ -110,7 +110,7 @@ module _ {A : Type 0} (last : Result Located ConfigFault) (Is : List Word → A 
       let f = begins p.0 x p.3 in
       record { head = f.head; tail = f.tail ++ Punctuation Comma ∷ p.1; whole = p.2 ∙ ap (λ (l : List Word). l ++ Punctuation Comma ∷ p.1) f.whole; no_list = f.no_list; no_tuple = f.no_tuple }
 
-  -- what stands behind the first thing: a comma, a token and more
+  -- the tokens after the first item: a comma, a token and more
   record Behind (ts : List Located) (t : Located) (x : A) (y : A) (ys : List A) : Type 0 where
     pub front : List Located
     pub comma : Located
@@ -156,12 +156,11 @@ module _ {A : Type 0} (last : Result Located ConfigFault) (Is : List Word → A 
       ∙ list_again n (before ++ x ∷ []) b.next b.rest c us (step seen x) (y ∷ ys) shorter b.others may.1 e
       ∙ ap (λ (l : List A). Ok (l, at last us (steps step (step seen x) (y ∷ ys)))) (append_assoc before (x ∷ []) (y ∷ ys))
 
-  -- with all the room that there is
+  -- a list, within the bound of the remaining tokens
   pub whole_again : (t : Located) (ts : List Located) (c : Located) (us : List Located) (seen : Seen) (xs : List A) → Parted Is (words_of (t ∷ ts)) xs → AllMay step May [] seen xs → c.word ≡ Punctuation close
       → comma_list read close (room (at last (ts ++ c ∷ us) seen)) [] t (at last (ts ++ c ∷ us) seen) ≡ Ok (xs, at last us (steps step seen xs))
   whole_again t ts c us seen xs p may e = list_again (room (at last (ts ++ c ∷ us) seen)) [] t ts c us seen xs (omega (arith, length-append ts (c ∷ us))) p may e
 
--- tokens between two symbols
 pub record Inside (ts : List Located) (left : Word) (inner : List Word) (right : Word) : Type 0 where
   pub open_at : Located
   pub mid : List Located
@@ -223,7 +222,7 @@ module _ {K A : Type 0} (last : Result Located ConfigFault) (name_of : Located �
   unfolding pair_at
   pair_steps t n c vs us e0 e1 e2 is = rw (e0, named n e1, symbol_again last Comma c (vs ++ us) seen refl e2, is) refl
 
-  -- a name, and what stands behind its comma
+  -- a name, and the rest after its comma
   pub rest_again : (words : List Word) (t : Located) (ts us : List Located) → words_of (t ∷ ts) ≡ Punctuation OpenTuple ∷ Name name ∷ Punctuation Comma ∷ words → ((vs : List Located) → words_of vs ≡ words → rest k (at last (vs ++ us) seen) ≡ Ok (x, at last us after))
       → pair_at name_of rest t (at last (ts ++ us) seen) ≡ Ok (x, at last us after)
   rest_again words t ts us e rested =
@@ -233,7 +232,6 @@ module _ {K A : Type 0} (last : Result Located ConfigFault) (name_of : Located �
       let apart : ts ≡ n.head ∷ c.head ∷ c.tail = n.whole ∙ ap (λ (l : List Located). n.head ∷ l) c.whole in
       ap (λ (l : List Located). pair_at name_of rest t (at last (l ++ us) seen)) apart ∙ pair_steps t n.head c.head c.tail us b.0 n.is c.is (rested c.tail c.rest)
 
-  -- a name and a value
   pub pair_again : (value : State → Result (A × State) ConfigFault) (IsValue : List Word → Type 0) → ((s : State) → rest k s ≡ closed value s) → ((vs us : List Located) → IsValue (words_of vs) → value (at last (vs ++ us) seen) ≡ Ok (x, at last us after))
       → (t : Located) (ts us : List Located) → IsPair name IsValue (words_of (t ∷ ts)) → pair_at name_of rest t (at last (ts ++ us) seen) ≡ Ok (x, at last us after)
   pair_again value IsValue closes valued t ts us is =

@@ -1,4 +1,4 @@
--- A term is passed over.
+-- Completeness of the parser for terms: a term is skipped.
 use Rattle.std.proofs.Common.{◌≡◌, ℕ, zero, suc, ◌+◌, ◌<◌, ◌≤◌, true, false, List, [], ◌∷◌, ◌++◌, length, Result, Ok, refl, sym, ap, subst, ◌∙◌, append_assoc, arith}
 use Rattle.std.specs.Prelude.{All}
 use Rattle.std.proofs.lemmas.List.{length-append}
@@ -145,7 +145,7 @@ module _ (last : Result Located ConfigFault) where
   unfolding passed_at
   passed_by t c s us seen e v begun p = rw (begun, p, e) refl
 
-  -- a term is passed over, and the brace behind it
+  -- a term is skipped, and the brace after it
   pub passed_again : (inner : List Word) (vs us : List Located) (seen : Seen) → IsTerm inner → words_of vs ≡ inner ++ Punctuation CloseTuple ∷ [] → passed_at (at last (vs ++ us) seen) ≡ Ok (at last us seen)
   passed_again inner vs us seen is e =
       let c = ended vs inner (Punctuation CloseTuple) e in

@@ -1,4 +1,4 @@
--- Names that are read, and what a choice gave.
+-- Names that are read, and the branch that a condition selects.
 use Rattle.std.proofs.Common.{◌≡◌, ℕ, Bool, true, false, cond, List, [], ◌∷◌, Option, Some, None, refl, sym, ap, ◌∙◌, inl, inr, codes}
 use Rattle.std.specs.Prelude.{◌⊎◌}
 use Rattle.std.specs.Str.{bytes_eq}
@@ -16,12 +16,12 @@ chosen false x y z h = inr (refl, h)
 pub is_named : (name wanted : List ℕ) → bytes_eq name wanted ≡ true → name ≡ wanted
 is_named name wanted e = same_text name wanted (sym e)
 
--- permissions leave the nodes as they are
+-- permissions leave the nodes unchanged
 pub same_seen : (seen : Seen) (permissions : List Permission) → steps with_permission seen permissions ≡ seen
 same_seen seen [] = refl
 same_seen seen (x ∷ xs) = same_seen seen xs
 
--- a known parameter has the name that stands there
+-- a parameter that is read has the name in the token
 pub param_is : (name : List ℕ) (p : ParamName) → param_named name ≡ Some p → name ≡ spelled p
 param_is name p e =
     elim (chosen (bytes_eq name (codes "distributed")) (Some named.Distributed) _ (Some p) e) [

@@ -1,4 +1,4 @@
--- What is read from the first token of a term on.
+-- The result of `term_by` for each kind of first token.
 use Rattle.std.proofs.Common.{◌≡◌, ℕ, Bool, List, None, Some, Result, refl}
 use Rattle.dac_tokens.specs.declared.fault.ConfigFault.{ConfigFault}
 use Rattle.dac_tokens.specs.declared.fault.FaultKind.TheVariants.{BadShape}

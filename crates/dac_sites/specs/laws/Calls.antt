@@ -1,4 +1,4 @@
--- The calls of a seat, as the records come.
+-- The calls of a seat, record by record.
 use Rattle.std.proofs.Common.{◌≡◌, ◌≢◌, ℕ, suc, ◌+◌, ◌<◌, ◌≤◌, List, [], ◌∷◌, ◌++◌, length, take, drop, get_or, min, Bool, true, false, refl, sym, ap, ◌∙◌, inl, inr, arith, append-nil, subst, drop-cons, take_all}
 use Rattle.std.specs.Prelude.{◌==◌, if◌then◌else◌}
 use Rattle.std.proofs.lemmas.List.{take-append-drop, take_more, length-take-le}
@@ -23,11 +23,11 @@ cond_true b c us e = ap (λ t. if t then c ∷ us else us) e
 cond_false : (b : Bool) (c : Call) (us : List Call) → b ≡ false → (if b then c ∷ us else us) ≡ us
 cond_false b c us e = ap (λ t. if t then c ∷ us else us) e
 
--- a record of the seat is one call more
+-- a record of the seat adds one call
 pub calls_of-mine : (s : ℕ) (xs : List Record) (r : Record) → r.seat ≡ s → calls_of s (xs ++ r ∷ []) ≡ calls_of s xs ++ call_of (length xs + 1) r.event r.answer ∷ []
 calls_of-mine s xs r e = let t : (r.seat == s) ≡ true = grind arith in calls_from-append s 1 xs (r ∷ []) ∙ ap (λ l. calls_of s xs ++ l) (cond_true (r.seat == s) (call_of (length xs + 1) r.event r.answer) [] t)
 
--- another's record changes nothing
+-- a record of another seat adds none
 pub calls_of-other : (s : ℕ) (xs : List Record) (r : Record) → r.seat ≢ s → calls_of s (xs ++ r ∷ []) ≡ calls_of s xs
 calls_of-other s xs r e = let t : (r.seat == s) ≡ false = grind arith in calls_from-append s 1 xs (r ∷ []) ∙ ap (λ l. calls_of s xs ++ l) (cond_false (r.seat == s) (call_of (length xs + 1) r.event r.answer) [] t) ∙ append-nil (calls_of s xs)
 
@@ -38,7 +38,7 @@ front p (c ∷ cs) xs ys d = inl (refl, front p cs xs ys d)
 differ_as : (p : ℕ) (common xs ys us vs : List Call) → us ≡ common ++ xs → vs ≡ common ++ ys → DifferAt p xs ys → DifferAt p us vs
 differ_as p common xs ys us vs e f d = rw (e, f) (front p common xs ys d)
 
--- the seat's records, at its next one
+-- the calls of a seat, at a record of this seat
 at_mine : (s i : ℕ) (rs : List Record) (d : Record) → i < length rs → (get_or rs i d).seat ≡ s
     → calls_of s rs ≡ calls_of s (take i rs) ++ call_of (i + 1) (get_or rs i d).event (get_or rs i d).answer ∷ calls_from s (suc (i + 1)) (drop (suc i) rs)
 at_mine s i rs d within mine =
@@ -87,7 +87,7 @@ one_other s i next rs cs d within apart same = ap (λ l. calls_of s l) (take_mor
 pub all_same : (s i : ℕ) (rs : List Record) (ts : List Call) → length rs ≤ i → calls_of s (take i rs) ≡ ts → calls_of s rs ≡ ts
 all_same s i rs ts all same = ap (λ l. calls_of s l) (sym (take_all i rs all)) ∙ same
 
--- ---- the same of a record and a call that stand there
+-- ---- comparing a record with a call
 seat_there : (s i : ℕ) (rs : List Record) (r : Record) → r ≡ get_or rs i r → r.seat ≡ s → (get_or rs i r).seat ≡ s
 seat_there s i rs r at mine = ap (λ (y : Record). y.seat) (sym at) ∙ mine
 

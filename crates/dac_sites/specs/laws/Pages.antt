@@ -18,7 +18,7 @@ brought_is : (t : Table) (me : NodeId) (d final : ModelNode) (rs : List Record) 
 brought_is t me d final [] h = h
 brought_is t me d final (r ∷ rs) h = brought_is t me (model_step t me d r.event).node final rs h.1
 
--- a history comes to one node alone
+-- a history leads to only one node
 pub ends_after : (o : Beginning) (rs : List Record) (v : NodeValue) → EndsAt o rs v → shown o.table (node_after o rs) ≡ v
 ends_after o rs v ends = ap (shown o.table) (sym (brought_is o.table o.node (off_after o.last) ends.final rs ends.history)) ∙ ends.shows
 
@@ -35,7 +35,7 @@ last_answer : (t : Table) (me : NodeId) (d final : ModelNode) (rs : List Record)
 last_answer t me d final [] r h = h.0
 last_answer t me d final (x ∷ rs) r h = last_answer t me (model_step t me d x.event).node final rs r h.1
 
--- where its answer leaves the state, the page is the one before, but for its place
+-- if the last result leaves the state, the page differs from the one before only in its place
 pub page_stays : (o : Beginning) (rs : List Record) (r : Record) (v : NodeValue) → EndsAt o (rs ++ r ∷ []) v → leaves_state r.answer ≡ true
     → ◌≡◌ {A = Page} (record { place = length rs + 1; origin = (page_after o rs).origin; summary = (page_after o rs).summary }) (page_after o (rs ++ r ∷ []))
 page_stays o rs r v ends leaves =

@@ -15,7 +15,7 @@ use Rattle.dac_origins.specs.laws.InOrder.{less}
 use Rattle.dac_lattice.specs.laws.EntryLaws.{first, second, less as below}
 use Rattle.dac_store.specs.Appending.{is_above_entries, is_above_keys}
 
--- ---- what is last decides
+-- ---- the last element decides
 
 implied : (a b : Bool) → (b ≡ true → a ≡ true) → (a && b) ≡ b
 implied true b f = refl
@@ -30,7 +30,7 @@ some_at [] i p e = absurd (omega arith)
 some_at (x ∷ xs) zero p e = nothing e
 some_at (x ∷ xs) (suc i) p e = some_at xs i (omega arith) e
 
--- where there is no last one, each passes
+-- if there is no last element, all elements pass
 pub all_without_last : {X : Type 0} (p : X → Bool) (xs : List X) → None ≡ slice_get xs (length xs - 1) → true ≡ list_all p xs
 all_without_last p [] e = refl
 all_without_last p (x ∷ xs) e = absurd (some_at (x ∷ xs) (length (x ∷ xs) - 1) (omega arith) e)
@@ -45,7 +45,7 @@ module _ {K : Type 0} {R : K → K → Ordering} (o : IsTotalOrder R) where
   below_at x (k ∷ ks) zero y h e = ap (λ z. is_lt (R x (unwrap_or z x))) (sym e) ∙ (and_parts _ _ h).0
   below_at x (k ∷ ks) (suc i) y h e = below_at x ks i y (and_parts _ _ h).1 e
 
-  -- a key is above a list that rises exactly if it is above the last one
+  -- a key is above a sorted list exactly if it is above the last element
   pub above_last_key : (ks : List K) (i : ℕ) (last k : K) → IsRising R ks → length ks ≤ i + 1 → slice_get ks i ≡ Some last → is_above_keys R ks k ≡ is_lt (R last k)
   above_last_key [] i last k h p e = absurd (nothing e)
   above_last_key (x ∷ []) zero last k h p e = and-true _ ∙ ap (λ z. is_lt (R (unwrap_or z x) k)) e
@@ -59,7 +59,7 @@ module _ {K : Type 0} {R : K → K → Ordering} (o : IsTotalOrder R) where
   rising_below x [] k h e = and_from _ _ e refl
   rising_below x (y ∷ ks) k h e = and_from _ _ (and_parts _ _ h).0 (rising_below x ks k (and_parts _ _ h).1 e)
 
-  -- what is above all of them keeps a list rising
+  -- appending a key above all others leaves the list sorted
   pub rising_appended : (ks : List K) (k : K) → IsRising R ks → is_above_keys R ks k ≡ true → IsRising R (ks ++ k ∷ [])
   rising_appended [] k h a = refl
   rising_appended (x ∷ ks) k h a = and_from _ _ (rising_below x ks k (and_parts _ _ h).0 (and_parts _ _ a).0) (rising_appended ks k (and_parts _ _ h).1 (and_parts _ _ a).1)
@@ -78,7 +78,7 @@ module _ {K X : Type 0} {R : K → K → Ordering} (o : IsTotalOrder R) where
       (ap is_lt (o.trans x.0 y.0 k (less _ (below_later x.0 xs ys y (first _ _ h))) (less _ (and_parts _ _ a).0)))
       (above_before xs (y ∷ ys) k (second _ _ h) p a)
 
-  -- a key is above entries in order exactly if it is above the last one
+  -- a key is above entries in key order exactly if it is above the last one
   pub above_last_entry : (es : List (K × X)) (k : K) → T (is_sorted R es) → is_above_entries R (drop (length es - 1) es) k ≡ is_above_entries R es k
   above_last_entry [] k h = refl
   above_last_entry (x ∷ xs) k h =
@@ -94,12 +94,12 @@ module _ {K X : Type 0} {R : K → K → Ordering} (o : IsTotalOrder R) where
   sorted_below x [] e h t = both _ _ (subst T (sym t) tt) tt
   sorted_below x (y ∷ es) e h t = both _ _ (first _ _ h) (sorted_below x es e (second _ _ h) t)
 
-  -- what is above all of them keeps entries in order
+  -- appending an entry above all others leaves the entries in order
   pub sorted_appended : (es : List (K × X)) (e : K × X) → T (is_sorted R es) → is_above_entries R es e.0 ≡ true → T (is_sorted R (es ++ e ∷ []))
   sorted_appended [] e h a = tt
   sorted_appended (x ∷ es) e h a = both _ _ (sorted_below x.0 es e (first _ _ h) (and_parts _ _ a).0) (sorted_appended es e (second _ _ h) (and_parts _ _ a).1)
 
-  -- what holds of what is at a key, and of a new value, holds of what is there with the new value
+  -- a property of the value at a key, and of a new value, holds after the new value is appended
   pub find_appended : (P : Option X → Type 0) (es : List (K × X)) (e : K × X) (q : K) → P (find R q es) → P (Some e.1) → P (find R q (es ++ e ∷ []))
   find_appended P [] e q none here = elim (eq_by_cmp R q e.0) as (λ t. P (cond t (Some e.1) None)) [ true ↦ here | false ↦ none ]
   find_appended P (x ∷ es) e q at here = elim (eq_by_cmp R q x.0) as (λ t. P (cond t (Some x.1) (find R q es)) → P (cond t (Some x.1) (find R q (es ++ e ∷ [])))) [

@@ -6,7 +6,7 @@ use Rattle.dac_lattice.specs.Lattices.{IsLattice, IsOptionOf}
 use Rattle.dac_lattice.specs.laws.Joins.{join_idem}
 use Rattle.dac_store.specs.AtDot.{StandsBelow, Under, join_at}
 
--- beside nothing a value stays where the other side hasn't heard of its dot
+-- a value on one side alone stays if the other's context lacks its dot
 pub at_alone : {V : Type 0} (join : V → V → V) (c d : Bool) (v : Option V) → (is_some v ≡ true → d ≡ false) → join_at join c d v None ≡ v
 at_alone join c d None h = refl
 at_alone join c true (Some v) h = absurd (false≢true (sym (h refl)))
@@ -17,19 +17,19 @@ at_alone_right join c d None h = refl
 at_alone_right join c true (Some v) h = absurd (false≢true (sym (h refl)))
 at_alone_right join c false (Some v) h = refl
 
--- where a dot hasn't been heard of, nothing is asked of the value there
+-- if the context lacks the dot, the order requires nothing of the value there
 pub at_unheard : {V : Type 0} (below : V → V → Type 0) (c : Bool) (v w : Option V) → (is_some w ≡ true → c ≡ false) → c ≡ true → StandsBelow below v w
 at_unheard below c v None h e = tt
 at_unheard below c v (Some w) h e = absurd (false≢true (sym (h refl) ∙ e))
 
--- ---- the laws of a store, at one dot
+-- ---- the laws of a dot store, at one dot
 
 module _ {V : Type 0} {is_value : V → Type 0} {below : V → V → Type 0} {join : V → V → V} (laws : IsLattice is_value below join) where
   pub at_refl : (v : Option V) → IsOptionOf is_value v → StandsBelow below v v
   at_refl None u = tt
   at_refl (Some v) u = laws.refl v u
 
-  -- joined with itself a value stays
+  -- the join of a value with itself is that value
   pub at_again : (c d : Bool) (v : Option V) → IsOptionOf is_value v → join_at join c d v v ≡ v
   at_again c d None u = refl
   at_again c d (Some v) u = ap (λ x. Some x) (join_idem laws v u)

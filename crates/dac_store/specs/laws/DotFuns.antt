@@ -33,7 +33,7 @@ module _ {V : Type 0} {is_value : V → Type 0} {below : V → V → Type 0} {jo
   under : (s : List (Dot × V)) (c : Dots) → IsFunWithin s c → (x : Dot) → Under is_value (set.contains c x) (find dot_cmp x s)
   under s c u x = (u.store.values x, u.held x)
 
-  -- what a join has at a dot
+  -- the value of a join at a dot
   pub find_join : (s : List (Dot × V)) (c : Dots) (t : List (Dot × V)) (d : Dots) → IsMap dot_cmp is_value s → IsMap dot_cmp is_value t → (x : Dot)
       → find dot_cmp x (join_funs join s c t d) ≡ join_at join (set.contains c x) (set.contains d x) (find dot_cmp x s) (find dot_cmp x t)
   find_join s c t d u v x = find_merge dots_total exact_dots (λ x. join_at join (set.contains c x) (set.contains d x)) (λ _. refl) x s t u.in_order v.in_order

@@ -43,7 +43,7 @@ module _ {K : Type 0} {R : K → K → Ordering} (o : IsTotalOrder R) (exact : C
     | false ↦ λ e. (u, e)
   ] refl
 
-  -- a dot at a key is a dot of the map
+  -- a dot in the store at a key is in the map
   has_found : (m : List (K × S)) (k : K) (x : Dot) → has (store_at nothing (find R k m)) x ≡ true → has_in has m x ≡ true
   has_found [] k x e = absurd (false≢true (sym (laws.empty_has x) ∙ e))
   has_found (f ∷ m) k x e = elim (eq_by_cmp R k f.0) as (λ t. has (store_at nothing (cond t (Some f.1) (find R k m))) x ≡ true → (has f.1 x || has_in has m x) ≡ true) [
@@ -54,7 +54,7 @@ module _ {K : Type 0} {R : K → K → Ordering} (o : IsTotalOrder R) (exact : C
   find_first : (f : K × S) (m : List (K × S)) → find R f.0 (f ∷ m) ≡ Some f.1
   find_first f m = ap (λ r. cond (is_eq r) (Some f.1) (find R f.0 m)) (tied_itself o f.0)
 
-  -- a dot of the map is a dot at a key
+  -- a dot of the map is in the store at some key
   found_has : (m : List (K × S)) (x : Dot) → T (is_sorted R m) → has_in has m x ≡ true → (k : K) × (has (store_at nothing (find R k m)) x ≡ true)
   found_has [] x h e = absurd (false≢true e)
   found_has (f ∷ m) x h e = elim (or_cases _ _ e) [
@@ -78,7 +78,7 @@ module _ {K : Type 0} {R : K → K → Ordering} (o : IsTotalOrder R) (exact : C
   within_at : (m : List (K × S)) (c : Dots) → IsKeyedWithin m c → (k : K) → IsStoreWithin is_store has (store_at nothing (find R k m)) c
   within_at m c u k = record { store = at_store _ (u.store.stores k); held = λ x e. u.held x (has_found m k x e) }
 
-  -- what is at a key of a join, before it is dropped where it has no dots
+  -- the joined store at a key, before it is dropped if it has no dots
   abbrev joined_at : List (K × S) → Dots → List (K × S) → Dots → K → S
   joined_at m c t d k = join (store_at nothing (find R k m)) c (store_at nothing (find R k t)) d
 

@@ -11,14 +11,14 @@ use Rattle.dac_store.specs.Stores.{IsDotStore}
 use Rattle.dac_store.specs.laws.Stores.{both_ways}
 use Rattle.dac_store.specs.DotSets.{IsSetBelow, is_empty_set, join_sets, may_stay}
 
--- what the join has
+-- the dots of a join
 pub contains_join : (s c t d : Dots) (x : Dot) → set.contains (join_sets s c t d) x ≡ ((set.contains s x && may_stay t d x) || (set.contains t x && may_stay s c x))
 unfolding join_sets
 contains_join s c t d x =
     set.contains-union dots_total (set.retain s (may_stay t d)) (set.retain t (may_stay s c)) x
     ∙ (λ i. set.contains-retain s (may_stay t d) x (λ y e. ap (may_stay t d) (sym (exact_dots x y e))) i || set.contains-retain t (may_stay s c) x (λ y e. ap (may_stay s c) (sym (exact_dots x y e))) i)
 
--- the sides may be swapped
+-- the join is commutative
 pub join_turned : (s c t d : Dots) → join_sets s c t d ≡ join_sets t d s c
 join_turned s c t d = set.same_set dots_total exact_dots _ _ (λ x.
     contains_join s c t d x ∙ or_turned (set.contains s x && may_stay t d x) (set.contains t x && may_stay s c x) ∙ sym (contains_join t d s c x))
@@ -29,9 +29,9 @@ join_turned s c t d = set.same_set dots_total exact_dots _ _ (λ x.
     or_turned false true = refl
     or_turned false false = refl
 
--- ---- tests of one dot: s, t that a side holds it, c, d that the side has heard of it
+-- ---- tests of one dot: s, t: the side's set has it; c, d: the side's context has it
 
--- a dot that may stay, and was heard of, is held
+-- a dot that stays, and is in the context, is in the set
 pub held_if_stays : (s c : Bool) → (s || not c) ≡ true → c ≡ true → s ≡ true
 held_if_stays true c h e = refl
 held_if_stays false true h e = h
@@ -42,12 +42,12 @@ stays_if_held true c h = refl
 stays_if_held false true h = h refl
 stays_if_held false false h = refl
 
--- a dot of a join is held on a side
+-- a dot of a join is on one of both sides
 pub from_either : (s t a b : Bool) → ((s && a) || (t && b)) ≡ true → (s || t) ≡ true
 from_either true t a b h = refl
 from_either false t a b h = (and_parts t b h).0
 
--- a dot of a join that the left has heard of is held on the left
+-- a dot of a join that the left context has is in the left set
 pub held_left : (s c t d : Bool) → ((s && (t || not d)) || (t && (s || not c))) ≡ true → c ≡ true → s ≡ true
 held_left true c t d h e = refl
 held_left false c false d h e = absurd (false≢true h)
@@ -60,7 +60,7 @@ held_right false c false d h e = absurd (false≢true h)
 held_right true c false true h e = absurd (false≢true h)
 held_right true c false false h e = absurd (false≢true e)
 
--- a dot that each side holds if it has heard of it, and that one has heard of, stays
+-- a dot stays if it is in each set whose context has it, and in one context
 pub held_joined : (s c t d : Bool) → (c ≡ true → s ≡ true) → (d ≡ true → t ≡ true) → (c || d) ≡ true → ((s && (t || not d)) || (t && (s || not c))) ≡ true
 held_joined true c true d f g h = refl
 held_joined true c false true f g h = absurd (false≢true (g refl))
@@ -70,7 +70,7 @@ held_joined false false true d f g h = refl
 held_joined false false false true f g h = absurd (false≢true (g refl))
 held_joined false false false false f g h = absurd (false≢true h)
 
--- a dot stays beside a side that holds none and hasn't heard of it
+-- a dot stays in a join with a side that has it neither in its set nor in its context
 stays_alone : (s c t d : Bool) → t ≡ false → (s ≡ true → d ≡ false) → ((s && (t || not d)) || (t && (s || not c))) ≡ s
 stays_alone s c true d e f = absurd (false≢true (sym e))
 stays_alone true c false true e f = absurd (false≢true (sym (f refl)))
@@ -86,7 +86,7 @@ set_alone : (s c d : Dots) → ((x : Dot) → set.contains s x ≡ true → set.
 set_alone s c d h = set.same_set dots_total exact_dots (join_sets s c set.empty d) s (λ x.
     contains_join s c set.empty d x ∙ stays_alone (set.contains s x) (set.contains c x) (set.contains set.empty x) (set.contains d x) (set.contains-empty dot_cmp x) (h x))
 
--- a set joined with itself stays
+-- the join of a set with itself is that set
 pub join_same : (s c d : Dots) → join_sets s c s d ≡ s
 join_same s c d = set.same_set dots_total exact_dots (join_sets s c s d) s (λ x. contains_join s c s d x ∙ stays_same (set.contains s x) (not (set.contains d x)) (not (set.contains c x)))
   where

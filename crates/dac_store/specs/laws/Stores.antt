@@ -21,7 +21,7 @@ subset_union c d e p q x h = elim (or_cases (set.contains c x) (set.contains d x
 pub subset_empty : (c : Dots) → IsSubset set.empty c
 subset_empty c x e = absurd (false≢true (sym (set.contains-empty dot_cmp x) ∙ e))
 
--- two tests that bring each other are one
+-- two tests that imply each other are equal
 pub both_ways : (a b : Bool) → (a ≡ true → b ≡ true) → (b ≡ true → a ≡ true) → a ≡ b
 both_ways true b f g = sym (f refl)
 both_ways false true f g = g refl

@@ -1,4 +1,4 @@
--- A second tick at the same moment claims nothing, and passes no application that the first didn't pass.
+-- A second tick at the same moment claims nothing, and passes over only applications that the first did.
 use Rattle.std.proofs.Common.{◌≡◌, ◌⊎◌, ℕ, ◌+◌, ◌-◌, ◌<◌, ◌≤◌, Bool, true, false, not, cond, ◌&&◌, ◌||◌, List, [], ◌∷◌, ◌++◌, Option, None, Some, length, refl, sym, ap, ap₂, subst, ◌∙◌, arith, zero, suc, add-one, inl, inr, true≢false}
 use Rattle.std.specs.Prelude.{◌==◌, nat_lt, is_some, MatchOption, filter, option_map}
 use Rattle.std.specs.Option.{option_map_or, option_and_then}
@@ -34,9 +34,9 @@ use Rattle.dac_decide.specs.laws.Lost.{same_to, same_itself}
 use Rattle.dac_decide.specs.laws.Kept.{kept_is}
 use Rattle.dac_commands.specs.Commands.{next_operation}
 use Rattle.dac_commands.specs.Causes.{terms_used_up}
-use Rattle.dac_ticks.specs.Ticks.{Turn, turn_from, claim_of, is_mine, turn_over}
+use Rattle.dac_ticks.specs.Ticks.{Sweep, sweep_from, claim_of, is_mine, sweep_over}
 use Rattle.dac_ticks.specs.Again.{IsAmong, noting, SecondTickClaimsNothing}
-use Rattle.dac_ticks.specs.laws.Turning.{numbered, apps_from, turned_by, turn_more}
+use Rattle.dac_ticks.specs.laws.Sweeping.{numbered, apps_from, swept_by, sweep_more}
 use Rattle.dac_ticks.specs.laws.Words.{is_own, own_if}
 use Rattle.dac_ticks.specs.laws.Claimed.{MayRunAlike, alike_itself, alike_through, alike_back, claim_alike, claim_state, other_claim, own_claim, claimed_as}
 
@@ -67,9 +67,9 @@ fewer p q within (x ∷ xs) = by_tests (p x) (q x) (within x) (filter p xs) (fil
     by_tests false true h ys zs le = omega arith
     by_tests false false h ys zs le = le
 
--- ---- states that differ in claims alone
+-- ---- states that differ only in claims
 
--- a state of these places and claims
+-- a state with these parts
 abbrev places : Lives → Permits → Writes → Drains → Claims → StateValue
 places lives permits starts drains claims = record { heard = set.empty; known = set.empty; permits = permits; starts = starts; lives = lives; claims = claims; drains = drains }
 
@@ -104,10 +104,10 @@ module _ (t : Table) (s u : StateValue) (a : MayRunAlike s u) (app : AppId) wher
     due_alike noted now (Kept n) = refl
     due_alike noted now Nobody = refl
 
--- ---- who holds what it has claimed
+-- ---- the holder of an application that it claimed
 
 module _ (t : Table) (own : Origin) where
-  -- the incarnation holds the application, its node may run it, and no eligible node is of an earlier group
+  -- the incarnation holds the application, its node is eligible, and no eligible node is in an earlier group
   pub record Takes (s : StateValue) (app : AppId) : Type 0 where
     pub holder : holder_of s app ≡ Some own
     pub eligible : IsEligible t s app own.node
@@ -136,7 +136,7 @@ module _ (t : Table) (own : Origin) where
     holder_is : (o : Origin) → holder_of s app ≡ Some o → own ≡ o
     holder_is o is = one_origin (sym takes.holder ∙ is)
 
-    -- it is left there
+    -- the application stays there
     kept_by : (verdict : Verdict) → IsVerdict t s app verdict → candidate_of verdict ≡ None
     kept_by (Start n) is = absurd (false≢true (ap is_some (sym is.0 ∙ takes.holder)))
     kept_by (Failover n) is = absurd (is.0.2 (subst (IsUp s) (holder_is is.0.0 is.0.1) up))
@@ -149,17 +149,17 @@ module _ (t : Table) (own : Origin) where
     pub takes_kept : candidate_of (verdict_of t s app) ≡ None
     takes_kept = kept_by (verdict_of t s app) (verdict_in_words t s app)
 
-    -- and runs there
+    -- the application runs there
     pub takes_runs : runs_at t s app own.node ≡ true
     takes_runs = (runs_is t s app own.node).1 (record { inc = own.inc; holder = takes.holder; up = up; eligible = takes.eligible })
 
-    -- and nowhere else
+    -- the application runs nowhere else
     takes_alone : (n : NodeId) → runs_at t s app n ≡ true → own.node.0 ≡ n.0
     takes_alone n e =
         let held = (and_parts _ _ e).0 in
         eqb-true own.node.0 n.0 (and_parts (own.node.0 == n.0) (is_up s own) (sym (ap (λ h. option_map_or (λ (o : Origin). (o.node.0 == n.0) && is_up s o) h false) takes.holder) ∙ held)).0
 
-  -- who is to claim an application is its first choice
+  -- a candidate is the first choice
   no_candidate : {X : Type 0} → ◌≡◌ {A = Option NodeId} None (Some own.node) → X
   no_candidate e = absurd (false≢true (ap is_some e))
 
@@ -175,9 +175,9 @@ module _ (t : Table) (own : Origin) where
   first_of s app (Kept n) is e = no_candidate e
   first_of s app Nobody is e = no_candidate e
 
-  -- ---- a state and some of the incarnation's claims
+  -- ---- a state, and the state after some of the incarnation's claims
 
-  -- u is s with claims of the incarnation, of applications from lo on and below hi, which it holds
+  -- u is s with claims of the incarnation, which it holds, of applications with numbers from lo below hi
   pub record Later (lo hi : ℕ) (s u : StateValue) : Type 0 where
     pub alike : MayRunAlike s u
     pub claims : (b : AppId) → (map.get s.claims b ≡ map.get u.claims b) ⊎ ((lo ≤ b.0) × ((b.0 < hi) × Takes u b))
@@ -191,7 +191,7 @@ module _ (t : Table) (own : Origin) where
       wider : (a n : ℕ) → a < n → a < n + 1
       wider a n h = omega arith
 
-  -- what a claim of the incarnation leaves
+  -- the state after a claim of the incarnation
   abbrev pub after : StateValue → AppId → StateValue
   after u app = join u (meaning_of (claim_of t own u app ∷ []))
 
@@ -211,7 +211,7 @@ module _ (t : Table) (own : Origin) where
     after_holder : holder_of (after u app) app ≡ Some own
     after_holder = let by = claimed_as u app (verdict_of t u app) in subst (λ act. holder_of (after_act act) app ≡ Some own) (sym by.2) (ap (option_map (λ (claim : Claim). claim.origin)) (own_claim own u app by.0 by.1))
 
-    -- whom the verdict named takes it
+    -- the verdict's candidate holds the application after its claim
     pub after_takes : candidate_of (verdict_of t u app) ≡ Some own.node → Takes (after u app) app
     after_takes e =
         let first = first_of u app (verdict_of t u app) (verdict_in_words t u app) e in
@@ -258,7 +258,7 @@ module _ (t : Table) (own : Origin) where
           | inr taken ↦ absurd (ne (takes_alone u up other taken.1.1 m e))
         ]
 
-    -- and the own doesn't fall
+    -- this node's load doesn't fall
     load_own : load_of t s app own.node ≤ load_of t u app own.node
     load_own = fewer (λ other. not (other.0 == app.0) && runs_at t s other own.node) (λ other. not (other.0 == app.0) && runs_at t u other own.node)
         (λ other h. let both = and_parts _ _ h in and_from _ _ both.0 (runs other both.1)) (apps_of t)
@@ -269,7 +269,7 @@ module _ (t : Table) (own : Origin) where
           | inr taken ↦ takes_runs u up other taken.1.1
         ]
 
-    -- so where the own node is the first choice later, it was before
+    -- so if this node is the first choice later, it was before
     was_first : IsFirst t u app own.node → first_choice t s app ≡ Some own.node
     was_first first = by_first (first_choice t s app) (first_is t s app)
       where
@@ -301,7 +301,7 @@ module _ (t : Table) (own : Origin) where
         by_first None none = absurd (none own.node first.node (back own.node first.eligible))
         by_first (Some f) before = ap (λ n. Some n) (same_first f before)
 
--- ---- what is noted
+-- ---- notes
 
 module _ (now : ℕ) where
   since_same : (before : Option Noted) (claim : Claim) → (since_of before now claim).claim ≡ claim
@@ -311,7 +311,7 @@ module _ (now : ℕ) where
     | false ↦ λ e. refl
   ] refl
 
-  -- noting once more changes nothing
+  -- a second note changes nothing
   noted_again : (before : Option Noted) (lost : Option Claim) → noted_next (noted_next before lost now) lost now ≡ noted_next before lost now
   noted_again before None = refl
   noted_again before (Some claim) =
@@ -324,15 +324,15 @@ module _ (t : Table) (own : Origin) (notes : List Note) (now : ℕ) (s : StateVa
   abbrev waits : List (Option Noted)
   waits = waits_of t (noting s now notes)
 
-  -- the turn of the first n applications
-  abbrev first_n : ℕ → Turn
-  first_n n = turn_over t own waits now (turn_from s) (apps_from 0 n)
+  -- the sweep of the first n applications
+  abbrev first_n : ℕ → Sweep
+  first_n n = sweep_over t own waits now (sweep_from s) (apps_from 0 n)
 
   kept_state : (n : ℕ) → IsState (first_n n).state
   kept_state zero = is
   kept_state (suc n) = subst (λ m. IsState (first_n m).state) (add-one n)
-      (subst (λ (turn : Turn). IsState turn.state) (sym (turn_more t own waits now (turn_from s) n))
-      (turned_by t own waits now (λ turn. IsState turn.state) (first_n n) (numbered n) (λ none. kept_state n) (λ mine used. kept_state n)
+      (subst (λ (sweep : Sweep). IsState sweep.state) (sym (sweep_more t own waits now (sweep_from s) n))
+      (swept_by t own waits now (λ sweep. IsState sweep.state) (first_n n) (numbered n) (λ none. kept_state n) (λ mine used. kept_state n)
       (λ mine left. after_state t own (first_n n).state (kept_state n) (numbered n))))
 
   to_candidate : (w : List (Option Noted)) (u : StateValue) (app : AppId) → is_mine t own w now u app ≡ true → candidate_of (verdict_of t u app) ≡ Some own.node
@@ -343,8 +343,8 @@ module _ (t : Table) (own : Origin) (notes : List Note) (now : ℕ) (s : StateVa
 
   later_more : (lo n : ℕ) → lo ≤ n → IsLater lo n → IsLater lo (n + 1)
   later_more lo n le l =
-      subst (λ (turn : Turn). Later t own lo (n + 1) (first_n lo).state turn.state) (sym (turn_more t own waits now (turn_from s) n))
-      (turned_by t own waits now (λ turn. Later t own lo (n + 1) (first_n lo).state turn.state) (first_n n) (numbered n)
+      subst (λ (sweep : Sweep). Later t own lo (n + 1) (first_n lo).state sweep.state) (sym (sweep_more t own waits now (sweep_from s) n))
+      (swept_by t own waits now (λ sweep. Later t own lo (n + 1) (first_n lo).state sweep.state) (first_n n) (numbered n)
       (λ none. later_wider t own lo n (first_n lo).state (first_n n).state l) (λ mine used. later_wider t own lo n (first_n lo).state (first_n n).state l)
       (λ mine left. later_claims t own (first_n n).state (kept_state n) (numbered n) lo (first_n lo).state le l (to_candidate waits (first_n n).state (numbered n) mine)))
 
@@ -361,11 +361,11 @@ module _ (t : Table) (own : Origin) (notes : List Note) (now : ℕ) (s : StateVa
   up_at : (n : ℕ) → IsUp (first_n n).state own
   up_at n = subst (λ (lives : Lives). IsLive lives own.node own.inc) (later 0 n (omega arith)).alike.lives live
 
-  -- what was passed stays passed
+  -- applications passed over stay passed over
   passed_more : (app : AppId) (n : ℕ) → IsAmong app (first_n n).passed → IsAmong app (first_n (n + 1)).passed
   passed_more app n h =
-      subst (λ (turn : Turn). IsAmong app turn.passed) (sym (turn_more t own waits now (turn_from s) n))
-      (turned_by t own waits now (λ turn. IsAmong app turn.passed) (first_n n) (numbered n) (λ none. h) (λ mine used. among_left app (first_n n).passed (numbered n ∷ []) h) (λ mine left. h))
+      subst (λ (sweep : Sweep). IsAmong app sweep.passed) (sym (sweep_more t own waits now (sweep_from s) n))
+      (swept_by t own waits now (λ sweep. IsAmong app sweep.passed) (first_n n) (numbered n) (λ none. h) (λ mine used. among_left app (first_n n).passed (numbered n ∷ []) h) (λ mine left. h))
 
   passed_by : (app : AppId) (lo k n : ℕ) → lo + k ≡ n → IsAmong app (first_n lo).passed → IsAmong app (first_n n).passed
   passed_by app lo zero n e h = let same : lo ≡ n = omega arith in subst (λ m. IsAmong app (first_n m).passed) same h
@@ -391,14 +391,14 @@ module _ (t : Table) (own : Origin) (notes : List Note) (now : ℕ) (s : StateVa
       past : (i : ℕ) → i + 1 ≤ i → ⊥
       past i h = omega arith
 
-  -- and no earlier one's did
+  -- no earlier application's claim changed this one's
   same_before : (i : ℕ) → map.get s.claims (numbered i) ≡ map.get (first_n i).state.claims (numbered i)
   same_before i = elim ((later 0 i (omega arith)).claims (numbered i)) [ inl same ↦ same | inr taken ↦ absurd (past i taken.1.0) ]
     where
       past : (i : ℕ) → i < i → ⊥
       past i h = omega arith
 
-  -- what is noted of an application that the first tick left alone is what was noted
+  -- an application that the first tick left alone has the same timer at the second
   same_noted : (i : ℕ) → i < N → map.get s.claims (numbered i) ≡ map.get end.claims (numbered i) → noted_at waits (numbered i) ≡ noted_at waits_then (numbered i)
   same_noted i lt same =
       let app = numbered i in
@@ -413,7 +413,7 @@ module _ (t : Table) (own : Origin) (notes : List Note) (now : ℕ) (s : StateVa
       let app = numbered i in
       let u = (first_n i).state in
       let both = and_parts (is_own own (candidate_of (verdict_of t end app))) (is_due_by t (noted_at waits_then app) end app now (verdict_of t end app)) mine in
-      let same : map.get u.claims app ≡ map.get end.claims app = ap (λ (turn : Turn). map.get turn.state.claims app) left ∙ same_after i lt in
+      let same : map.get u.claims app ≡ map.get end.claims app = ap (λ (sweep : Sweep). map.get sweep.state.claims app) left ∙ same_after i lt in
       let l = later i N (omega arith) in
       let first = first_of t own end app (verdict_of t end app) (verdict_in_words t end app) (own_if own (candidate_of (verdict_of t end app)) both.0) in
       let judged : verdict_of t u app ≡ verdict_of t end app =
@@ -424,7 +424,7 @@ module _ (t : Table) (own : Origin) (notes : List Note) (now : ℕ) (s : StateVa
       ∙ ap (λ noted. is_due_by t noted end app now (verdict_of t end app)) (same_noted i lt (same_before i ∙ same))
       ∙ both.1)
 
-  -- what is the incarnation's to claim at the second tick was passed at the first
+  -- an application that is the incarnation's to claim at the second tick was passed over at the first
   abbrev WasPassed : ℕ → Type 0
   WasPassed i = (terms_used_up end (numbered i) ≡ true) × IsAmong (numbered i) (first_n N).passed
 
@@ -432,29 +432,29 @@ module _ (t : Table) (own : Origin) (notes : List Note) (now : ℕ) (s : StateVa
   was_passed i lt mine =
       let app = numbered i in
       let u = (first_n i).state in
-      turned_by t own waits now (λ turn. turn ≡ first_n (i + 1) → WasPassed i) (first_n i) app
+      swept_by t own waits now (λ sweep. sweep ≡ first_n (i + 1) → WasPassed i) (first_n i) app
       (λ none left. absurd (true≢false (sym (was_mine i lt left mine) ∙ none)))
       (λ yes used passes. (
-        sym (used_alike_by app u end (ap (λ (turn : Turn). map.get turn.state.claims app) passes ∙ same_after i lt)) ∙ used,
-        passed_by app (i + 1) (N - (i + 1)) N (omega arith) (subst (λ (turn : Turn). IsAmong app turn.passed) passes (among_last app (first_n i).passed)),
+        sym (used_alike_by app u end (ap (λ (sweep : Sweep). map.get sweep.state.claims app) passes ∙ same_after i lt)) ∙ used,
+        passed_by app (i + 1) (N - (i + 1)) N (omega arith) (subst (λ (sweep : Sweep). IsAmong app sweep.passed) passes (among_last app (first_n i).passed)),
       ))
       (λ yes left claims.
       let l = later (i + 1) N (omega arith) in
-      let takes : Takes t own (first_n (i + 1)).state app = subst (λ (turn : Turn). Takes t own turn.state app) claims (after_takes t own u (kept_state i) app (to_candidate waits u app yes)) in
+      let takes : Takes t own (first_n (i + 1)).state app = subst (λ (sweep : Sweep). Takes t own sweep.state app) claims (after_takes t own u (kept_state i) app (to_candidate waits u app yes)) in
       let kept = takes_alike t own (first_n (i + 1)).state end l.alike app (same_after i lt) takes in
       absurd (false≢true (ap is_some (sym (takes_kept t own end (up_at N) app kept) ∙ to_candidate waits_then end app mine))))
-      (sym (turn_more t own waits now (turn_from s) i))
+      (sym (sweep_more t own waits now (sweep_from s) i))
     where
       used_alike_by : (app : AppId) (u v : StateValue) → map.get u.claims app ≡ map.get v.claims app → terms_used_up u app ≡ terms_used_up v app
       used_alike_by app u v same = ap (λ c. nat_lt MAX_COUNTER (option_map_or (λ (claim : Claim). claim.term) c 0 + 1)) same
 
-  abbrev second_n : ℕ → Turn
-  second_n n = turn_over t own waits_then now (turn_from end) (apps_from 0 n)
+  abbrev second_n : ℕ → Sweep
+  second_n n = sweep_over t own waits_then now (sweep_from end) (apps_from 0 n)
 
-  pub record IsIdle (turn : Turn) : Type 0 where
-    pub ops : turn.ops ≡ []
-    pub state : turn.state ≡ end
-    pub passed : (app : AppId) → IsAmong app turn.passed → IsAmong app (first_n N).passed
+  pub record IsIdle (sweep : Sweep) : Type 0 where
+    pub ops : sweep.ops ≡ []
+    pub state : sweep.state ≡ end
+    pub passed : (app : AppId) → IsAmong app sweep.passed → IsAmong app (first_n N).passed
 
   idle : (n : ℕ) → n ≤ N → IsIdle (second_n n)
   idle zero le = record { ops = refl; state = refl; passed = λ app h. absurd h }
@@ -462,8 +462,8 @@ module _ (t : Table) (own : Origin) (notes : List Note) (now : ℕ) (s : StateVa
       let before = idle n (omega arith) in
       let lt : n < N = omega arith in
       subst (λ m. IsIdle (second_n m)) (add-one n)
-      (subst IsIdle (sym (turn_more t own waits_then now (turn_from end) n))
-      (turned_by t own waits_then now IsIdle (second_n n) (numbered n)
+      (subst IsIdle (sym (sweep_more t own waits_then now (sweep_from end) n))
+      (swept_by t own waits_then now IsIdle (second_n n) (numbered n)
       (λ none. before)
       (λ mine used.
       let passed = was_passed n lt (subst (λ u. is_mine t own waits_then now u (numbered n) ≡ true) before.state mine) in
@@ -484,7 +484,7 @@ second_tick t own notes now s is live =
     let all = idle t own notes now s is live (app_count t) (omega arith) in
     (all.ops, (all.state, all.passed))
 
--- ---- what is claimed is kept
+-- ---- claimed applications are kept
 
 module _ (t : Table) (own : Origin) (s : StateValue) (up : IsUp s own) (app : AppId) (takes : Takes t own s app) (there : own.node.0 < node_count t) where
   started : IsStartedAt s (key_at app own.node own.inc)

@@ -1,4 +1,4 @@
--- What a claim changes of a state: the greatest claim of its application, and what is heard and known; no life, permit or start.
+-- A claim changes only the greatest claim of its application, and the dots heard and known; no life, permit or start.
 use Rattle.std.proofs.Common.{◌≡◌, ℕ, ◌+◌, ◌≤◌, Bool, true, false, not, cond, ◌&&◌, ◌||◌, [], ◌∷◌, Option, None, Some, refl, sym, ap, subst, ◌∙◌, arith, inl, inr}
 use Rattle.std.specs.Prelude.{is_some}
 use Rattle.std.specs.Option.{option_map_or}
@@ -30,7 +30,7 @@ use Rattle.dac_chains.specs.declared.claims.How.TheVariants.{Normal, Failover as
 use Rattle.dac_chains.specs.Greatest.{alone, greater}
 use Rattle.dac_chains.specs.laws.Greatest.{empty_is_least, get-greater}
 use Rattle.dac_chains.specs.declared.lives.LifeAct.TheVariants.{Other as NoLife}
-use Rattle.dac_chains.specs.Lives.{life_cmp, said_life}
+use Rattle.dac_chains.specs.Lives.{life_cmp, life_report}
 use Rattle.dac_chains.specs.laws.Lives.{lives_total, exact_lives}
 use Rattle.dac_chains.specs.Claims.{claim_cmp, how_cmp}
 use Rattle.dac_chains.specs.laws.Claims.{claims_total, exact_hows, exact_claims}
@@ -66,7 +66,7 @@ both_ways true b there back = sym (there refl)
 both_ways false true there back = back refl
 both_ways false false there back = refl
 
--- who may run what is alike in both: all but what was heard and who claims
+-- the states are equal except for dots and claims, so that the same nodes are eligible
 pub record MayRunAlike (s t : StateValue) : Type 0 where
   pub lives : s.lives ≡ t.lives
   pub permits : s.permits ≡ t.permits
@@ -82,7 +82,7 @@ alike_through s t u a b = record { lives = a.lives ∙ b.lives; permits = a.perm
 pub alike_back : (s t : StateValue) → MayRunAlike s t → MayRunAlike t s
 alike_back s t a = record { lives = sym a.lives; permits = sym a.permits; starts = sym a.starts; drains = sym a.drains }
 
--- votes stay beside what has none and doesn't know their dots
+-- votes stay if they are joined with no votes, and without knowledge of their dots
 module _ {K : Type 0} {R : K → K → Ordering} (total : IsTotalOrder R) (exact : CmpEqualImpliesEq R) (x y : VotesValue R) (none : (w : KeyedWrite K) → map.get y.standing w ≡ None)
     (apart : (w : KeyedWrite K) → is_some (map.get x.standing w) ≡ true → set.contains y.known w.dot ≡ false) where
   vote_by : (w : KeyedWrite K) (old : Option Flag) → map.get x.standing w ≡ old → joined_vote R x y w old None ≡ old
@@ -93,7 +93,7 @@ module _ {K : Type 0} {R : K → K → Ordering} (total : IsTotalOrder R) (exact
   votes_stay = map.same_map (keyed_writes_total total) (exact_keyed_writes exact) (join_votes R x y).standing x.standing (λ w.
       standing-join_votes total exact x y w ∙ ap (joined_vote R x y w (map.get x.standing w)) (none w) ∙ vote_by w (map.get x.standing w) refl)
 
--- an operation that says nothing of a life leaves all lives as they are
+-- an operation that doesn't concern a life leaves all lives unchanged
 module _ (own : Origin) (s : StateValue) (act : Act) (silent : seen_life act ≡ NoLife) where
   abbrev silent_meaning : StateValue
   silent_meaning = meaning_of (next_operation s own act ∷ [])
@@ -102,7 +102,7 @@ module _ (own : Origin) (s : StateValue) (act : Act) (silent : seen_life act ≡
   no_lives =
       lives-meaning (next_operation s own act ∷ [])
       ∙ sym (greatest-one nodes_total exact_nodes lives_total (exact_lives flag_cmp flags_exact) life_said (next_operation s own act))
-      ∙ ap (λ seen. alone (said_life (dot own (greatest_counter own s.known + 1)) seen)) silent
+      ∙ ap (λ seen. alone (life_report (dot own (greatest_counter own s.known + 1)) seen)) silent
 
   pub lives_stay : (join s silent_meaning).lives ≡ s.lives
   lives_stay =
@@ -134,7 +134,7 @@ module _ (own : Origin) (s : StateValue) (app : AppId) (how : How) (from : Optio
   above : (g : ℕ) → g + 1 ≤ g → ⊥
   above g h = omega arith
 
-  -- what is known doesn't have the next dot
+  -- the next dot isn't known
   apart : (d : Dot) → set.contains s.known d ≡ true → set.contains m.known d ≡ false
   apart d known = false_from_ne_true (set.contains m.known d) (λ h.
       let same : d ≡ next = same_dot_is d next (sym (known_alone own s (claim_act s app how from) refl d) ∙ h) in
@@ -200,7 +200,7 @@ module _ (own : Origin) (s : StateValue) (app : AppId) (how : How) (from : Optio
   none_more None = refl
   none_more (Some c) = refl
 
-  -- another application's is as before
+  -- another application's claim is unchanged
   pub other_claim : (b : AppId) → (b.0 ≡ app.0 → ⊥) → map.get after.claims b ≡ map.get s.claims b
   other_claim b ne =
       greatest_at b
@@ -218,14 +218,14 @@ module _ (own : Origin) (s : StateValue) (app : AppId) (how : How) (from : Optio
   greater_of None is = refl
   greater_of (Some c) is = ap (λ b. Some (cond b c claim)) (later_is c (next_term s app) (ap (λ g. option_map_or (λ (x : Claim). x.term) g 0 + 1) is) _)
 
-  -- the application's is the new one
+  -- the application's greatest claim is the new one
   pub own_claim : map.get after.claims app ≡ Some claim
   own_claim =
       greatest_at app
       ∙ ap (λ e. join_options (ord_max claim_cmp) (map.get s.claims app) (cond e (Some claim) None)) (ap is_eq (tied_itself apps_total app))
       ∙ greater_of (map.get s.claims app) refl
 
--- each verdict's claim is one
+-- the claim of each verdict is a claim act
 pub claimed_as : (s : StateValue) (app : AppId) (verdict : Verdict) → (how : How) × (from : Option NodeId) × (claimed_by s app verdict ≡ claim_act s app how from)
 claimed_as s app (Start n) = (Normal, None, refl)
 claimed_as s app (Failover n) = (FailedOver, held_by s app, refl)

@@ -1,4 +1,5 @@
--- What an operation that replaces nothing makes known: its own dot, and so its incarnation's greatest counter goes up by one.
+-- An operation that replaces nothing makes only its own dot known, so that its incarnation's greatest counter rises by
+-- one.
 use Rattle.std.proofs.Common.{◌≡◌, ℕ, ◌≤◌, ◌+◌, Bool, true, false, cond, ◌||◌, ◌⊎◌, inl, inr, List, [], ◌∷◌, refl, sym, ap, subst, ◌∙◌, arith, true≢false, max}
 use Rattle.std.specs.Prelude.{nat_le}
 use Rattle.std.specs.List.{list_any}
@@ -19,7 +20,7 @@ use Rattle.dac_meaning.specs.StateValue.{StateValue, join}
 use Rattle.dac_meaning.specs.laws.StateLaws.{known-join}
 use Rattle.dac_meaning.specs.Meaning.{meaning_of}
 use Rattle.dac_meaning.specs.laws.Readers.{or-false, known-meaning}
-use Rattle.dac_commands.specs.Commands.{KnowsItself, greatest_among, greatest_counter, next_operation}
+use Rattle.dac_commands.specs.Commands.{KnowsOwnBoot, greatest_among, greatest_counter, next_operation}
 use Rattle.dac_commands.specs.laws.Counters.{counter-greatest}
 
 -- ---- the greatest counter is 0, or that of one of the dots
@@ -94,7 +95,7 @@ module _ (own : Origin) (s : StateValue) (act : Act) (bare : over_list act ≡ [
       ∙ set.contains-union dots_total s.known (meaning_of (next_operation s own act ∷ [])).known d
       ∙ ap (λ b. set.contains s.known d || b) (known_alone d)
 
-  -- what was known stays known
+  -- known dots stay known
   pub still_known : (d : Dot) → set.contains s.known d ≡ true → set.contains after.known d ≡ true
   still_known d h = known_after d ∙ or_left (set.contains s.known d) (same_dot d next) h
 
@@ -111,12 +112,12 @@ module _ (own : Origin) (s : StateValue) (act : Act) (bare : over_list act ≡ [
     | inr new ↦ same_at_most n g (ap (λ (d : Dot). d.n) (same_dot_is (dot own n) next new))
   ]
 
-  -- the greatest counter goes up by one
+  -- the greatest counter rises by one
   pub counter_after : n ≡ g + 1
   counter_after = between n g
       (counter-greatest after.known next (known_after next ∙ ap (λ b. set.contains s.known next || b) (same_dot_itself next) ∙ or_right (set.contains s.known next)))
       (by_dot (greatest_there own (set.items after.known)))
 
--- who knows its own boot still does
-pub knows_after : (own : Origin) (s : StateValue) (act : Act) → over_list act ≡ [] → KnowsItself own s → KnowsItself own (join s (meaning_of (next_operation s own act ∷ [])))
+-- a state that knows the incarnation's boot still does
+pub knows_after : (own : Origin) (s : StateValue) (act : Act) → over_list act ≡ [] → KnowsOwnBoot own s → KnowsOwnBoot own (join s (meaning_of (next_operation s own act ∷ [])))
 knows_after own s act bare knows = still_known own s act bare (dot own 1) knows

@@ -1,4 +1,4 @@
--- What an operation leaves: what it says is so where it is issued.
+-- The effects of operations in the state in which they are issued.
 use Rattle.std.proofs.Common.{◌≡◌, ◌↔◌, ℕ, Bool, true, false, not, cond, ◌&&◌, ◌||◌, [], ◌∷◌, Option, None, Some, refl, sym, ap, subst, ◌∙◌, inl, inr, true≢false}
 use Rattle.std.specs.Prelude.{is_some}
 use Rattle.std.specs.Option.{option_map}
@@ -99,7 +99,7 @@ module _ (own : Origin) (s : StateValue) (is : IsState s) (key : Key) where
   or_not false false p = refl
   or_not false true p = absurd (true≢false p)
 
-  -- after a start of the key some start of it stands
+  -- after a start at the key, a start stands there
   pub start_is_wished : SomeStands key (wishes_of (after (Starts key (standing_starts s key))))
   start_is_wished = (
     next,
@@ -124,7 +124,7 @@ module _ (own : Origin) (s : StateValue) (is : IsState s) (key : Key) where
   neither false false c e p f h = false≢true h
   neither a true c e p f h = true≢false p
 
-  -- after a stop of the key no start of it stands
+  -- after a stop at the key, no start stands there
   pub stop_is_unwished : SomeStands key (wishes_of (after (Stops key (standing_starts s key)))) → ⊥
   stop_is_unwished some =
       let d = some.0 in
@@ -153,7 +153,7 @@ module _ (own : Origin) (s : StateValue) (is : IsState s) (value : Bool) where
     allows true e = refl
     allows false e = cc
 
-    -- after a permit the key is permitted exactly if the permit says so
+    -- after a permit the key is permitted exactly when the permit's value is true
     pub permit_holds : (default : Bool) → IsPermitted key default (permissions_of (join s p)) ↔ (value ≡ true)
     permit_holds default = subst (λ (v : PermissionsValue). IsPermitted key default v ↔ (value ≡ true)) (sym (permissions-join s p)) (
       λ h. elim h [
@@ -188,7 +188,7 @@ module _ (own : Origin) (s : StateValue) (is : IsState s) (value : Bool) where
     bars true e = refl
     bars false e = cc
 
-    -- after a drain the incarnation is drained exactly if the drain says so
+    -- after a drain the incarnation is drained exactly when the drain's value is true
     pub drain_holds : IsDrained at (drains_of (join s q)) ↔ (value ≡ true)
     drain_holds = subst (λ (v : DrainsValue). IsDrained at v ↔ (value ≡ true)) (sym (drains-join s q)) (
       λ h. bars value (sym (each_says_so origins_total exact_origins drain_vote true own s drains at value s.drains q.drains drain_is h.0 IsDown h.1)),
@@ -241,7 +241,7 @@ module _ (own : Origin) (s : StateValue) (node : NodeId) (inc : ℕ) (live : IsL
 
 -- ---- a claim
 
--- what an eligible live incarnation claims runs at its node
+-- an application claimed by an eligible live incarnation runs at its node
 pub claim_runs : (t : Table) (own : Origin) (s : StateValue) (app : AppId) (how : How) (from : Option NodeId) → IsState s → IsLive s.lives own.node own.inc → IsEligible t s app own.node
     → RunsAt t (join s (meaning_of (next_operation s own (claim_act s app how from) ∷ []))) app own.node
 claim_runs t own s app how from is live may =

@@ -1,5 +1,5 @@
--- What is claimed in a turn stays with its claimer to the end of the turn: later claims are of other applications, and leave
--- all that a verdict on this one looks at.
+-- An application claimed in a sweep stays with its claimer to the end of the sweep, because later claims are for other
+-- applications and leave everything unchanged on which its verdict depends.
 use Rattle.std.proofs.Common.{◌≡◌, ℕ, ◌+◌, ◌<◌, ◌≤◌, true, false, List, [], ◌∷◌, Option, Some, refl, sym, ap, subst, ◌∙◌, arith, inl, inr}
 use Rattle.std.specs.Prelude.{◌==◌}
 use Rattle.std.specs.Option.{is_some, option_map_or}
@@ -22,14 +22,14 @@ use Rattle.dac_placement.specs.laws.Tests.{runs_is}
 use Rattle.dac_placement.specs.laws.Judged.{verdict_in_words}
 use Rattle.dac_decide.specs.declared.waits.Noted.{Noted}
 use Rattle.dac_commands.specs.Commands.{next_operation, next_term}
-use Rattle.dac_ticks.specs.Ticks.{Turn, turn_from, claiming, claim_of, turned, turn_over}
+use Rattle.dac_ticks.specs.Ticks.{Sweep, sweep_from, claiming, claim_of, swept, sweep_over}
 use Rattle.dac_ticks.specs.Staying.{ClaimsApp, ClaimsAreLater, ClaimsStay}
-use Rattle.dac_ticks.specs.laws.Turning.{turned_by}
+use Rattle.dac_ticks.specs.laws.Sweeping.{swept_by}
 use Rattle.dac_ticks.specs.laws.Words.{own_if}
 use Rattle.dac_ticks.specs.laws.Claimed.{MayRunAlike, alike_itself, alike_through, claimed_as, own_claim}
 use Rattle.dac_ticks.specs.laws.Again.{Takes, takes_alike, takes_kept, takes_runs, first_of, after, after_alike, after_state, after_other, after_takes, kept_here}
 
--- a claim is of one application and under one term
+-- a claim has one application and one term
 one_app : {app other : AppId} {term k : ℕ} {how hows : How} {from froms : Option NodeId} → Claim app term how from ≡ Claim other k hows froms → other ≡ app
 one_app e = cc
 
@@ -53,19 +53,19 @@ app_is : (a b : AppId) → a.0 ≡ b.0 → a ≡ b
 app_is a b e = λ i. record { 0 = e i }
 
 module _ (t : Table) (own : Origin) (waits : List (Option Noted)) (now : ℕ) (s : StateValue) where
-  -- What was claimed is the incarnation's now.
+  -- The incarnation holds the application that it claimed.
   record IsHeld (u : StateValue) (app : AppId) : Type 0 where
     there : own.node.0 < node_count t
     takes : Takes t own u app
 
-  -- Some applications were taken in turn. The state differs from the first one in claims alone, and these are under later
-  -- terms. An incarnation that is live holds what it claimed.
-  record Holds (turn : Turn) : Type 0 where
-    state : IsState turn.state
-    alike : MayRunAlike s turn.state
-    grown : (app : AppId) → next_term s app ≤ next_term turn.state app
-    later : (o : Operation) (app : AppId) → IsOperationOf o turn.ops → (c : ClaimsApp app o) → next_term s app ≤ c.0
-    held : IsUp s own → (o : Operation) (app : AppId) → IsOperationOf o turn.ops → ClaimsApp app o → IsHeld turn.state app
+  -- The state after some applications differs from the first one only in claims, and these are under later terms. A
+  -- live incarnation holds the applications that it claimed.
+  record Holds (sweep : Sweep) : Type 0 where
+    state : IsState sweep.state
+    alike : MayRunAlike s sweep.state
+    grown : (app : AppId) → next_term s app ≤ next_term sweep.state app
+    later : (o : Operation) (app : AppId) → IsOperationOf o sweep.ops → (c : ClaimsApp app o) → next_term s app ≤ c.0
+    held : IsUp s own → (o : Operation) (app : AppId) → IsOperationOf o sweep.ops → ClaimsApp app o → IsHeld sweep.state app
 
   more : (a b c : ℕ) → a ≤ b → c ≡ b + 1 → a ≤ c
   more a b c le e = omega arith
@@ -73,10 +73,10 @@ module _ (t : Table) (own : Origin) (waits : List (Option Noted)) (now : ℕ) (s
   as_much : (a b c : ℕ) → a ≤ b → c ≡ b → a ≤ c
   as_much a b c le e = omega arith
 
-  -- where an application is claimed
-  module _ (app : AppId) (turn : Turn) (g : Holds turn) (named : candidate_of (verdict_of t turn.state app) ≡ Some own.node) where
+  -- an application is claimed
+  module _ (app : AppId) (sweep : Sweep) (g : Holds sweep) (named : candidate_of (verdict_of t sweep.state app) ≡ Some own.node) where
     abbrev u : StateValue
-    u = turn.state
+    u = sweep.state
 
     abbrev left : StateValue
     left = after t own u app
@@ -87,7 +87,7 @@ module _ (t : Table) (own : Origin) (waits : List (Option Noted)) (now : ℕ) (s
     left_alike : MayRunAlike u left
     left_alike = after_alike t own u g.state app
 
-    -- it is the claim of this application under its next term
+    -- an operation that claims an application, and is this claim, claims this application under its next term
     module _ (b : AppId) (o : Operation) (is : o ≡ claim) (c : ClaimsApp b o) where
       of_this : app ≡ b
       of_this = let by = claimed_as u app (verdict_of t u app) in one_app (sym c.3 ∙ ((λ i. (is i).act) ∙ by.2))
@@ -98,7 +98,7 @@ module _ (t : Table) (own : Origin) (waits : List (Option Noted)) (now : ℕ) (s
       is_later : next_term s b ≤ c.0
       is_later = subst (λ (a : AppId). next_term s a ≤ c.0) of_this (as_much (next_term s app) (next_term u app) c.0 (g.grown app) under_next)
 
-    -- what the incarnation holds is another application
+    -- applications that the incarnation held before are others
     module _ (up : IsUp s own) where
       up_then : IsUp u own
       up_then = subst (λ (lives : Lives). IsLive lives own.node own.inc) g.alike.lives up
@@ -122,40 +122,40 @@ module _ (t : Table) (own : Origin) (waits : List (Option Noted)) (now : ℕ) (s
           as_much (next_term s b) (next_term u b) (next_term left b) (g.grown b) (sym (ap (λ c. option_map_or (λ (x : ClaimValue). x.term) c 0 + 1) as_before))
     ] refl
 
-    holds_claimed : Holds (claiming turn claim)
+    holds_claimed : Holds (claiming sweep claim)
     holds_claimed = record {
       state = after_state t own u g.state app;
       alike = alike_through s u left g.alike left_alike;
       grown = grown_more;
-      later = λ o b i c. elim (In-append_cases o turn.ops (claim ∷ []) i) [
+      later = λ o b i c. elim (In-append_cases o sweep.ops (claim ∷ []) i) [
         | inl before ↦ g.later o b before c
         | inr new ↦ elim new [ inl is ↦ is_later b o is c | inr none ↦ absurd none ]
       ];
-      held = λ up o b i c. elim (In-append_cases o turn.ops (claim ∷ []) i) [
+      held = λ up o b i c. elim (In-append_cases o sweep.ops (claim ∷ []) i) [
         | inl before ↦ still up b (g.held up o b before c)
         | inr new ↦ elim new [ inl is ↦ subst (IsHeld left) (of_this b o is c) (taken up) | inr none ↦ absurd none ]
       ];
     }
 
-  holds_more : (app : AppId) (turn : Turn) → Holds turn → Holds (turned t own waits now turn app)
-  holds_more app turn g = turned_by t own waits now Holds turn app
+  holds_more : (app : AppId) (sweep : Sweep) → Holds sweep → Holds (swept t own waits now sweep app)
+  holds_more app sweep g = swept_by t own waits now Holds sweep app
       (λ none. g)
       (λ mine used. record { state = g.state; alike = g.alike; grown = g.grown; later = g.later; held = g.held })
-      (λ mine left. holds_claimed app turn g (own_if own (candidate_of (verdict_of t turn.state app)) (and_parts _ _ mine).0))
+      (λ mine left. holds_claimed app sweep g (own_if own (candidate_of (verdict_of t sweep.state app)) (and_parts _ _ mine).0))
 
-  holds_on : (apps : List AppId) (turn : Turn) → Holds turn → Holds (turn_over t own waits now turn apps)
-  holds_on [] turn g = g
-  holds_on (app ∷ apps) turn g = holds_on apps (turned t own waits now turn app) (holds_more app turn g)
+  holds_on : (apps : List AppId) (sweep : Sweep) → Holds sweep → Holds (sweep_over t own waits now sweep apps)
+  holds_on [] sweep g = g
+  holds_on (app ∷ apps) sweep g = holds_on apps (swept t own waits now sweep app) (holds_more app sweep g)
 
   itself : (n : ℕ) → n ≤ n
   itself n = omega arith
 
-  holds : (apps : List AppId) → IsState s → Holds (turn_over t own waits now (turn_from s) apps)
-  holds apps is = holds_on apps (turn_from s) (record { state = is; alike = alike_itself s; grown = λ app. itself (next_term s app); later = λ o app i c. absurd i; held = λ up o app i c. absurd i })
+  holds : (apps : List AppId) → IsState s → Holds (sweep_over t own waits now (sweep_from s) apps)
+  holds apps is = holds_on apps (sweep_from s) (record { state = is; alike = alike_itself s; grown = λ app. itself (next_term s app); later = λ o app i c. absurd i; held = λ up o app i c. absurd i })
 
 pub claims_stay : ClaimsStay
 claims_stay t own waits now s apps is live o app i c =
-    let end = (turn_over t own waits now (turn_from s) apps).state in
+    let end = (sweep_over t own waits now (sweep_from s) apps).state in
     let g = holds t own waits now s apps is in
     let h = g.held live o app i c in
     let up : IsUp end own = subst (λ (lives : Lives). IsLive lives own.node own.inc) g.alike.lives live in

@@ -1,4 +1,4 @@
--- A command that is taken up takes effect.
+-- An accepted command takes effect.
 use Rattle.std.proofs.Common.{◌≡◌, ◌↔◌, ℕ, Bool, true, false, not, [], ◌∷◌, refl, sym, subst}
 use Rattle.std.proofs.lemmas.Bool.{true≢false}
 use Rattle.dac_base.specs.declared.NodeId.{NodeId}
@@ -30,7 +30,7 @@ module _ (t : Table) (own : Origin) (s : StateValue) where
   abbrev left : Command → StateValue
   left c = join s (meaning_of (next_operation s own (act_of t s c) ∷ []))
 
-  -- what holds at the live incarnation holds there once an operation is joined that says nothing of a life
+  -- a property of the live incarnation still holds after an operation that doesn't concern a life
   at_live : (c : Command) (node : NodeId) (P : ℕ → Type 0) → seen_life (act_of t s c) ≡ NoLife → not_live s node ≡ false → P (live_or_none s node) → AtLive (left c) node P
   at_live c node P silent live is =
       (live_or_none s node, (subst (λ lives. IsLive lives node (live_or_none s node)) (sym (lives_stay own s (act_of t s c) silent)) (live_there t own s node live), is))

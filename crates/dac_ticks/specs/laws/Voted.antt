@@ -1,5 +1,5 @@
--- A vote that replaces all that stand of its key. Once it is joined to the state in which it is issued, it stands there, and
--- whatever stands there says the same.
+-- A vote that replaces all standing ones at its key. After it is joined to the state in which it is issued, it stands
+-- there, and whatever stands there has the same value.
 use Rattle.std.proofs.Common.{◌≡◌, ℕ, ◌+◌, ◌≤◌, Bool, true, false, not, cond, ◌&&◌, ◌||◌, [], ◌∷◌, Option, None, Some, refl, sym, ap, ◌∙◌, arith, true≢false}
 use Rattle.std.specs.Prelude.{is_some}
 use Rattle.std.specs.declared.cmp.Ordering.{Ordering}
@@ -25,23 +25,23 @@ use Rattle.dac_wishes.specs.laws.Votes.{standing-join_votes}
 use Rattle.dac_operations.specs.declared.act.Act.{Act}
 use Rattle.dac_operations.specs.Operations.{Operation, over_list}
 use Rattle.dac_meaning.specs.StateValue.{StateValue}
-use Rattle.dac_meaning.specs.Meaning.{meaning_of, is_same, flag_said, vote_says, vote_at}
+use Rattle.dac_meaning.specs.Meaning.{meaning_of, is_same, flag_written, vote_says, vote_at}
 use Rattle.dac_meaning.specs.laws.Readers.{known-meaning}
 use Rattle.dac_commands.specs.Commands.{greatest_counter, next_operation}
 use Rattle.dac_commands.specs.laws.Counters.{counter-greatest}
 
--- a vote of this value as a flag, where `down` is the value that is Down
+-- the flag of a vote of this value, if `down` is the value that becomes Down
 abbrev pub flag_by : Bool → Bool → Flag
 flag_by down value = cond (is_same value down) Down Up
 
--- the dot under which the incarnation issues next
+-- the dot of the incarnation's next operation
 abbrev pub next_dot : Origin → StateValue → Dot
 next_dot own s = dot own (greatest_counter own s.known + 1)
 
 above : (g : ℕ) → g + 1 ≤ g → ⊥
 above g h = omega arith
 
--- it isn't known yet
+-- the next dot isn't known
 pub next_is_fresh : (own : Origin) (s : StateValue) → set.contains s.known (next_dot own s) ≡ false
 next_is_fresh own s = false_from_ne_true (set.contains s.known (next_dot own s)) (λ h. above (greatest_counter own s.known) (counter-greatest s.known (next_dot own s) h))
 
@@ -50,27 +50,27 @@ known_or true b p = refl
 known_or false true p = refl
 known_or false false p = absurd (false≢true p)
 
--- what the next operation replaces is known once it is heard
+-- the dots that the next operation replaces are known after it is heard
 pub replaced_is_known : (own : Origin) (s : StateValue) (act : Act) (d : Dot) → has_key dot_cmp (over_list act) d ≡ true → set.contains (meaning_of (next_operation s own act ∷ [])).known d ≡ true
 replaced_is_known own s act d h = known-meaning (next_operation s own act ∷ []) d ∙ known_or (same_dot d (next_dot own s)) (has_key dot_cmp (over_list act) d) h
 
 some_flag : {f g : Flag} → ◌≡◌ {A = Option Flag} (Some f) (Some g) → f ≡ g
 some_flag e = cc
 
-none_said : (a b : Bool) → flag_said ((a && false) || false) ((b && false) || false) ≡ None
+none_said : (a b : Bool) → flag_written ((a && false) || false) ((b && false) || false) ≡ None
 none_said true true = refl
 none_said true false = refl
 none_said false true = refl
 none_said false false = refl
 
-value_said : (k down v : Bool) → k ≡ true → flag_said (((k && is_same v down) && true) || false) (((k && is_same v (not down)) && true) || false) ≡ Some (flag_by down v)
+value_said : (k down v : Bool) → k ≡ true → flag_written (((k && is_same v down) && true) || false) (((k && is_same v (not down)) && true) || false) ≡ Some (flag_by down v)
 value_said true true true e = refl
 value_said true true false e = refl
 value_said true false true e = refl
 value_said true false false e = refl
 value_said false down v e = absurd (false≢true e)
 
--- `vote` is what an act says of which key, `old` the votes that stand in the state, and `new` those of the operation
+-- `vote` is an act's key and value, `old` are the standing votes of the state, and `new` those of the operation
 module _ {K : Type 0} {R : K → K → Ordering} (total : IsTotalOrder R) (exact : CmpEqualImpliesEq R) (vote : Act → Option (K × Bool)) (down : Bool)
     (own : Origin) (s : StateValue) (act : Act) (key : K) (value : Bool) (old new : Votes R) where
   abbrev m : StateValue
@@ -82,7 +82,7 @@ module _ {K : Type 0} {R : K → K → Ordering} (total : IsTotalOrder R) (exact
   abbrev y : VotesValue R
   y = record { known = m.known; standing = new }
 
-  -- the act is this vote, it replaces what stands of the key, and `new` is what it says
+  -- the act is this vote, it replaces the standing ones at the key, and `new` is its meaning
   pub record IsVote : Type 0 where
     pub votes : vote act ≡ Some (key, value)
     pub replaces : (d : Dot) → has_key dot_cmp (over_list act) d ≡ is_some (map.get old (keyed_write key d))
@@ -102,14 +102,14 @@ module _ {K : Type 0} {R : K → K → Ordering} (total : IsTotalOrder R) (exact
     here : (w : KeyedWrite K) → map.get (join_votes R x y).standing w ≡ joined_vote R x y w (map.get old w) (map.get new w)
     here w = standing-join_votes total exact x y w
 
-    -- what the vote says at a dot: whether it is replaced, and whether it is the vote's own
+    -- the vote's flag at a dot, given whether the dot is replaced and whether it is the vote's own
     abbrev said_at : Bool → Bool → Option Flag
-    said_at gone mine = cond (gone || false) None (flag_said (((same && is_same value down) && mine) || false) (((same && is_same value (not down)) && mine) || false))
+    said_at gone mine = cond (gone || false) None (flag_written (((same && is_same value down) && mine) || false) (((same && is_same value (not down)) && mine) || false))
 
     abbrev said_by : Dot → Option (K × Bool) → Option Flag
     said_by d said =
         cond (has_key dot_cmp (over_list act) d || false) None
-        (flag_said ((vote_says R key down said && same_dot d next) || false) ((vote_says R key (not down) said && same_dot d next) || false))
+        (flag_written ((vote_says R key down said && same_dot d next) || false) ((vote_says R key (not down) said && same_dot d next) || false))
 
     says : (d : Dot) → map.get new (keyed_write key d) ≡ said_at (has_key dot_cmp (over_list act) d) (same_dot d next)
     says d = is.says (keyed_write key d) ∙ ap (said_by d) is.votes
@@ -127,7 +127,7 @@ module _ {K : Type 0} {R : K → K → Ordering} (total : IsTotalOrder R) (exact
     said_next : map.get new (keyed_write key next) ≡ Some flag
     said_next = says next ∙ (λ i. said_at ((is.replaces next ∙ ap is_some none_old) i) (same_dot_itself next i)) ∙ value_said same down value itself
 
-    -- it stands
+    -- the vote stands
     pub stands_at_next : map.get (join_votes R x y).standing (keyed_write key next) ≡ Some flag
     stands_at_next = here (keyed_write key next) ∙ (λ i. join_at join_flags (next_is_fresh own s i) (set.contains m.known next) (none_old i) (said_next i))
 
@@ -143,7 +143,7 @@ module _ {K : Type 0} {R : K → K → Ordering} (total : IsTotalOrder R) (exact
     named : (d : Dot) → is_some (map.get old (keyed_write key d)) ≡ true → set.contains m.known d ≡ true
     named d h = replaced_is_known own s act d (is.replaces d ∙ h)
 
-    -- and all that stands of the key says the same
+    -- all votes that stand at the key have the same value
     pub each_says_so : (d : Dot) (f : Flag) → map.get (join_votes R x y).standing (keyed_write key d) ≡ Some f → f ≡ flag
     each_says_so d f h =
         by_cases (set.contains s.known d) (set.contains m.known d) (has_key dot_cmp (over_list act) d) (same_dot d next) (map.get old (keyed_write key d)) f (is.replaces d) (named d)

@@ -1,4 +1,4 @@
--- A turn in words.
+-- A sweep agrees with the words.
 use Rattle.std.proofs.Common.{◌≡◌, ℕ, ◌+◌, ◌<◌, ◌≤◌, Bool, true, false, cond, List, [], ◌∷◌, ◌++◌, Option, None, Some, length, refl, sym, ap, subst, ◌∙◌, arith, append-nil, append_assoc, inl, inr}
 use Rattle.std.specs.Prelude.{◌==◌}
 use Rattle.std.specs.Option.{is_some, option_map, option_map_or}
@@ -31,12 +31,12 @@ use Rattle.dac_commands.specs.Causes.{terms_used_up, used_up}
 use Rattle.dac_commands.specs.Written.{IsNextClaim}
 use Rattle.dac_commands.specs.laws.Counters.{next_of_is}
 use Rattle.dac_commands.specs.laws.Terms.{terms_used_up_is, next_claim_is}
-use Rattle.dac_ticks.specs.Ticks.{Turn, turn_from, passing, claiming, held_by, claimed_by, claim_of, is_mine, turn_over, turn_of}
-use Rattle.dac_ticks.specs.declared.turning.Found.TheVariants.{Left, Passed, Claimed}
-use Rattle.dac_ticks.specs.TurnSoFar.{found_of}
-use Rattle.dac_ticks.specs.InWords.{IsMine, IsNotMine, ComesBy, IsClaimOf, IsTurn, HasRoom}
+use Rattle.dac_ticks.specs.Ticks.{Sweep, sweep_from, passing, claiming, held_by, claimed_by, claim_of, is_mine, sweep_over, sweep_of}
+use Rattle.dac_ticks.specs.declared.sweeping.Found.TheVariants.{Left, Passed, Claimed}
+use Rattle.dac_ticks.specs.SweepSoFar.{found_of}
+use Rattle.dac_ticks.specs.InWords.{IsMine, IsNotMine, ComesBy, IsClaimOf, IsSweep, HasRoom}
 use Rattle.dac_ticks.specs.laws.Counters.{counter_after}
-use Rattle.dac_ticks.specs.laws.Turning.{AreBelow, numbered, apps_below, claim_is_bare, turned_by}
+use Rattle.dac_ticks.specs.laws.Sweeping.{AreBelow, numbered, apps_below, claim_is_bare, swept_by}
 use Rattle.dac_ticks.specs.laws.Claims.{less_room, room_after, counter_left}
 
 -- ---- candidates
@@ -52,11 +52,11 @@ own_if own (Some n) e = let same = eqb-true n.0 own.node.0 e in λ i. Some (reco
 pub if_own : (own : Origin) (candidate : Option NodeId) → candidate ≡ Some own.node → is_own own candidate ≡ true
 if_own own candidate e = ap (is_own own) e ∙ eq-eqb own.node.0 own.node.0 refl
 
--- what is the incarnation's to claim, its node may run
+-- the incarnation's node is eligible for an application that is its to claim
 mine_is_eligible : (t : Table) (own : Origin) (waits : List (Option Noted)) (now : ℕ) (s : StateValue) (app : AppId) → is_mine t own waits now s app ≡ true → is_eligible t s app own.node ≡ true
 mine_is_eligible t own waits now s app mine = (eligible_is t s app own.node).1 (candidate_is t s app own.node (own_if own (candidate_of (verdict_of t s app)) (and_parts _ _ mine).0)).eligible
 
--- so where it may not, nothing is done about the application
+-- so a sweep leaves an application alone for which its node isn't eligible
 pub left_unless : (t : Table) (own : Origin) (waits : List (Option Noted)) (now : ℕ) (s : StateValue) (app : AppId) → is_eligible t s app own.node ≡ false → found_of t own waits now s app ≡ Left
 left_unless t own waits now s app barred =
     ap (λ b. cond b (cond (terms_used_up s app) Passed (Claimed (claim_of t own s app) (join s (meaning_of (claim_of t own s app ∷ []))))) Left)
@@ -104,11 +104,11 @@ module _ (t : Table) (own : Origin) (s : StateValue) (app : AppId) (left : used_
         claims = subst (λ act. IsNextClaim s app by.0 by.1 act) (sym by.2.1) (next_claim_is s app by.0 by.1 term);
       }
 
--- ---- turns
+-- ---- sweeps
 
 module _ (t : Table) (own : Origin) (notes : List Note) (now : ℕ) where
   module _ (s : StateValue) (app : AppId) (listed : app.0 < app_count t) where
-    -- what is due is so in words
+    -- the waits decide whether a verdict is due
     due_is : is_due_by t (noted_at (waits_of t notes) app) s app now (verdict_of t s app) ≡ is_due_by t (noted_of app notes) s app now (verdict_of t s app)
     due_is = ap (λ noted. is_due_by t noted s app now (verdict_of t s app)) (kept_is t notes app listed)
 
@@ -127,56 +127,56 @@ module _ (t : Table) (own : Origin) (notes : List Note) (now : ℕ) where
       left = λ candidate due. true≢false (sym (and_from _ _ (if_own own (candidate_of (verdict_of t s app)) candidate) (due_is ∙ (due_to_words t notes s app now).1 due)) ∙ e);
     }
 
-  -- what a turn of these applications issues and passes from here on
-  pub record TurnsOn (apps : List AppId) (turn later : Turn) : Type 0 where
+  -- the operations and passed applications of a sweep from here on
+  pub record SweepsOn (apps : List AppId) (sweep later : Sweep) : Type 0 where
     pub ops : List Operation
     pub passed : List AppId
-    pub ops_are : later.ops ≡ turn.ops ++ ops
-    pub passed_are : later.passed ≡ turn.passed ++ passed
-    pub words : IsTurn t own notes now turn.state apps ops passed
+    pub ops_are : later.ops ≡ sweep.ops ++ ops
+    pub passed_are : later.passed ≡ sweep.passed ++ passed
+    pub words : IsSweep t own notes now sweep.state apps ops passed
 
-  abbrev over : Turn → List AppId → Turn
-  over turn apps = turn_over t own (waits_of t notes) now turn apps
+  abbrev over : Sweep → List AppId → Sweep
+  over sweep apps = sweep_over t own (waits_of t notes) now sweep apps
 
-  turns_on : (apps : List AppId) → AreBelow (app_count t) apps → (turn : Turn) → greatest_counter own turn.state.known + length apps ≤ MAX_COUNTER → TurnsOn apps turn (over turn apps)
-  turns_on [] below turn room = record { ops = []; passed = []; ops_are = sym (append-nil turn.ops); passed_are = sym (append-nil turn.passed); words = (refl, refl) }
-  turns_on (app ∷ apps) below turn room =
-      let g = greatest_counter own turn.state.known in
-      turned_by t own (waits_of t notes) now (λ next. TurnsOn (app ∷ apps) turn (over next apps)) turn app
+  sweeps_on : (apps : List AppId) → AreBelow (app_count t) apps → (sweep : Sweep) → greatest_counter own sweep.state.known + length apps ≤ MAX_COUNTER → SweepsOn apps sweep (over sweep apps)
+  sweeps_on [] below sweep room = record { ops = []; passed = []; ops_are = sym (append-nil sweep.ops); passed_are = sym (append-nil sweep.passed); words = (refl, refl) }
+  sweeps_on (app ∷ apps) below sweep room =
+      let g = greatest_counter own sweep.state.known in
+      swept_by t own (waits_of t notes) now (λ next. SweepsOn (app ∷ apps) sweep (over next apps)) sweep app
       (λ none.
-      let rest = turns_on apps below.1 turn (less_room g (length apps) MAX_COUNTER room) in
-      record { ops = rest.ops; passed = rest.passed; ops_are = rest.ops_are; passed_are = rest.passed_are; words = inl (not_mine_in_words turn.state app below.0 none, rest.words) })
+      let rest = sweeps_on apps below.1 sweep (less_room g (length apps) MAX_COUNTER room) in
+      record { ops = rest.ops; passed = rest.passed; ops_are = rest.ops_are; passed_are = rest.passed_are; words = inl (not_mine_in_words sweep.state app below.0 none, rest.words) })
       (λ mine used.
-      let rest = turns_on apps below.1 (passing turn app) (less_room g (length apps) MAX_COUNTER room) in
+      let rest = sweeps_on apps below.1 (passing sweep app) (less_room g (length apps) MAX_COUNTER room) in
       record {
         ops = rest.ops;
         passed = app ∷ rest.passed;
         ops_are = rest.ops_are;
-        passed_are = rest.passed_are ∙ append_assoc turn.passed (app ∷ []) rest.passed;
-        words = inr (inr (verdict_of t turn.state app, rest.passed, (refl, (mine_in_words turn.state app below.0 mine, ((terms_used_up_is turn.state app).0 used, rest.words)))));
+        passed_are = rest.passed_are ∙ append_assoc sweep.passed (app ∷ []) rest.passed;
+        words = inr (inr (verdict_of t sweep.state app, rest.passed, (refl, (mine_in_words sweep.state app below.0 mine, ((terms_used_up_is sweep.state app).0 used, rest.words)))));
       })
       (λ mine left.
-      let o = claim_of t own turn.state app in
-      let rest = turns_on apps below.1 (claiming turn o)
-      (room_after g (length apps) MAX_COUNTER (greatest_counter own (claiming turn o).state.known) (counter_after own turn.state o.act (claim_is_bare turn.state app (verdict_of t turn.state app))) room) in
-      let is = mine_in_words turn.state app below.0 mine in
+      let o = claim_of t own sweep.state app in
+      let rest = sweeps_on apps below.1 (claiming sweep o)
+      (room_after g (length apps) MAX_COUNTER (greatest_counter own (claiming sweep o).state.known) (counter_after own sweep.state o.act (claim_is_bare sweep.state app (verdict_of t sweep.state app))) room) in
+      let is = mine_in_words sweep.state app below.0 mine in
       record {
         ops = o ∷ rest.ops;
         passed = rest.passed;
-        ops_are = rest.ops_are ∙ append_assoc turn.ops (o ∷ []) rest.ops;
+        ops_are = rest.ops_are ∙ append_assoc sweep.ops (o ∷ []) rest.ops;
         passed_are = rest.passed_are;
         words = inr (inl (
-          verdict_of t turn.state app,
+          verdict_of t sweep.state app,
           o,
           rest.ops,
-          (refl, (is, (claim_in_words t own turn.state app (counter_left g (length apps) MAX_COUNTER room) left is.candidate, rest.words))),
+          (refl, (is, (claim_in_words t own sweep.state app (counter_left g (length apps) MAX_COUNTER room) left is.candidate, rest.words))),
         ));
       })
 
-  pub turn_in_words : (s : StateValue) → HasRoom t own s → let turn = turn_of t own (waits_of t notes) now s in IsTurn t own notes now s (apps_of t) turn.ops turn.passed
-  turn_in_words s room =
-      let all = turns_on (apps_of t) (apps_below 0 (app_count t) (app_count t) (omega arith)) (turn_from s) (subst (λ n. greatest_counter own s.known + n ≤ MAX_COUNTER) (sym (length-map-range_with_len numbered 0 (app_count t))) room) in
-      let ops_are : (turn_of t own (waits_of t notes) now s).ops ≡ all.ops = all.ops_are in
-      let passed_are : (turn_of t own (waits_of t notes) now s).passed ≡ all.passed = all.passed_are in
-      subst (λ ops. IsTurn t own notes now s (apps_of t) ops (turn_of t own (waits_of t notes) now s).passed) (sym ops_are)
-      (subst (λ passed. IsTurn t own notes now s (apps_of t) all.ops passed) (sym passed_are) all.words)
+  pub sweep_in_words : (s : StateValue) → HasRoom t own s → let sweep = sweep_of t own (waits_of t notes) now s in IsSweep t own notes now s (apps_of t) sweep.ops sweep.passed
+  sweep_in_words s room =
+      let all = sweeps_on (apps_of t) (apps_below 0 (app_count t) (app_count t) (omega arith)) (sweep_from s) (subst (λ n. greatest_counter own s.known + n ≤ MAX_COUNTER) (sym (length-map-range_with_len numbered 0 (app_count t))) room) in
+      let ops_are : (sweep_of t own (waits_of t notes) now s).ops ≡ all.ops = all.ops_are in
+      let passed_are : (sweep_of t own (waits_of t notes) now s).passed ≡ all.passed = all.passed_are in
+      subst (λ ops. IsSweep t own notes now s (apps_of t) ops (sweep_of t own (waits_of t notes) now s).passed) (sym ops_are)
+      (subst (λ passed. IsSweep t own notes now s (apps_of t) all.ops passed) (sym passed_are) all.words)

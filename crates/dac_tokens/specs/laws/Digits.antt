@@ -1,10 +1,10 @@
--- Numbers by their digits, for a loop over the digits that stops where a number is too large.
+-- The value of digits, for a loop that stops once a number is too large.
 use Rattle.std.proofs.Common.{◌≡◌, ℕ, ◌+◌, ◌-◌, ◌*◌, ◌<◌, ◌≤◌, cond, ltb, None, Some, List, [], ◌∷◌, length, get_or, drop, refl, sym, ap, ◌∙◌, arith, add-one, drop-cons}
 use Rattle.std.proofs.lemmas.Bool.{le-ltb, lt-ltb}
 use Rattle.std.proofs.lemmas.List.{drop_all}
 use Rattle.dac_tokens.specs.Digits.{value_from}
 
--- the number only grows
+-- a value never decreases with more digits
 value_from-le : (n : ℕ) (digits : List ℕ) → n ≤ value_from n digits
 value_from-le n [] = omega arith
 value_from-le n (digit ∷ digits) = omega (arith, value_from-le (10 * n + (digit - 48)) digits)
@@ -12,15 +12,15 @@ value_from-le n (digit ∷ digits) = omega (arith, value_from-le (10 * n + (digi
 value_more : (n i : ℕ) (digits : List ℕ) → i < length digits → value_from n (drop i digits) ≡ value_from (10 * n + (get_or digits i 0 - 48)) (drop (i + 1) digits)
 value_more n i digits lt = rw (add-one, drop-cons digits i 0) refl
 
--- what is read so far isn't above the number
+-- the value of the digits read so far is at most the number
 pub not_less : (n i v : ℕ) (digits : List ℕ) → i < length digits → value_from n (drop i digits) ≡ v → 10 * n + (get_or digits i 0 - 48) ≤ v
 not_less n i v digits lt e = omega (arith, sym e ∙ value_more n i digits lt, value_from-le (10 * n + (get_or digits i 0 - 48)) (drop (i + 1) digits))
 
--- what is read at the end is the number
+-- the value of all digits is the number
 pub is_done : (n i v : ℕ) (digits : List ℕ) → length digits ≤ i → value_from n (drop i digits) ≡ v → n ≡ v
 is_done n i v digits le e = ap (value_from n) (sym (drop_all i digits le)) ∙ e
 
--- what is answered for a number that is too large, and for any other
+-- the result for a number that is too large; `small_enough` has it for any other
 pub too_large : (v limit : ℕ) → limit ≤ v → None ≡ cond (ltb v limit) (Some v) None
 too_large v limit le = rw (le-ltb v limit le) refl
 

@@ -1,4 +1,4 @@
--- What the tests of the bytes of a bare atom decide.
+-- Tests of bytes decide the grammar's classes of the bytes of a bare atom.
 use Rattle.std.proofs.Common.{ℕ, leb, arith}
 use Rattle.std.specs.Bool.{Decides}
 use Rattle.std.specs.Char.{is_ascii_lowercase, IsAsciiLowercase}

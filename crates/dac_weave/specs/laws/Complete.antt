@@ -1,6 +1,6 @@
--- Where no journal's next record can be placed after these events, no list of events gives a front of a journal that
--- is longer. A record's answer depends on its node's records before it alone, and a message that some run of fronts
--- ships is in a front, so what can be placed stays so.
+-- If no journal's next record can be placed after es, no run reproduces a longer prefix of any journal. A result
+-- depends only on earlier records of its node, and a message shipped by any run of prefixes is shipped by some prefix,
+-- so a record that can be placed stays placeable.
 use Rattle.std.proofs.Common.{◌≡◌, ℕ, zero, suc, true, false, cond, inl, inr, ◌⊎◌, List, [], ◌∷◌, ◌++◌, Option, Some, None, Ok, map, nat_eq, refl, sym, ap, subst, ◌∙◌, true≢false, eq-eqb, append-nil, append_assoc}
 use Rattle.std.proofs.lemmas.List.{append_cancel_left}
 use Rattle.std.proofs.lemmas.Map.Views.{exact_unsigned_eq}
@@ -16,14 +16,14 @@ use Rattle.dac_journal.specs.Histories.{off_after}
 use Rattle.dac_journal.specs.ModelWorld.{ModelWorld, start, happens, event_of, heard_by, handed_by, counted}
 use Rattle.dac_journal.specs.declared.record.Record.{Record}
 use Rattle.dac_journal.specs.Journals.{JournalValue}
-use Rattle.dac_weave.specs.Woven.{Seen, seen_of, seen_at, seen_in, as_seen, journal_seen, At, IsFrontOf, HasNone, GivesFronts}
+use Rattle.dac_weave.specs.Woven.{Seen, seen_of, seen_at, seen_in, as_seen, journal_seen, At, IsPrefixOf, HasNone, ReproducesPrefixes}
 use Rattle.dac_journal.specs.EveryList.{run_from}
 use Rattle.dac_weave.specs.Replay.{node_step, replayed}
 use Rattle.dac_weave.specs.laws.Members.{IsMember, in-from_counted, counted-from_in}
 use Rattle.dac_weave.specs.laws.Runs.{node-after, count-after, seen-append, steps_node, outs, outs-front, sent, from, grows, shipped_of, issued_of}
 
--- ---- which world event is a node's event
--- what was shipped and issued in one world was so in another
+-- ---- the world event that is a node's event
+-- every message and operation of world w is also in v
 pub record Has (w v : ModelWorld) : Type 0 where
   pub messages : (m : Message) → IsMember m w.messages → IsMember m v.messages
   pub operations : (o : Operation) → IsMember o w.operations → IsMember o v.operations
@@ -36,7 +36,7 @@ handed-from : (o : Option Operation) (e : Event) → handed_by o ≡ Ok e → (p
 handed-from None e h = cc
 handed-from (Some p) e h = (p, refl)
 
--- what names an event in the one world is so named in the other
+-- an event that has a name in w has one in v
 pub named_still : (w v : ModelWorld) → Has w v → (what : What) (e : Event) → event_of w.operations w.messages what ≡ Ok e → (other : What) × (event_of v.operations v.messages other ≡ Ok e)
 named_still w v has (Boots now) e h = (Boots now, h)
 named_still w v has Crashes e h = (Crashes, h)
@@ -74,15 +74,15 @@ has_journal (b ∷ js) n =
     apart e none zero j at is = true≢false (sym (eq-eqb b.beginning.node.0 n.0 (number b j at ∙ ap (λ (k : NodeId). k.0) is)) ∙ e)
     apart e none (suc i) j at is = none i j at is
 
--- ---- what a journal's node saw are records
+-- ---- events seen at a journal's node are records
 journal_seen-record : (rs : List Record) (xs : List Seen) (x : Seen) (ys : List Seen) → map as_seen rs ≡ xs ++ x ∷ ys → (r : Record) × (x ≡ as_seen r)
 journal_seen-record [] [] x ys h = cc
 journal_seen-record [] (z ∷ zs) x ys h = cc
 journal_seen-record (r ∷ rs) [] x ys h = (r, cc)
 journal_seen-record (r ∷ rs) (z ∷ zs) x ys h = journal_seen-record rs zs x ys (cc)
 
--- ---- fronts
--- the same list goes on with the same
+-- ---- prefixes
+-- two continuations of one list agree in their next item
 next_same : (a : List Seen) (x y : Seen) (xs ys r s : List Seen) (all : List Seen) → all ≡ (a ++ x ∷ xs) ++ r → all ≡ (a ++ y ∷ ys) ++ s → x ≡ y
 next_same a x y xs ys r s all p q =
     head (append_cancel_left a (x ∷ (xs ++ r)) (y ∷ (ys ++ s)) (sym (append_assoc a (x ∷ xs) r) ∙ (sym p ∙ (q ∙ append_assoc a (y ∷ ys) s))))
@@ -94,18 +94,18 @@ no_more : (a : List Seen) (x : Seen) (xs : List Seen) → a ++ x ∷ xs ≡ [] �
 no_more [] x xs e = cc
 no_more (z ∷ a) x xs e = cc
 
--- ---- the weave's events and where they stand still
+-- ---- the end of the merge
 module _ (t : Table) (js : List JournalValue) (es : List WorldEvent) where
   abbrev pub final : ModelWorld
   final = run_from t (start t) es
 
   -- no journal's next record can be placed
   abbrev pub Stands : Type 0
-  Stands = (i : ℕ) (j : JournalValue) → At js i j → (x : Seen) → IsFrontOf (seen_in t es j.beginning.node ++ x ∷ []) (journal_seen j) → x.answer ≡ (node_step t j.beginning.node (final.node j.beginning.node) x.event).answer → (what : What) → event_of final.operations final.messages what ≡ x.event → ⊥
+  Stands = (i : ℕ) (j : JournalValue) → At js i j → (x : Seen) → IsPrefixOf (seen_in t es j.beginning.node ++ x ∷ []) (journal_seen j) → x.answer ≡ (node_step t j.beginning.node (final.node j.beginning.node) x.event).answer → (what : What) → event_of final.operations final.messages what ≡ x.event → ⊥
 
-  -- another run, no further than this one anywhere
+  -- gs goes no further than es at any node
   abbrev pub Behind : List WorldEvent → Type 0
-  Behind gs = (n : NodeId) → IsFrontOf (seen_in t gs n) (seen_in t es n)
+  Behind gs = (n : NodeId) → IsPrefixOf (seen_in t gs n) (seen_in t es n)
 
   behind_has : (gs : List WorldEvent) → Behind gs → Has (run_from t (start t) gs) final
   behind_has gs behind = record {
@@ -121,16 +121,16 @@ module _ (t : Table) (js : List JournalValue) (es : List WorldEvent) where
     ];
   }
 
-  -- where another run has come as far as this one at a node, the node is the same in both
+  -- a node that has the same events in both runs has the same state
   same_there : (gs : List WorldEvent) (n : NodeId) → seen_in t es n ≡ seen_in t gs n → (run_from t (start t) gs).node n ≡ final.node n
   same_there gs n e =
       node-after t n (start t) gs refl ∙ (ap (replayed t n (off_after 0)) (sym e) ∙ sym (node-after t n (start t) es refl))
 
-  module _ (own : GivesFronts t js es) (stands : Stands) where
-    -- the next event of another run, at its node: this run has it too
+  module _ (own : ReproducesPrefixes t js es) (stands : Stands) where
+    -- the next event of another run that reproduces prefixes, at node n
     record Next (gs : List WorldEvent) (f : WorldEvent) (fs : List WorldEvent) (n : NodeId) : Type 0 where
       pub at : nat_eq f.node.0 n.0 ≡ true
-      pub whole : GivesFronts t js (gs ++ f ∷ fs)
+      pub whole : ReproducesPrefixes t js (gs ++ f ∷ fs)
       pub behind : Behind gs
 
     abbrev world_of : List WorldEvent → ModelWorld
@@ -145,7 +145,7 @@ module _ (t : Table) (js : List JournalValue) (es : List WorldEvent) where
     all_seen : (gs : List WorldEvent) (f : WorldEvent) (fs : List WorldEvent) (n : NodeId) → nat_eq f.node.0 n.0 ≡ true → seen_in t (gs ++ f ∷ fs) n ≡ seen_in t gs n ++ seen_next gs f ∷ later gs f fs n
     all_seen gs f fs n e = seen-append t n (start t) gs (f ∷ fs) ∙ ap (λ b. seen_in t gs n ++ cond b (seen_next gs f ∷ later gs f fs n) (later gs f fs n)) e
 
-    -- it isn't the first that this run lacks
+    -- es goes further than gs at that node
     not_lacking : (gs : List WorldEvent) (f : WorldEvent) (fs : List WorldEvent) (i : ℕ) (j : JournalValue) → At js i j → Next gs f fs j.beginning.node → seen_in t es j.beginning.node ≡ seen_in t gs j.beginning.node → ⊥
     not_lacking gs f fs i j at next same =
         let n = j.beginning.node in
@@ -160,7 +160,7 @@ module _ (t : Table) (js : List JournalValue) (es : List WorldEvent) where
         ◌∙◌ {a = x.answer} (steps_node t n (world_of gs) f (count-after t (start t) gs refl) next.at).answer (ap (λ d. (node_step t n d x.event).answer) (same_there gs n same)) in
         stands i j at x (later gs f fs n ++ r, front) answer named.0 (named.1 ∙ sym (ap (λ (s : Seen). s.event) rec.1))
 
-    at_journal : (gs : List WorldEvent) (f : WorldEvent) (fs : List WorldEvent) (i : ℕ) (j : JournalValue) → At js i j → Next gs f fs j.beginning.node → (left : List Seen) → seen_in t es j.beginning.node ≡ seen_in t gs j.beginning.node ++ left → IsFrontOf (seen_in t gs j.beginning.node ++ seen_next gs f ∷ []) (seen_in t es j.beginning.node)
+    at_journal : (gs : List WorldEvent) (f : WorldEvent) (fs : List WorldEvent) (i : ℕ) (j : JournalValue) → At js i j → Next gs f fs j.beginning.node → (left : List Seen) → seen_in t es j.beginning.node ≡ seen_in t gs j.beginning.node ++ left → IsPrefixOf (seen_in t gs j.beginning.node ++ seen_next gs f ∷ []) (seen_in t es j.beginning.node)
     at_journal gs f fs i j at next [] q = absurd (not_lacking gs f fs i j at next (q ∙ append-nil (seen_in t gs j.beginning.node)))
     at_journal gs f fs i j at next (y ∷ ys) q =
         let n = j.beginning.node in
@@ -170,27 +170,27 @@ module _ (t : Table) (js : List JournalValue) (es : List WorldEvent) where
         let is : x ≡ y = next_same (seen_in t gs n) x y (later gs f fs n) ys theirs.0 mine.0 (journal_seen j) (theirs.1 ∙ ap (λ (xs : List Seen). xs ++ theirs.0) (all_seen gs f fs n next.at)) (mine.1 ∙ ap (λ (xs : List Seen). xs ++ mine.0) q) in
         (ys, q ∙ (ap (λ z. seen_in t gs n ++ z ∷ ys) (sym is) ∙ sym (append_assoc (seen_in t gs n) (x ∷ []) ys)))
 
-    at_node : (gs : List WorldEvent) (f : WorldEvent) (fs : List WorldEvent) (n : NodeId) → Next gs f fs n → IsFrontOf (seen_in t gs n ++ seen_next gs f ∷ []) (seen_in t es n)
+    at_node : (gs : List WorldEvent) (f : WorldEvent) (fs : List WorldEvent) (n : NodeId) → Next gs f fs n → IsPrefixOf (seen_in t gs n ++ seen_next gs f ∷ []) (seen_in t es n)
     at_node gs f fs n next = elim (has_journal js n) [
-      | inl h ↦ subst (λ (m : NodeId). Next gs f fs m → IsFrontOf (seen_in t gs m ++ seen_next gs f ∷ []) (seen_in t es m)) h.1.1.1
+      | inl h ↦ subst (λ (m : NodeId). Next gs f fs m → IsPrefixOf (seen_in t gs m ++ seen_next gs f ∷ []) (seen_in t es m)) h.1.1.1
           (λ (here : Next gs f fs h.1.0.beginning.node). at_journal gs f fs h.0 h.1.0 h.1.1.0 here (here.behind h.1.0.beginning.node).0 (here.behind h.1.0.beginning.node).1) next
       | inr none ↦ absurd (no_more (seen_in t gs n) (seen_next gs f) (later gs f fs n) (sym (all_seen gs f fs n next.at) ∙ next.whole.others n none))
     ]
 
-    behind_more : (gs : List WorldEvent) (f : WorldEvent) (fs : List WorldEvent) → GivesFronts t js (gs ++ f ∷ fs) → Behind gs → Behind (gs ++ f ∷ [])
+    behind_more : (gs : List WorldEvent) (f : WorldEvent) (fs : List WorldEvent) → ReproducesPrefixes t js (gs ++ f ∷ fs) → Behind gs → Behind (gs ++ f ∷ [])
     behind_more gs f fs whole behind n =
-        elim (nat_eq f.node.0 n.0) as (λ b. nat_eq f.node.0 n.0 ≡ b → IsFrontOf (seen_in t (gs ++ f ∷ []) n) (seen_in t es n)) [
-          | true ↦ λ e. subst (λ xs. IsFrontOf xs (seen_in t es n)) (sym (all_seen gs f [] n e)) (at_node gs f fs n (record { at = e; whole = whole; behind = behind }))
-          | false ↦ λ e. subst (λ xs. IsFrontOf xs (seen_in t es n))
+        elim (nat_eq f.node.0 n.0) as (λ b. nat_eq f.node.0 n.0 ≡ b → IsPrefixOf (seen_in t (gs ++ f ∷ []) n) (seen_in t es n)) [
+          | true ↦ λ e. subst (λ xs. IsPrefixOf xs (seen_in t es n)) (sym (all_seen gs f [] n e)) (at_node gs f fs n (record { at = e; whole = whole; behind = behind }))
+          | false ↦ λ e. subst (λ xs. IsPrefixOf xs (seen_in t es n))
               (sym (seen-append t n (start t) gs (f ∷ []) ∙ (ap (λ b. seen_in t gs n ++ cond b (seen_next gs f ∷ []) []) e ∙ append-nil (seen_in t gs n)))) (behind n)
         ] refl
 
-    behind_all : (gs fs : List WorldEvent) → GivesFronts t js (gs ++ fs) → Behind gs → Behind (gs ++ fs)
+    behind_all : (gs fs : List WorldEvent) → ReproducesPrefixes t js (gs ++ fs) → Behind gs → Behind (gs ++ fs)
     behind_all gs [] whole behind = subst Behind (sym (append-nil gs)) behind
     behind_all gs (f ∷ fs) whole behind =
         let same : (gs ++ f ∷ []) ++ fs ≡ gs ++ f ∷ fs = append_assoc gs (f ∷ []) fs in
-        subst Behind same (behind_all (gs ++ f ∷ []) fs (subst (GivesFronts t js) (sym same) whole) (behind_more gs f fs whole behind))
+        subst Behind same (behind_all (gs ++ f ∷ []) fs (subst (ReproducesPrefixes t js) (sym same) whole) (behind_more gs f fs whole behind))
 
-    -- no run of fronts goes further anywhere
-    pub furthest : (fs : List WorldEvent) → GivesFronts t js fs → (n : NodeId) → IsFrontOf (seen_in t fs n) (seen_in t es n)
+    -- no run of prefixes goes further at any node
+    pub furthest : (fs : List WorldEvent) → ReproducesPrefixes t js fs → (n : NodeId) → IsPrefixOf (seen_in t fs n) (seen_in t es n)
     furthest fs whole = behind_all [] fs whole (λ n. (seen_in t es n, refl))

@@ -1,5 +1,5 @@
--- What each node records of a run is what it sees of it, without the events that name no node, no message or no
--- operation. A list without these events gives what the list with them records.
+-- The records of a run are its seen events without those that name no node, message or operation. Dropping these events
+-- from the list changes no record.
 use Rattle.std.proofs.Common.{◌≡◌, ℕ, Bool, true, false, cond, inl, inr, List, [], ◌∷◌, ◌++◌, Option, Some, None, Result, Ok, Err, map, nat_eq, refl, sym, ap, subst, ◌∙◌}
 use Rattle.std.specs.Prelude.{nat_lt}
 use Rattle.std.proofs.lemmas.Bool.{cases_eq, ne_eqb}
@@ -22,7 +22,7 @@ use Rattle.dac_journal.specs.laws.Memory.{enough_memory}
 use Rattle.dac_journal.specs.laws.Runs.{went_as_answered}
 use Rattle.dac_journal.specs.declared.record.Record.{Record}
 use Rattle.dac_journal.specs.Journals.{JournalValue, entry_of}
-use Rattle.dac_weave.specs.Woven.{Seen, seen_of, seen_at, as_seen, worldly, Gives}
+use Rattle.dac_weave.specs.Woven.{Seen, seen_of, seen_at, as_seen, as_world_result, Gives}
 use Rattle.dac_weave.specs.Recording.{IsRecorded}
 
 -- ---- small facts
@@ -40,16 +40,16 @@ unnamed : (answer : Option (Result Reply Refusal)) (fault : WorldFault) → reco
 unnamed None fault = refl
 unnamed (Some answer) fault = refl
 
-own-worldly : (a : Result Reply Refusal) → (a ≡ Err NoMemory → ⊥) → own_answer (worldly a) ≡ Some a
-own-worldly (Ok x) h = refl
-own-worldly (Err NoMemory) h = absurd (h refl)
-own-worldly (Err why) h = refl
+own-as_world_result : (a : Result Reply Refusal) → (a ≡ Err NoMemory → ⊥) → own_answer (as_world_result a) ≡ Some a
+own-as_world_result (Ok x) h = refl
+own-as_world_result (Err NoMemory) h = absurd (h refl)
+own-as_world_result (Err why) h = refl
 
-answered-worldly : (w : ModelWorld) (n : NodeId) (d : ModelNode) (a : Result Reply Refusal) → (answered_by w n d a).answer ≡ worldly a
-answered-worldly w n d (Ok x) = refl
-answered-worldly w n d (Err x) = refl
+answered-as_world_result : (w : ModelWorld) (n : NodeId) (d : ModelNode) (a : Result Reply Refusal) → (answered_by w n d a).answer ≡ as_world_result a
+answered-as_world_result w n d (Ok x) = refl
+answered-as_world_result w n d (Err x) = refl
 
--- ---- what is recorded of what is seen
+-- ---- records of seen events
 abbrev entries_of : List Seen → List Entry
 entries_of [] = []
 entries_of (x ∷ xs) = recorded (own_answer x.answer) x.event ++ entries_of xs
@@ -69,7 +69,7 @@ records-seen t n w (e ∷ es) =
     ∙ (ap (λ b. cond b (recorded (own_answer x.answer) x.event) [] ++ entries_of rest) (eq-flip n.0 e.node.0)
     ∙ seen-first (nat_eq e.node.0 n.0) x rest))
 
--- memory is never refused
+-- no step fails for lack of memory
 abbrev AllEnough : List Seen → Type 0
 AllEnough [] = Unit {0}
 AllEnough (x ∷ xs) = (x.answer ≡ out_of_memory → ⊥) × AllEnough xs
@@ -87,10 +87,10 @@ enough-seen t n w (e ∷ es) =
 entries-journal_seen : (rs : List Record) → AllEnough (map as_seen rs) → entries_of (map as_seen rs) ≡ map entry_of rs
 entries-journal_seen [] h = refl
 entries-journal_seen (r ∷ rs) h =
-    ap (λ o. recorded o (Ok r.event) ++ entries_of (map as_seen rs)) (own-worldly r.answer (λ e. h.0 (ap worldly e)))
+    ap (λ o. recorded o (Ok r.event) ++ entries_of (map as_seen rs)) (own-as_world_result r.answer (λ e. h.0 (ap as_world_result e)))
     ∙ ap (λ (xs : List Entry). entry_of r ∷ xs) (entries-journal_seen rs h.1)
 
--- what a run gives it records
+-- a run that reproduces journals records them
 pub gives-recorded : (t : Table) (js : List JournalValue) (es : List WorldEvent) → Gives t js es → IsRecorded t js es
 gives-recorded t js es g = record {
   fit = g.fit;
@@ -100,7 +100,7 @@ gives-recorded t js es g = record {
   others = λ n none. records-seen t n (start t) es ∙ ap entries_of (g.others n none);
 }
 
--- ---- without the events that name nothing
+-- ---- dropping events that name nothing
 abbrev kept_by : Bool → Result Event WorldFault → WorldEvent → List WorldEvent → List WorldEvent
 kept_by false what e es = es
 kept_by true (Err fault) e es = es
@@ -110,9 +110,9 @@ abbrev pub kept : Table → ModelWorld → List WorldEvent → List WorldEvent
 kept t w [] = []
 kept t w (e ∷ es) = kept_by (nat_lt e.node.0 w.count) (event_of w.operations w.messages e.what) e (kept t (happens t w e).world es)
 
--- an entry, as its node saw it
+-- an entry as an event seen in a run
 abbrev seen_entry : Entry → Seen
-seen_entry x = record { event = Ok x.event; answer = worldly x.answer }
+seen_entry x = record { event = Ok x.event; answer = as_world_result x.answer }
 
 kept-first : (b : Bool) (x : Entry) (xs : List Entry) → cond b (seen_entry x ∷ map seen_entry xs) (map seen_entry xs) ≡ map seen_entry (cond b (x ∷ []) [] ++ xs)
 kept-first true x xs = refl
@@ -128,7 +128,7 @@ module _ (t : Table) (n : NodeId) (w : ModelWorld) (e : WorldEvent) (es : List W
   abbrev nowhere : WorldStepped
   nowhere = record { world = w; answer = Err NoSuchNode }
 
-  -- an event that changes nothing and of which nothing is recorded
+  -- an event that changes nothing and isn't recorded can be dropped
   drops : by.world ≡ w → records_of n w e by.answer ≡ [] → seen_at t n by.world es ≡ map seen_entry rest → seen_at t n w es ≡ map seen_entry (records_of n w e by.answer ++ rest)
   drops same none h = ap (λ v. seen_at t n v es) (sym same) ∙ (h ∙ ap (λ (xs : List Entry). map seen_entry (xs ++ rest)) (sym none))
 
@@ -149,8 +149,8 @@ module _ (t : Table) (n : NodeId) (w : ModelWorld) (e : WorldEvent) (es : List W
   keeps x there named h =
       let st = model_step t e.node (w.node e.node) x in
       let is : by ≡ happens_by t w e.node (Ok x) = ap (λ b. cond b (happens_by t w e.node what) nowhere) there ∙ ap (happens_by t w e.node) named in
-      let answer : by.answer ≡ worldly st.answer = ap (λ (s : WorldStepped). s.answer) is ∙ answered-worldly w e.node st.node st.answer in
-      let own : own_answer by.answer ≡ Some st.answer = ap own_answer answer ∙ own-worldly st.answer (λ bad. enough_memory t w e (answer ∙ ap worldly bad)) in
+      let answer : by.answer ≡ as_world_result st.answer = ap (λ (s : WorldStepped). s.answer) is ∙ answered-as_world_result w e.node st.node st.answer in
+      let own : own_answer by.answer ≡ Some st.answer = ap own_answer answer ∙ own-as_world_result st.answer (λ bad. enough_memory t w e (answer ∙ ap as_world_result bad)) in
       let entry : Entry = record { event = x; answer = st.answer } in
       let first : records_of n w e by.answer ≡ cond (nat_eq n.0 e.node.0) (entry ∷ []) [] =
       ap (λ o. cond (nat_eq n.0 e.node.0) (recorded o what) []) own ∙ ap (λ y. cond (nat_eq n.0 e.node.0) (recorded (Some st.answer) y) []) named in
@@ -183,7 +183,7 @@ entries-seen : (rs : List Record) → map seen_entry (map entry_of rs) ≡ map a
 entries-seen [] = refl
 entries-seen (r ∷ rs) = ap (λ (xs : List Seen). as_seen r ∷ xs) (entries-seen rs)
 
--- what a run records is given by the run of those of its events that name something
+-- if a run records the journals, the run of its events that name something reproduces them
 pub recorded-gives : (t : Table) (js : List JournalValue) (es : List WorldEvent) → IsRecorded t js es → Gives t js (kept t (start t) es)
 recorded-gives t js es h = record {
   fit = h.fit;

@@ -1,5 +1,5 @@
--- A run of the world, seen from each node: what a node sees makes its state and its answers, and what all nodes
--- see makes what was issued and shipped.
+-- A run seen from each node: a node's own events determine its state and results, and the events of all nodes determine
+-- the operations and messages.
 use Rattle.std.proofs.Common.{◌≡◌, ℕ, Bool, true, false, cond, inl, inr, ◌⊎◌, List, [], ◌∷◌, ◌++◌, Result, Ok, Err, nat_eq, refl, sym, ap, subst, ◌∙◌, true≢false, eq-eqb, append-nil}
 use Rattle.std.specs.Prelude.{nat_lt}
 use Rattle.std.proofs.lemmas.Map.Views.{exact_unsigned_eq}
@@ -25,7 +25,7 @@ use Rattle.dac_weave.specs.laws.Members.{IsMember, In-left, In-right, In-cases, 
 same_node : (m n : NodeId) → nat_eq m.0 n.0 ≡ true → m ≡ n
 same_node m n e = ap (λ (k : ℕ). record { 0 = k }) (exact_unsigned_eq m.0 n.0 e)
 
--- what a world's step does at the node where it happens
+-- the world's step agrees with the node's step at the node where it happens
 record Matches (w : ModelWorld) (n : NodeId) (s : WorldStepped) (d : NodeStepped) : Type 0 where
   pub answer : s.answer ≡ d.answer
   pub here : s.world.node n ≡ d.node
@@ -60,7 +60,7 @@ matches t w e c =
     by true = matches_by t w e.node (event_of w.operations w.messages e.what)
     by false = record { answer = refl; here = refl; others = λ m h. refl; count = refl }
 
--- the step of node n, where the event is n's
+-- the event is a step of node n
 pub record StepsNode (t : Table) (n : NodeId) (w : ModelWorld) (e : WorldEvent) : Type 0 where
   pub answer : (seen_of t w e).answer ≡ (node_step t n (w.node n) (seen_of t w e).event).answer
   pub node : (happens t w e).world.node n ≡ (node_step t n (w.node n) (seen_of t w e).event).node
@@ -74,7 +74,7 @@ pub count-after : (t : Table) (w : ModelWorld) (es : List WorldEvent) → w.coun
 count-after t w [] c = c
 count-after t w (e ∷ es) c = count-after t (happens t w e).world es ((matches t w e c).count ∙ c)
 
--- ---- a node sees what makes its state
+-- ---- a node's events determine its state
 pub node-after : (t : Table) (n : NodeId) (w : ModelWorld) (es : List WorldEvent) → w.count ≡ node_count t → (run_from t w es).node n ≡ replayed t n (w.node n) (seen_at t n w es)
 node-after t n w [] c = refl
 node-after t n w (e ∷ es) c =
@@ -86,7 +86,7 @@ node-after t n w (e ∷ es) c =
       | false ↦ λ h. ap (λ d. replayed t n d rest) ((matches t w e c).others n h)
     ] refl)
 
--- and each of its answers
+-- a node's events determine its results
 pub history-after : (t : Table) (n : NodeId) (w : ModelWorld) (es : List WorldEvent) → w.count ≡ node_count t → AreAnswered t n (w.node n) (seen_at t n w es)
 history-after t n w [] c = tt
 history-after t n w (e ∷ es) c =
@@ -98,7 +98,7 @@ history-after t n w (e ∷ es) c =
       | false ↦ λ h. subst (λ d. AreAnswered t n d rest) ((matches t w e c).others n h) later
     ] refl
 
--- ---- a run and then more
+-- ---- a run and its continuation
 pub run-append : (t : Table) (w : ModelWorld) (es fs : List WorldEvent) → run_from t w (es ++ fs) ≡ run_from t (run_from t w es) fs
 run-append t w [] fs = refl
 run-append t w (e ∷ es) fs = run-append t (happens t w e).world es fs
@@ -122,7 +122,7 @@ pub AreAnswered-push : (t : Table) (n : NodeId) (d : ModelNode) (xs : List Seen)
 AreAnswered-push t n d [] y h e = (e, tt)
 AreAnswered-push t n d (x ∷ xs) y h e = (h.0, AreAnswered-push t n (node_step t n d x.event).node xs y h.1 e)
 
--- ---- what goes out, of messages or of operations
+-- ---- output, of messages or of operations
 module _ {X : Type 0} (t : Table) (out : Result Reply WorldFault → List X) (all : ModelWorld → List X) (grows : (w : ModelWorld) (e : WorldEvent) → all (happens t w e).world ≡ all w ++ out (happens t w e).answer) where
   abbrev pub outs : List Seen → List X
   outs [] = []

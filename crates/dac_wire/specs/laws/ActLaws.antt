@@ -1,4 +1,4 @@
--- Operations in form and their spellings are one to one.
+-- The codec of operations.
 use Rattle.std.specs.Prelude.{◌≡◌, ℕ, ◌+◌, ◌<◌, ◌≤◌, ◌^◌, Bool, true, List, ◌++◌, Option, None, Some, is_none, Ok, refl}
 use Rattle.std.specs.Int.{w8, w16}
 use Rattle.std.proofs.Common.{sym, ap, subst, arith, append_assoc}
@@ -23,7 +23,7 @@ use Rattle.dac_bytes.specs.Reading.{Rest, number_at, range_at, counter_at, origi
 use Rattle.dac_bytes.specs.Spelling.{dot_bytes, origin_bytes}
 use Rattle.dac_bytes.specs.Takes.{IsCodec, Passes, Takes, TakesAs, Again}
 use Rattle.dac_bytes.specs.laws.Takes.{Takes-none, TakesAs-made, Again-made, ok_is}
-use Rattle.dac_part_bytes.specs.ChainForm.{IsFromFor}
+use Rattle.dac_part_bytes.specs.ChainForm.{IsConsistentOrigin}
 use Rattle.dac_part_bytes.specs.KeyedForm.{IsKey, IsKeyAbove}
 use Rattle.dac_part_bytes.specs.Reading.{app_at, key_above_at, manner_at, is_listed}
 use Rattle.dac_part_bytes.specs.Spelling.{app_bytes, key_bytes, manner_bytes}
@@ -66,7 +66,7 @@ module _ (version : Version) (nodes : ℕ) (fields : FieldCodecs version nodes) 
       (counted_codec dots_total itself (IsDot version nodes) (dot_above_at version nodes) (number_at w16) u16_bytes (dot_bytes version) IsCount fields.u16 fields.dot_above)
       (AreOver version nodes) over_is dots_are
 
-  -- ---- what a permit says
+  -- ---- the value of a permit
 
   abbrev value_bytes : Bool → List ℕ
   value_bytes value = u8_bytes (value_code value)
@@ -96,7 +96,7 @@ module _ (version : Version) (nodes : ℕ) (fields : FieldCodecs version nodes) 
   term_and_manner_bytes c = u64_bytes c.0 ++ manner_bytes c.1.0 c.1.1
 
   abbrev IsTermAndManner : TermAndManner → Type 0
-  IsTermAndManner c = ((1 ≤ c.0) × (c.0 ≤ MAX_COUNTER)) × IsFromFor nodes c.1.0 c.1.1
+  IsTermAndManner c = ((1 ≤ c.0) × (c.0 ≤ MAX_COUNTER)) × IsConsistentOrigin nodes c.1.0 c.1.1
 
 regroup : (a b c : List ℕ) → a ++ (b ++ c) ≡ (a ++ b) ++ c
 regroup a b c = sym (append_assoc a b c)
@@ -112,7 +112,7 @@ module _ (version : Version) (t : Table) (parts : PartCodecs version t) where
   abbrev fields : FieldCodecs version nodes
   fields = parts.fields
 
-  -- a key alone
+  -- a key without a previous one
   key_codec : IsCodec (key_above_at version t None) (key_bytes version) (IsKey version t)
   key_codec = codec_same (key_above_at version t None) (key_bytes version) (IsKeyAbove version t None) (parts.key None) (IsKey version t) (λ key is. is.0) (λ key is. (is, refl))
 
@@ -158,7 +158,7 @@ module _ (version : Version) (t : Table) (parts : PartCodecs version t) where
   unfolding term_and_manner_at
   term_and_manner_codec =
       codec_pair counter_at u64_bytes (λ n. (1 ≤ n) × (n ≤ MAX_COUNTER)) fields.counter
-      (λ _ r. manner_at nodes r) (λ _ (m : How × Option NodeId). manner_bytes m.0 m.1) (λ _ m. IsFromFor nodes m.0 m.1) (λ _ _. parts.manner)
+      (λ _ r. manner_at nodes r) (λ _ (m : How × Option NodeId). manner_bytes m.0 m.1) (λ _ m. IsConsistentOrigin nodes m.0 m.1) (λ _ _. parts.manner)
 
   abbrev claim_bytes : ClaimFields → List ℕ
   claim_bytes c = app_bytes c.0 ++ term_and_manner_bytes version nodes fields c.1
@@ -257,7 +257,8 @@ module _ (version : Version) (t : Table) (parts : PartCodecs version t) where
   abbrev is_sound : Operation → Bool
   is_sound o = is_none (fault_of o.dot o.act)
 
-  -- What is read as an operation is its one spelling and in form, and one in form is read from its spelling.
+  -- An operation that is read is well-formed, with these bytes as its spelling, and each well-formed one is read from
+  -- its spelling.
   pub operation_codec : IsCodec (operation_at version t) (operation_bytes version) (IsOperation version t)
   unfolding operation_at
   operation_codec =

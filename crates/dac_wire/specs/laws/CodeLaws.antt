@@ -1,4 +1,4 @@
--- Codes and what they stand for are one to one.
+-- Codes correspond one to one to kinds and values.
 use Rattle.std.specs.Prelude.{◌≡◌, ℕ, zero, suc, ◌≤◌, Bool, true, false, List, Option, None, Some, refl}
 use Rattle.std.specs.Int.{w8}
 use Rattle.std.proofs.Common.{ap, subst, arith}
@@ -19,7 +19,6 @@ use Rattle.dac_wire.specs.declared.codes.ActKind.TheVariants.{Up, Down, Permit, 
 use Rattle.dac_bytes.specs.declared.version.Version.{Version}
 use Rattle.dac_bytes.specs.declared.version.Version.TheVariants.{One, Two}
 
--- a number within bounds
 abbrev IsFrom : ℕ → ℕ → ℕ → Type 0
 IsFrom low high n = (low ≤ n) × (n ≤ high)
 
@@ -101,7 +100,7 @@ act_kind_codec version nodes fields =
     codec_made (range_at w8 1 high) u8_bytes (IsFrom 1 high) (fields.u8_in 1 high (omega arith)) act_of_code act_kind_bytes (IsKindIn version)
     (λ n is. let same = act_number n (is.0, omega (arith, is.1)) in (ap u8_bytes same, subst (λ m. m ≤ high) same is.1)) (λ kind is. (act_code kind, (act_first kind, is), act_back kind))
 
--- ---- what a permit or a drain says
+-- ---- the value of a permit or a drain
 
 pub value_number : (n : ℕ) → n ≤ 1 → n ≡ value_code (value_of_code n)
 value_number zero h = refl

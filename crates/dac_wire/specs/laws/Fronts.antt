@@ -1,4 +1,4 @@
--- What is wrong with the front of some bytes, test by test.
+-- The fault in the front of bytes, test by test.
 use Rattle.std.specs.Prelude.{◌≡◌, ℕ, ◌<◌, ◌≤◌, Bool, true, false, not, cond, nat_eq, nat_lt, List, [], ◌∷◌, ◌++◌, length, drop, Option, None, Some, refl}
 use Rattle.std.proofs.Common.{ap, ◌∙◌, arith}
 use Rattle.std.proofs.lemmas.Bool.{lt-ltb, le-ltb, ltb-false}
@@ -14,10 +14,10 @@ use Rattle.dac_wire.specs.declared.coding.TheConstants.{PREAMBLE}
 use Rattle.dac_wire.specs.declared.fault.WireFault.{WireFault}
 use Rattle.dac_wire.specs.declared.fault.WireFaultKind.TheVariants.{TooLong, BadMagic, BadVersion, OtherConfig, Short, NoMemory}
 use Rattle.dac_wire.specs.declared.packet.TheConstants.{MAX_MESSAGE}
-use Rattle.dac_wire.specs.Decoding.{front_fault, version_in, wrong}
+use Rattle.dac_wire.specs.Decoding.{preamble_fault, version_in, wrong}
 use Rattle.dac_wire.specs.Spelling.{version_byte, name_bytes, mark_of, preamble_bytes}
 
--- the name of the format, and its version
+-- the format's name, and then its version
 abbrev name : List ℕ
 name = 68 ∷ 65 ∷ 67 ∷ []
 
@@ -25,41 +25,41 @@ abbrev name_and_version : Version → List ℕ
 name_and_version version = 68 ∷ 65 ∷ 67 ∷ version_byte version ∷ []
 
 module _ (version : Version) (t : Table) (bytes : List ℕ) where
-  pub too_long : MAX_MESSAGE < length bytes → front_fault version t bytes ≡ wrong TooLong MAX_MESSAGE
-  unfolding front_fault
+  pub too_long : MAX_MESSAGE < length bytes → preamble_fault version t bytes ≡ wrong TooLong MAX_MESSAGE
+  unfolding preamble_fault
   too_long long = rw (lt-ltb MAX_MESSAGE (length bytes) long) refl
 
   module _ (short : length bytes ≤ MAX_MESSAGE) where
-    pub bad_magic : starts_with nat_eq bytes name ≡ false → front_fault version t bytes ≡ wrong BadMagic 0
-    unfolding front_fault
+    pub bad_magic : starts_with nat_eq bytes name ≡ false → preamble_fault version t bytes ≡ wrong BadMagic 0
+    unfolding preamble_fault
     bad_magic p = rw (le-ltb MAX_MESSAGE (length bytes) short, p) refl
 
     module _ (named : starts_with nat_eq bytes name ≡ true) where
-      pub bad_version : starts_with nat_eq bytes (name_and_version version) ≡ false → front_fault version t bytes ≡ wrong BadVersion 3
-      unfolding front_fault
+      pub bad_version : starts_with nat_eq bytes (name_and_version version) ≡ false → preamble_fault version t bytes ≡ wrong BadVersion 3
+      unfolding preamble_fault
       bad_version p = rw (le-ltb MAX_MESSAGE (length bytes) short, named, p) refl
 
       module _ (versioned : starts_with nat_eq bytes (name_and_version version) ≡ true) where
-        pub no_mark : length bytes < PREAMBLE → front_fault version t bytes ≡ wrong Short 4
-        unfolding front_fault
+        pub no_mark : length bytes < PREAMBLE → preamble_fault version t bytes ≡ wrong Short 4
+        unfolding preamble_fault
         no_mark p = rw (le-ltb MAX_MESSAGE (length bytes) short, named, versioned, lt-ltb (length bytes) PREAMBLE p) refl
 
         module _ (marked : PREAMBLE ≤ length bytes) where
-          pub other_config : starts_with nat_eq bytes (preamble_bytes version t) ≡ false → front_fault version t bytes ≡ wrong OtherConfig 4
-          unfolding front_fault
+          pub other_config : starts_with nat_eq bytes (preamble_bytes version t) ≡ false → preamble_fault version t bytes ≡ wrong OtherConfig 4
+          unfolding preamble_fault
           other_config p = rw (le-ltb MAX_MESSAGE (length bytes) short, named, versioned, le-ltb (length bytes) PREAMBLE marked, p) refl
 
-          pub no_fault : starts_with nat_eq bytes (preamble_bytes version t) ≡ true → front_fault version t bytes ≡ None
-          unfolding front_fault
+          pub no_fault : starts_with nat_eq bytes (preamble_bytes version t) ≡ true → preamble_fault version t bytes ≡ None
+          unfolding preamble_fault
           no_fault p = rw (le-ltb MAX_MESSAGE (length bytes) short, named, versioned, le-ltb (length bytes) PREAMBLE marked, p) refl
 
--- ---- what the tests say together
+-- ---- the combination of the tests
 
 pub preamble_length : (version : Version) (t : Table) → length (preamble_bytes version t) ≡ PREAMBLE
 unfolding preamble_bytes u64_bytes
 preamble_length version t = refl
 
--- the five tests, one after the other
+-- the five tests in sequence
 table : (long named versioned short marked : Bool) → Option WireFault
 table long named versioned short marked =
     cond long (wrong TooLong MAX_MESSAGE) (cond (not named) (wrong BadMagic 0) (cond (not versioned) (wrong BadVersion 3) (cond short (wrong Short 4) (cond (not marked) (wrong OtherConfig 4) None))))
@@ -88,27 +88,27 @@ table_none false true true false false h = absurd cc
 table_none false true true false true h = (refl, refl, refl)
 
 module _ (version : Version) (t : Table) (bytes : List ℕ) where
-  -- what is wrong with a front isn't `NoMemory`
-  pub front_real : IsReal (front_fault version t bytes)
-  unfolding front_fault table
+  -- the fault of a front isn't `NoMemory`
+  pub front_real : IsReal (preamble_fault version t bytes)
+  unfolding preamble_fault table
   front_real = table_real (nat_lt MAX_MESSAGE (length bytes)) (starts_with nat_eq bytes name) (starts_with nat_eq bytes (name_and_version version)) (nat_lt (length bytes) PREAMBLE) (starts_with nat_eq bytes (preamble_bytes version t))
 
-  module _ (right : front_fault version t bytes ≡ None) where
+  module _ (right : preamble_fault version t bytes ≡ None) where
     tests : (nat_lt MAX_MESSAGE (length bytes) ≡ false) × (nat_lt (length bytes) PREAMBLE ≡ false) × (starts_with nat_eq bytes (preamble_bytes version t) ≡ true)
-    unfolding front_fault table
+    unfolding preamble_fault table
     tests = table_none (nat_lt MAX_MESSAGE (length bytes)) (starts_with nat_eq bytes name) (starts_with nat_eq bytes (name_and_version version)) (nat_lt (length bytes) PREAMBLE) (starts_with nat_eq bytes (preamble_bytes version t)) right
 
-    -- bytes with a right front are so many at least
+    -- bytes with a correct front contain the preamble
     pub front_long : PREAMBLE ≤ length bytes
     front_long = ltb-false (length bytes) PREAMBLE tests.1
 
-    -- and begin with the preamble
+    -- bytes with a correct front begin with the preamble
     pub front_begins : (bytes ≡ preamble_bytes version t ++ drop PREAMBLE bytes) × (length bytes ≤ MAX_MESSAGE)
     front_begins =
         let begins = (starts_is Decides-eqb bytes (preamble_bytes version t) (starts_with nat_eq bytes (preamble_bytes version t)) refl).0 tests.2 in
         (begins ∙ ap (λ n. preamble_bytes version t ++ drop n bytes) (preamble_length version t), ltb-false MAX_MESSAGE (length bytes) tests.0)
 
-  -- what begins with a text is found to
+  -- the test finds that bytes begin with a text
   begins_with : (front rest : List ℕ) → bytes ≡ front ++ rest → starts_with nat_eq bytes front ≡ true
   begins_with front rest parts = (starts_is Decides-eqb bytes front (starts_with nat_eq bytes front) refl).1 rest parts
 
@@ -121,8 +121,8 @@ module _ (version : Version) (t : Table) (bytes : List ℕ) where
     unfolding preamble_bytes u64_bytes
     in_version = refl
 
-    -- What begins with the preamble and isn't too long has a right front.
-    pub front_is : bytes ≡ preamble_bytes version t ++ rest → length bytes ≤ MAX_MESSAGE → front_fault version t bytes ≡ None
+    -- Bytes that begin with the preamble and aren't too many have a correct front.
+    pub front_is : bytes ≡ preamble_bytes version t ++ rest → length bytes ≤ MAX_MESSAGE → preamble_fault version t bytes ≡ None
     front_is parts short =
         let all : length bytes ≡ length (preamble_bytes version t ++ rest) = ap length parts in
         let front : length (preamble_bytes version t) ≡ PREAMBLE = preamble_length version t in
@@ -134,7 +134,7 @@ module _ (version : Version) (t : Table) (bytes : List ℕ) where
 
 -- ---- the version
 
--- Bytes that begin with the preamble of a version are read by it.
+-- Bytes that begin with the preamble of a version are read by this version.
 pub version_is : (version : Version) (t : Table) (bytes rest : List ℕ) → bytes ≡ preamble_bytes version t ++ rest → version_in bytes ≡ version
 unfolding version_in preamble_bytes u64_bytes
 version_is One t bytes rest parts = ap (λ bytes. cond (starts_with nat_eq bytes (name_bytes One)) One Two) parts

@@ -1,4 +1,4 @@
--- Packets in form and their spellings are one to one.
+-- The codec of packets.
 use Rattle.std.specs.Prelude.{◌≡◌, ℕ, ◌≤◌, ◌==◌, Bool, true, false, cond, List, [], ◌++◌, length, drop, None, Ok, refl}
 use Rattle.std.proofs.Common.{sym, ap, subst, ◌∙◌, append_assoc}
 use Rattle.std.proofs.lemmas.List.{append-nil, drop_at, nil_from_length}
@@ -18,7 +18,7 @@ use Rattle.dac_messages.specs.declared.message.Body.{Body}
 use Rattle.dac_messages.specs.declared.message.Body.TheVariants.{Whole as WholeBody, Interval as IntervalBody, Nothing as NoBody}
 use Rattle.dac_messages.specs.declared.message.Message.{Message}
 use Rattle.dac_wire.specs.Codes.{kind_of_body, kind_of_packet}
-use Rattle.dac_wire.specs.Decoding.{front_fault, unless, packet_in}
+use Rattle.dac_wire.specs.Decoding.{preamble_fault, unless, packet_in}
 use Rattle.dac_wire.specs.Faults.{in_packet}
 use Rattle.dac_wire.specs.Form.{is_whole, IsBodyInForm, IsMessage, IsOperation, IsPacket}
 use Rattle.dac_wire.specs.Reading.{message_of, head_at, head_and_state_at, operation_at, packet_kind_at, content_at, kind_and_content_at, fields_at}
@@ -36,7 +36,6 @@ use Rattle.dac_wire.specs.laws.Fronts.{preamble_length, front_begins, front_long
 use Rattle.dac_wire.specs.laws.HeadLaws.{head_bytes, IsHead, head_codec}
 use Rattle.dac_bytes.specs.declared.version.Version.{Version}
 
--- the head of a message
 abbrev head_in : Message → Head
 head_in m = record { from = m.from; to = m.to; only = m.only; up_to = m.up_to; ack = m.ack }
 
@@ -64,7 +63,7 @@ module _ (version : Version) (t : Table) (parts : PartCodecs version t) (states 
   head_is : (h : Head) (body : Body) → IsMessage version t (message_of h body) → IsHead version nodes (is_whole body) h
   head_is h body is = record { from = is.from; to = is.to; only = is.only; up_to = is.up_to; ack = is.ack }
 
-  -- ---- what a packet of some kind holds
+  -- ---- the fields of a packet of some kind
 
   abbrev IsPacketOf : PacketKind → Packet → Type 0
   IsPacketOf kind p = (kind_of_packet p ≡ kind) × IsPacket version t p
@@ -116,7 +115,7 @@ module _ (version : Version) (t : Table) (parts : PartCodecs version t) (states 
       (λ _ p. p) tail_bytes (IsPacket version t)
       (λ kind p _ is. (ap (λ k. packet_kind_bytes k ++ content_bytes version p) (sym is.0), is.1)) (λ p is. (kind_of_packet p, p, tt, (refl, is), refl))
 
-  -- ---- and no byte after it
+  -- ---- without further bytes
 
   none_left : (bytes : List ℕ) → (length bytes == 0) ≡ true → bytes ≡ []
   none_left bytes e = nil_from_length bytes (eqb-true (length bytes) 0 e)
@@ -142,14 +141,14 @@ module _ (version : Version) (t : Table) (parts : PartCodecs version t) (states 
   unfolding packet_bytes
   spelled p = append_assoc (preamble_bytes version t) (packet_kind_bytes (kind_of_packet p)) (content_bytes version p)
 
-  -- What is read behind a right front is the one spelling of a packet in form.
-  pub packet_found : (bytes : List ℕ) (p : Packet) → IsBytes bytes → front_fault version t bytes ≡ None → fields_at version t (after PREAMBLE (whole bytes)) ≡ Ok p → IsPacket version t p × (bytes ≡ packet_bytes version t p) × (length bytes ≤ MAX_MESSAGE)
+  -- A packet that is read after a correct front is well-formed, with these bytes as its spelling.
+  pub packet_found : (bytes : List ℕ) (p : Packet) → IsBytes bytes → preamble_fault version t bytes ≡ None → fields_at version t (after PREAMBLE (whole bytes)) ≡ Ok p → IsPacket version t p × (bytes ≡ packet_bytes version t p) × (length bytes ≤ MAX_MESSAGE)
   packet_found bytes p fits none e =
       let front = front_begins version t bytes none in
       let f = fields_found (after PREAMBLE (whole bytes)) p (Takes-front PREAMBLE (whole bytes) (front_long version t bytes none) fits).fits e in
       (f.1, front.0 ∙ ap (λ rest. preamble_bytes version t ++ rest) f.0 ∙ sym (spelled p), front.1)
 
-  -- A packet in form is read from its spelling.
+  -- A well-formed packet is read from its spelling.
   pub packet_again : (bytes : List ℕ) (p : Packet) → IsPacket version t p → bytes ≡ packet_bytes version t p → length bytes ≤ MAX_MESSAGE → packet_in version t bytes ≡ Ok p
   unfolding packet_in
   packet_again bytes p is text short =

@@ -23,7 +23,7 @@ list_any-list_map p f [] = refl
 list_any-list_map p f (x ∷ xs) = ap (λ b. p (f x) || b) (list_any-list_map p f xs)
 
 module _ {K X : Type 0} {R : K → K → Ordering} (keys_total : IsTotalOrder R) (exact_keys : CmpEqualImpliesEq R) (key : X → K) where
-  -- the elements of a key
+  -- the elements at a key
   abbrev of_key : K → List X → List X
   of_key q xs = filter (λ (x : X). eq_by_cmp R (key x) q) xs
 
@@ -48,7 +48,7 @@ module _ {K X : Type 0} {R : K → K → Ordering} (keys_total : IsTotalOrder R)
     | false ↦ none_of_key q xs
   ]
 
-  -- a key is none of the list's exactly if no element is of it
+  -- a key isn't in the list exactly if no element is at it
   pub none_if_absent : {Y : Type 0} (f : X → Y) (q : K) (xs : List X) → is_empty_list (list_map f (of_key q xs)) ≡ not (has_key R (keys_in R key xs) q)
   none_if_absent f q xs = mapped (of_key q xs) ∙ none_of_key q xs ∙ ap not (sym (has_key-keys_in xs q))
     where
@@ -77,7 +77,7 @@ module _ {K S : Type 0} {R : K → K → Ordering} (exact_keys : CmpEqualImplies
   sorted_by_key (k ∷ ks) h = both _ _ (below_by_key k ks (and_parts _ _ h).0) (sorted_by_key ks (and_parts _ _ h).1)
 
   module _ (is_empty : S → Bool) where
-    -- what is found is what is at the key, unless it is empty
+    -- a search returns the value at the key, unless it is empty
     pub find_kept : (ks : List K) (q : K) → is_empty (at q) ≡ not (has_key R ks q) → find R q (by_key at ks) ≡ unless_empty is_empty (at q)
     find_kept ks q e =
         find-by_key ks q
@@ -86,7 +86,7 @@ module _ {K S : Type 0} {R : K → K → Ordering} (exact_keys : CmpEqualImplies
           | false ↦ λ e. ap (λ b. cond b None (Some (at q))) (sym e)
         ] e
 
-    -- such a list is kept so
+    -- a list by key satisfies the stored invariant
     pub keyed_by_key : (is_store : S → Type 0) → ((k : K) → is_store (at k)) → (ks : List K) → IsRising R ks → ((q : K) → is_empty (at q) ≡ not (has_key R ks q)) → IsKeyed R is_store is_empty (by_key at ks)
     keyed_by_key is_store stores ks h e = record {
       in_order = sorted_by_key ks h;
@@ -100,7 +100,7 @@ module _ {K S : Type 0} {R : K → K → Ordering} (exact_keys : CmpEqualImplies
         ] refl
 
 module _ {S : Type 0} (is_empty : S → Bool) (nothing : S) where
-  -- what a list that is kept so has at a key
+  -- the value at a key of a list that satisfies the stored invariant
   pub kept_again : (is_store : S → Type 0) (v : Option S) → is_empty nothing ≡ true → IsKept is_store is_empty v → unless_empty is_empty (store_at nothing v) ≡ v
   kept_again is_store None e u = ap (λ b. cond b None (Some nothing)) e
   kept_again is_store (Some s) e u = ap (λ b. cond b None (Some s)) u.1

@@ -1,4 +1,4 @@
--- The test of drains in words, for every value.
+-- The test of drains equals its spelled-out form, for every value.
 use Rattle.std.specs.Prelude.{◌≡◌, ◌↔◌, Bool, true, false, cond, ◌||◌, T, [], ◌∷◌, Option, None, Some, is_some, refl}
 use Rattle.std.proofs.Common.{sym, ap, ◌∙◌, inl, inr}
 use Rattle.std.specs.List.{list_any}
@@ -27,7 +27,7 @@ down_if Down e = refl
 find_first : (p : Dot × Flag) (ps : DotFlags) → find dot_cmp p.0 (p ∷ ps) ≡ Some p.1
 find_first p ps = ap (λ r. cond (is_eq r) (Some p.1) (find dot_cmp p.0 ps)) (tied_itself dots_total p.0)
 
--- where one says so, one is found that does
+-- if some drain is true, a search finds one that is
 one_found : (ps : DotFlags) → T (is_sorted dot_cmp ps) → list_any (λ (p : Dot × Flag). says_drained p.1) ps ≡ true → (d : Dot) × (find dot_cmp d ps ≡ Some Down)
 one_found [] s h = absurd (false≢true h)
 one_found (p ∷ ps) s h = elim (or_cases (says_drained p.1) (list_any (λ (p : Dot × Flag). says_drained p.1) ps) h) [
@@ -42,7 +42,7 @@ one_found (p ∷ ps) s h = elim (or_cases (says_drained p.1) (list_any (λ (p : 
       )
 ]
 
--- where one is found that says so, one does
+-- if a search finds a true drain, some drain is true
 found_one : (d : Dot) (ps : DotFlags) → find dot_cmp d ps ≡ Some Down → list_any (λ (p : Dot × Flag). says_drained p.1) ps ≡ true
 found_one d [] e = absurd (false≢true (ap is_some e))
 found_one d (p ∷ ps) e = elim (same_dot d p.0) as (λ b. cond b (Some p.1) (find dot_cmp d ps) ≡ Some Down → (says_drained p.1 || list_any (λ (p : Dot × Flag). says_drained p.1) ps) ≡ true) [
@@ -54,7 +54,7 @@ found_one d (p ∷ ps) e = elim (same_dot d p.0) as (λ b. cond b (Some p.1) (fi
     says None = false
     says (Some f) = says_drained f
 
--- the test says which origin is drained
+-- the test returns whether the origin is drained
 pub is_drained-is : (at : Origin) (v : DrainsValue) → (is_drained at v ≡ true) ↔ IsDrained at v
 is_drained-is at v =
     let standing = find-votes_at origins_total exact_origins at v.standing in (

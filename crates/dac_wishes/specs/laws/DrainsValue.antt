@@ -13,7 +13,7 @@ use Rattle.dac_wishes.specs.DrainsValue.{AreDrains, AreDrainsBelow, DrainWrite, 
 pub known-join : (x y : DrainsValue) → (join_drains x y).known ≡ set.union x.known y.known
 known-join = known-join_votes origin_cmp
 
--- two values that show the same are equal
+-- two values with equal parts are equal
 pub same_drains : (x y : DrainsValue) → x.known ≡ y.known → ((w : DrainWrite) → map.get x.standing w ≡ map.get y.standing w) → x ≡ y
 same_drains = same_votes origins_total exact_origins
 

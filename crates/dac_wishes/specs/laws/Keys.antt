@@ -27,7 +27,7 @@ pub exact_keys : CmpEqualImpliesEq key_cmp
 exact_keys a b h = ap (λ (p : AppId × Incarnation). record { app = p.0; node = p.1.0; inc = p.1.1 })
     (exact_pairs app_cmp incarnation_cmp exact_apps (exact_pairs node_cmp nat_cmp exact_nodes exact_unsigned) (a.app, (a.node, a.inc)) (b.app, (b.node, b.inc)) h)
 
--- what is the same key is equal
+-- keys that `same_key` accepts are equal
 pub same_key_is : (a b : Key) → same_key a b ≡ true → a ≡ b
 same_key_is a b t = exact_keys a b ((Equal-is (key_cmp a b)).0 t)
 

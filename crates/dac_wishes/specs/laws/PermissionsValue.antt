@@ -14,7 +14,7 @@ use Rattle.dac_wishes.specs.PermissionsValue.{ArePermissions, IsPermissionsBelow
 pub known-join : (x y : PermissionsValue) → (join_permissions x y).known ≡ set.union x.known y.known
 known-join = known-join_votes key_cmp
 
--- two values that show the same are equal
+-- two values with equal parts are equal
 pub same_permissions : (x y : PermissionsValue) → x.known ≡ y.known → ((w : Write) → map.get x.standing w ≡ map.get y.standing w) → x ≡ y
 same_permissions = same_votes keys_total exact_keys
 

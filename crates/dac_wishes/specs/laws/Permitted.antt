@@ -1,4 +1,4 @@
--- The test of permissions in words, for every value.
+-- The test of permissions equals its spelled-out form, for every value.
 use Rattle.std.specs.Prelude.{◌≡◌, ◌↔◌, ◌⊎◌, Bool, true, false, cond, T, [], ◌∷◌, Option, None, Some, is_some, refl}
 use Rattle.std.proofs.Common.{sym, ap, ◌∙◌, inl, inr}
 use Rattle.std.specs.List.{list_all, All}
@@ -15,19 +15,19 @@ use Rattle.dac_lattice.specs.declared.flags.Flag.TheVariants.{Up, Down}
 use Rattle.dac_lattice.specs.laws.EntryLaws.{each_entry}
 use Rattle.dac_wishes.specs.declared.key.Key.{Key}
 use Rattle.dac_wishes.specs.Writes.{same_dot}
-use Rattle.dac_wishes.specs.PermissionsValue.{PermissionsValue, permits_at, is_permitted_by, is_permitted, says_true, IsPermitted}
+use Rattle.dac_wishes.specs.PermissionsValue.{PermissionsValue, permits_at, is_permitted_by, is_permitted, is_permitting, IsPermitted}
 use Rattle.dac_wishes.specs.StoredPermits.{DotFlags}
 use Rattle.dac_wishes.specs.laws.PermitsByKey.{find-permits_at, permits_at-sorted}
 
-up_if : (f : Flag) → says_true f ≡ true → f ≡ Up
+up_if : (f : Flag) → is_permitting f ≡ true → f ≡ Up
 up_if Up e = refl
 up_if Down e = absurd (false≢true e)
 
--- where all permits say true, each that is found does
-said_by_all : (ps : DotFlags) → list_all (λ (p : Dot × Flag). says_true p.1) ps ≡ true → (d : Dot) (f : Flag) → find dot_cmp d ps ≡ Some f → f ≡ Up
+-- if all permits are true, each that a search finds is
+said_by_all : (ps : DotFlags) → list_all (λ (p : Dot × Flag). is_permitting p.1) ps ≡ true → (d : Dot) (f : Flag) → find dot_cmp d ps ≡ Some f → f ≡ Up
 said_by_all [] h d f e = absurd (false≢true (ap is_some e))
 said_by_all (p ∷ ps) h d f e =
-    let parts = and_parts (says_true p.1) (list_all (λ (p : Dot × Flag). says_true p.1) ps) h in
+    let parts = and_parts (is_permitting p.1) (list_all (λ (p : Dot × Flag). is_permitting p.1) ps) h in
     elim (same_dot d p.0) as (λ b. cond b (Some p.1) (find dot_cmp d ps) ≡ Some f → f ≡ Up) [
       | true ↦ λ e. up_if f (ap (λ (o : Option Flag). flag_in o) (sym e) ∙ parts.0)
       | false ↦ λ e. said_by_all ps parts.1 d f e
@@ -35,15 +35,15 @@ said_by_all (p ∷ ps) h d f e =
   where
     flag_in : Option Flag → Bool
     flag_in None = true
-    flag_in (Some f) = says_true f
+    flag_in (Some f) = is_permitting f
 
-all_if_each : (ps : DotFlags) → All (λ (p : Dot × Flag). (f : Flag) → Some p.1 ≡ Some f → f ≡ Up) ps → list_all (λ (p : Dot × Flag). says_true p.1) ps ≡ true
+all_if_each : (ps : DotFlags) → All (λ (p : Dot × Flag). (f : Flag) → Some p.1 ≡ Some f → f ≡ Up) ps → list_all (λ (p : Dot × Flag). is_permitting p.1) ps ≡ true
 all_if_each [] h = refl
 all_if_each (p ∷ ps) h =
-    and_from (says_true p.1) (list_all (λ (p : Dot × Flag). says_true p.1) ps) (ap says_true (All-head (λ (p : Dot × Flag). (f : Flag) → Some p.1 ≡ Some f → f ≡ Up) p ps h p.1 refl))
+    and_from (is_permitting p.1) (list_all (λ (p : Dot × Flag). is_permitting p.1) ps) (ap is_permitting (All-head (λ (p : Dot × Flag). (f : Flag) → Some p.1 ≡ Some f → f ≡ Up) p ps h p.1 refl))
     (all_if_each ps (All-tail (λ (p : Dot × Flag). (f : Flag) → Some p.1 ≡ Some f → f ≡ Up) p ps h))
 
--- the test in words, of the permits of a list
+-- the test, spelled out, for the permits of a list
 module _ (default : Bool) where
   abbrev pub IsPermittedBy : DotFlags → Type 0
   IsPermittedBy ps = (((d : Dot) → find dot_cmp d ps ≡ None) × (default ≡ true)) ⊎ (((p : Dot × Flag) × (find dot_cmp p.0 ps ≡ Some p.1)) × ((d : Dot) (f : Flag) → find dot_cmp d ps ≡ Some f → f ≡ Up))
@@ -61,7 +61,7 @@ module _ (default : Bool) where
   if_permitted (p ∷ ps) s (inl none) = absurd (false≢true (ap is_some (sym (none.0 p.0) ∙ find_first p ps)))
   if_permitted (p ∷ ps) s (inr some) = all_if_each (p ∷ ps) (each_entry dots_total exact_dots (λ d o. (f : Flag) → o ≡ Some f → f ≡ Up) (p ∷ ps) s (λ d f e. some.1 d f e))
 
--- the test says what is permitted
+-- the test returns whether the key is permitted
 pub is_permitted-is : (key : Key) (default : Bool) (v : PermissionsValue) → (is_permitted key default v ≡ true) ↔ IsPermitted key default v
 is_permitted-is key default v =
     let at = find-permits_at key v.standing in (

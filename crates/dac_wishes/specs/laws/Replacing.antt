@@ -6,7 +6,7 @@ use Rattle.std.proofs.lemmas.Bool.{false≢true, or_cases, or_left, or_right}
 use Rattle.dac_origins.specs.declared.dot.Dot.{Dot}
 use Rattle.dac_lattice.specs.Pieces.{IsGivenIn, AreOperations}
 use Rattle.dac_wishes.specs.laws.KeyedWrites.{same_dot_is}
-use Rattle.dac_wishes.specs.Replacing.{is_under, replaces, is_replaced, names, SparesItself, named_by, AreNamedIn}
+use Rattle.dac_wishes.specs.Replacing.{is_under, replaces, is_replaced, names, ExcludesOwnDot, named_by, AreNamedIn}
 use Rattle.std.specs.FinSet as set
 use Rattle.dac_origins.specs.Dots.{Dots, dot_cmp}
 use Rattle.dac_origins.specs.laws.Dots.{dots_total}
@@ -22,14 +22,14 @@ module _ {A : Type 0} (over : A → List Dot) where
   pub contains-named_by : (d : Dot) (a : A) (x : Dot) → set.contains (named_by over d a) x ≡ names over x (d, a)
   contains-named_by d a x = set.contains-from_list dots_total (d ∷ over a) x
 
-  -- with one operation more, the dots that it names are known too
+  -- one more operation makes the dots that it names known
   pub known_more : (os : List (Dot × A)) (o : Dot × A) (known : Dots) → AreNamedIn over os known → AreNamedIn over (o ∷ os) (set.union known (named_by over o.0 o.1))
   known_more os o known h x =
       set.contains-union dots_total known (named_by over o.0 o.1) x
       ∙ (λ i. h x i || contains-named_by o.0 o.1 x i)
       ∙ or_turn (list_any (names over x) os) (names over x o)
 
-  -- what is named is replaced, or the dot of one
+  -- a dot is named exactly if it is replaced or an operation's own
   pub names-or : (x : Dot) (os : List (Dot × A)) → list_any (names over x) os ≡ (is_replaced over x os || list_any (is_under x) os)
   names-or x [] = refl
   names-or x (o ∷ os) = ap (λ b. (is_under x o || replaces over x o) || b) (names-or x os) ∙ regroup (is_under x o) (replaces over x o) (is_replaced over x os) (list_any (is_under x) os)
@@ -42,11 +42,11 @@ module _ {A : Type 0} (over : A → List Dot) where
       regroup false false true e = refl
       regroup false false false e = refl
 
-  -- an operation spares its own dot
-  pub spares : (os : List (Dot × A)) (o : Dot × A) → AreOperations (SparesItself over) (o ∷ os) → (x : Dot) → is_under x o ≡ true → replaces over x o ≡ false
+  -- an operation doesn't replace its own dot
+  pub spares : (os : List (Dot × A)) (o : Dot × A) → AreOperations (ExcludesOwnDot over) (o ∷ os) → (x : Dot) → is_under x o ≡ true → replaces over x o ≡ false
   spares os o h x e = ap (has_key dot_cmp (over o.1)) (same_dot_is x o.0 e) ∙ h.fit o (inl refl)
 
--- what a test finds is one of the operations
+-- if a test finds an operation, that is in the list
 pub found : {A : Type 0} (p : Dot × A → Bool) (os : List (Dot × A)) → list_any p os ≡ true → (o : Dot × A) × (IsGivenIn o os × (p o ≡ true))
 found p [] h = absurd (false≢true h)
 found p (o ∷ os) h = elim (or_cases (p o) (list_any p os) h) [
@@ -54,13 +54,13 @@ found p (o ∷ os) h = elim (or_cases (p o) (list_any p os) h) [
   | inr r ↦ let f = found p os r in (f.0, (inr f.1.0, f.1.1))
 ]
 
--- a test that one of the operations passes finds one
+-- a test finds an operation if one in the list passes
 pub finds : {A : Type 0} (p : Dot × A → Bool) (os : List (Dot × A)) (o : Dot × A) → IsGivenIn o os → p o ≡ true → list_any p os ≡ true
 finds p [] o h t = absurd h
 finds p (x ∷ os) o (inl e) t = or_left (p x) (list_any p os) (ap p (sym e) ∙ t)
 finds p (x ∷ os) o (inr h) t = or_right (p x) (list_any p os) (finds p os o h t)
 
--- an operation whose dot the others have is one of them
+-- an operation whose dot occurs in the list is in the list
 pub again : {A : Type 0} (fits : Dot → A → Type 0) (os : List (Dot × A)) (o : Dot × A) → AreOperations fits (o ∷ os) → (x : Dot) → is_under x o ≡ true → list_any (is_under x) os ≡ true → IsGivenIn o os
 again fits os o h x e there =
     let p = found (is_under x) os there in

@@ -28,7 +28,7 @@ use Rattle.dac_wishes.specs.StoredWishes.{writes_at, writes_of}
 use Rattle.dac_wishes.specs.laws.ByKey.{keys_in-rising, none_if_absent, find_kept, keyed_by_key, kept_again, again_kept}
 use Rattle.dac_wishes.specs.StartsByKey.{AreStarts, keys_of, starts_by_key}
 
--- ---- what stands
+-- ---- standing wishes
 
 pub list_any-list_map : {X Y : Type 0} (p : Y → Bool) (f : X → Y) (xs : List X) → list_any p (list_map f xs) ≡ list_any (λ x. p (f x)) xs
 list_any-list_map p f [] = refl
@@ -47,7 +47,7 @@ or_none : (a b : Bool) → b ≡ false → (a || b) ≡ a
 or_none true b e = refl
 or_none false b e = e
 
--- a write is among those of a key
+-- whether a write is among those of a key
 in_writes_at : (w : Write) (key : Key) (ds : Dots) → list_any (eq_by_cmp write_cmp w) (writes_at key ds) ≡ (same_key w.key key && set.contains ds w.dot)
 in_writes_at w key ds =
     list_any-list_map (eq_by_cmp write_cmp w) (write key) (set.items ds)
@@ -55,7 +55,7 @@ in_writes_at w key ds =
     ∙ list_any-and (same_key w.key key) (same_dot w.dot) (set.items ds)
     ∙ ap (λ b. same_key w.key key && b) (sym (set.contains-items ds w.dot))
 
--- in a list in order, what is among the dots of any entry of a key is among those at the key
+-- in a sorted list, a dot at any entry of a key is a dot at the key
 at_key : (key : Key) (d : Dot) (m : List (Key × Dots)) → T (is_sorted key_cmp m) → list_any (λ (e : Key × Dots). same_key key e.0 && set.contains e.1 d) m ≡ set.contains (store_at set.empty (find key_cmp key m)) d
 at_key key d [] h = sym (set.contains-empty dot_cmp d)
 at_key key d (e ∷ m) h = elim (same_key key e.0) as (λ b. same_key key e.0 ≡ b → ((b && set.contains e.1 d) || list_any (λ (f : Key × Dots). same_key key f.0 && set.contains f.1 d) m) ≡ set.contains (store_at set.empty (cond b (Some e.1) (find key_cmp key m))) d) [
@@ -74,11 +74,11 @@ contains-writes_of m h w =
     ∙ list_any-alike (λ (e : Key × Dots). list_any (eq_by_cmp write_cmp w) (writes_at e.0 e.1)) (λ (e : Key × Dots). same_key w.key e.0 && set.contains e.1 w.dot) (λ e. in_writes_at w e.0 e.1) m
     ∙ at_key w.key w.dot m h
 
--- the dots at a key are those that stand there
+-- the dots stored at a key are those that stand there
 pub dots_stored : (m : List (Key × Dots)) → T (is_sorted key_cmp m) → (key : Key) → store_at set.empty (find key_cmp key m) ≡ dots_at key (writes_of m)
 dots_stored m h key = set.same_set dots_total exact_dots _ _ (λ d. sym (contains-dots_at key (writes_of m) d ∙ contains-writes_of m h (write key d)))
 
--- ---- by key and back
+-- ---- to the list by key and back
 
 bare_list : (ds : List Dot) → is_empty_set (set.from_list ds) ≡ is_empty_list ds
 bare_list [] = ap (λ n. nat_eq n 0) (set.len-empty dot_cmp)
@@ -95,17 +95,17 @@ find-starts : (writes : Writes) (key : Key) → find key_cmp key (starts_by_key 
 unfolding starts_by_key
 find-starts writes key = find_kept exact_keys (λ k. dots_at k writes) is_empty_set (keys_of writes) key (bare_exactly writes key)
 
--- the wishes by key are kept so
+-- the wishes by key satisfy the stored invariant
 pub are_starts : (writes : Writes) → AreStarts (starts_by_key writes)
 unfolding starts_by_key keys_of
 are_starts writes = keyed_by_key exact_keys (λ k. dots_at k writes) is_empty_set IsAny (λ k. tt) (keys_of writes) (keys_in-rising keys_total exact_keys (λ (w : Write). w.key) (set.items writes)) (bare_exactly writes)
 
--- what is kept so is its writes by key
+-- a stored list equals its writes by key
 pub starts_again : (m : List (Key × Dots)) → AreStarts m → starts_by_key (writes_of m) ≡ m
 starts_again m u = same_entries key_cmp keys_total exact_keys _ m (are_starts (writes_of m)).in_order u.in_order (λ q.
     find-starts (writes_of m) q ∙ ap (unless_empty is_empty_set) (sym (dots_stored m u.in_order q)) ∙ kept_again is_empty_set set.empty IsAny (find key_cmp q m) (ap (λ n. nat_eq n 0) (set.len-empty dot_cmp)) (u.stores q))
 
--- and the writes are those of their list by key
+-- writes equal those of their list by key
 pub writes_again : (writes : Writes) → writes_of (starts_by_key writes) ≡ writes
 writes_again writes = set.same_set writes_total exact_writes _ writes (λ w.
     contains-writes_of (starts_by_key writes) (are_starts writes).in_order w

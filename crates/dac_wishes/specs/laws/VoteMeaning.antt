@@ -22,11 +22,11 @@ use Rattle.dac_wishes.specs.KeyedWrites.{KeyedWrite, keyed_write_cmp, same_dot}
 use Rattle.dac_wishes.specs.laws.KeyedWrites.{keyed_writes_total, same_dot_is, same_keyed_write}
 use Rattle.dac_wishes.specs.Votes.{VotesValue, AreVotes, join_votes, no_votes}
 use Rattle.dac_wishes.specs.laws.Votes.{known-join_votes, standing-join_votes, same_votes}
-use Rattle.dac_wishes.specs.Replacing.{is_under, replaces, is_replaced, SparesItself}
+use Rattle.dac_wishes.specs.Replacing.{is_under, replaces, is_replaced, ExcludesOwnDot}
 use Rattle.dac_wishes.specs.laws.Replacing.{contains-named_by, known_more, names-or, spares}
 use Rattle.dac_wishes.specs.VoteMeaning.{IsVoteMeaning, or_else, said, says_of, vote_delta, vote_in, votes_in}
 
--- ---- the joined deltas of operations are what they mean
+-- ---- the joined deltas of operations are their meaning
 
 one_entry : (k e : Bool) (f : Flag) → cond (k && e) (Some f) None ≡ cond e (cond k (Some f) None) None
 one_entry true e f = refl
@@ -44,8 +44,8 @@ joined_again f g e = ap (λ (x : Flag). Some (join_flags x f)) (ap (λ (o : Opti
     same Up = refl
     same Down = refl
 
--- e, o: the operation has the dot, replaces it; u: what it says of the key. dt, ov, st: of those before, one has the
--- dot, one replaces it, what they say
+-- e, o: the operation has the dot, replaces it; u: its flag at the key. dt, ov, st: among the earlier ones, some has
+-- the dot, some replaces it, their flag
 one_stands : (e o ov dt : Bool) (st u : Option Flag) → (e ≡ true → o ≡ false) → (is_some st ≡ true → dt ≡ true) → (e ≡ true → dt ≡ true → st ≡ u)
     → join_at join_flags (ov || dt) (e || o) (cond ov None st) (cond e u None) ≡ cond (o || ov) None (or_else (cond e u None) st)
 one_stands true true ov dt st u f g h = absurd (true≢false (f refl))
@@ -81,7 +81,7 @@ module _ {K : Type 0} {R : K → K → Ordering} (total : IsTotalOrder R) (exact
       in_votes None = none_of (same_dot w.dot d)
       in_votes (Some v) = ap (λ b. cond b (Some v.1) None) (same_keyed_write R w v.0 d) ∙ one_entry (eq_by_cmp R w.key v.0) (same_dot w.dot d) v.1
 
-  -- what is said is said by an operation of this dot
+  -- if there is a flag, an operation with this dot wrote it
   said_has_dot : (w : KeyedWrite K) (os : List (Dot × A)) → is_some (said R vote w os) ≡ true → list_any (is_under w.dot) os ≡ true
   said_has_dot w [] h = absurd (false≢true h)
   said_has_dot w (o ∷ os) h = elim (is_under w.dot o) as (λ b. is_some (or_else (cond b (says_of R w.key (vote o.1)) None) (said R vote w os)) ≡ true → (b || list_any (is_under w.dot) os) ≡ true) [
@@ -95,14 +95,14 @@ module _ {K : Type 0} {R : K → K → Ordering} (total : IsTotalOrder R) (exact
     | Some x ↦ λ f. absurd (false≢true (sym none ∙ f refl))
   ] (said_has_dot w os)
 
-  -- where others of the dot say the same, one more does
+  -- one more operation changes nothing if others with its dot have the same flag
   says_too : (w : KeyedWrite K) (os : List (Dot × A)) (u : Option Flag) → (list_any (is_under w.dot) os ≡ true → said R vote w os ≡ u) → or_else u (said R vote w os) ≡ u
   says_too w os u same = elim (list_any (is_under w.dot) os) as (λ b. list_any (is_under w.dot) os ≡ b → or_else u (said R vote w os) ≡ u) [
     | true ↦ λ t. ap (or_else u) (same t) ∙ else_same u
     | false ↦ λ t. ap (or_else u) (unsaid w os t) ∙ else_none u
   ] refl
 
-  -- where all operations of a dot are one, what is said is what it says
+  -- if all operations with a dot are equal, the flag is theirs
   said_by_one : (w : KeyedWrite K) (os : List (Dot × A)) (o : Dot × A) → ((p : Dot × A) → IsGivenIn p os → p.0 ≡ w.dot → p ≡ o) → list_any (is_under w.dot) os ≡ true → said R vote w os ≡ says_of R w.key (vote o.1)
   said_by_one w [] o same h = absurd (false≢true h)
   said_by_one w (p ∷ os) o same h = elim (is_under w.dot p) as (λ b. is_under w.dot p ≡ b → (b || list_any (is_under w.dot) os) ≡ true → or_else (cond b (says_of R w.key (vote p.1)) None) (said R vote w os) ≡ says_of R w.key (vote o.1)) [
@@ -112,7 +112,7 @@ module _ {K : Type 0} {R : K → K → Ordering} (total : IsTotalOrder R) (exact
     | false ↦ λ t rest. said_by_one w os o (λ q i. same q (inr i)) rest
   ] refl h
 
-  step : (os : List (Dot × A)) (o : Dot × A) (v : VotesValue R) → AreVotes R v → AreOperations (SparesItself over) (o ∷ os) → IsVoteMeaning R over vote os v → IsVoteMeaning R over vote (o ∷ os) (join_votes R v (vote_delta R over vote o.0 o.1))
+  step : (os : List (Dot × A)) (o : Dot × A) (v : VotesValue R) → AreVotes R v → AreOperations (ExcludesOwnDot over) (o ∷ os) → IsVoteMeaning R over vote os v → IsVoteMeaning R over vote (o ∷ os) (join_votes R v (vote_delta R over vote o.0 o.1))
   step os o v u h m = record {
     known = λ x. ap (λ (s : Dots). set.contains s x) (known-join_votes R v (vote_delta R over vote o.0 o.1)) ∙ known_more over os o v.known m.known x;
     standing = λ w.
@@ -136,7 +136,7 @@ module _ {K : Type 0} {R : K → K → Ordering} (total : IsTotalOrder R) (exact
       (same_context v.known w.known (λ x h. n.known x ∙ sym (m.known x) ∙ h) (λ x h. m.known x ∙ sym (n.known x) ∙ h))
       (λ q. m.standing q ∙ sym (n.standing q))
 
-  pub vote_piece : IsPiece (AreVotes R) (join_votes R) (no_votes R) (SparesItself over) (vote_delta R over vote) (IsVoteMeaning R over vote)
+  pub vote_piece : IsPiece (AreVotes R) (join_votes R) (no_votes R) (ExcludesOwnDot over) (vote_delta R over vote) (IsVoteMeaning R over vote)
   vote_piece = record {
     delta_value = delta_value;
     start = record { known = λ x. set.contains-empty dot_cmp x; standing = λ w. map.get-empty (keyed_write_cmp R) w };

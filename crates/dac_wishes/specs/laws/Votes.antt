@@ -24,7 +24,7 @@ use Rattle.dac_wishes.specs.KeyedWrites.{KeyedWrite, keyed_write_cmp}
 use Rattle.dac_wishes.specs.laws.KeyedWrites.{keyed_writes_total, exact_keyed_writes}
 use Rattle.dac_wishes.specs.Votes.{AreVotes, AreVotesBelow, VotesValue, join_votes, joined_vote, no_votes}
 
--- ---- what a join shows
+-- ---- the parts of a join
 
 pub known-join_votes : {K : Type 0} (R : K → K → Ordering) (x y : VotesValue R) → (join_votes R x y).known ≡ set.union x.known y.known
 unfolding join_votes
@@ -38,7 +38,7 @@ module _ {K : Type 0} {R : K → K → Ordering} (total : IsTotalOrder R) (exact
       ∙ find_merge (keyed_writes_total total) (exact_keyed_writes exact) (joined_vote R x y) (λ _. refl) w (map.entries x.standing) (map.entries y.standing) (map.entries_sorted x.standing) (map.entries_sorted y.standing)
       ∙ sym (λ i. joined_vote R x y w (map.get-entries x.standing w i) (map.get-entries y.standing w i))
 
-  -- two values that show the same are equal
+  -- two values with equal parts are equal
   pub same_votes : (x y : VotesValue R) → x.known ≡ y.known → ((w : KeyedWrite K) → map.get x.standing w ≡ map.get y.standing w) → x ≡ y
   same_votes x y known h =
       let standing = map.same_map (keyed_writes_total total) (exact_keyed_writes exact) x.standing y.standing h in

@@ -50,9 +50,9 @@ any_flag None = tt
 any_flag (Some f) = tt
 
 module _ {K : Type 0} {R : K → K → Ordering} (keys_total : IsTotalOrder R) (exact_keys : CmpEqualImpliesEq R) where
-  -- ---- what stands
+  -- ---- standing votes
 
-  -- a vote among those of a key
+  -- a search among the votes of a key
   find-keyed : (w : KeyedWrite K) (key : K) (ps : DotFlags) → find (keyed_write_cmp R) w (keyed_votes key ps) ≡ cond (eq_by_cmp R w.key key) (find dot_cmp w.dot ps) None
   find-keyed w key [] = elim (eq_by_cmp R w.key key) as (λ b. ◌≡◌ {A = Option Flag} None (cond b None None)) [ true ↦ refl | false ↦ refl ]
   find-keyed w key (p ∷ ps) =
@@ -72,14 +72,14 @@ module _ {K : Type 0} {R : K → K → Ordering} (keys_total : IsTotalOrder R) (
         | false ↦ λ t. refl
       ] refl
 
-  -- what stands of a vote is what is at its dot at its key
+  -- the standing vote of a write is the flag at its dot at its key
   pub get-votes_of : (m : List (K × DotFlags)) → T (is_sorted R m) → (w : KeyedWrite K) → map.get (votes_of R m) w ≡ find dot_cmp w.dot (store_at [] (find R w.key m))
   unfolding votes_of
   get-votes_of m h w = map.get-from_entries (keyed_writes_total keys_total) (flat_map (λ (e : K × DotFlags). keyed_votes e.0 e.1) m) w ∙ find-flat w m h
 
   -- ---- the votes at a key
 
-  -- a vote at a key, by its dot
+  -- a search among the votes at a key, by dot
   find-among : (key : K) (d : Dot) (es : List (KeyedWrite K × Flag)) → find dot_cmp d (votes_among R key es) ≡ find (keyed_write_cmp R) (keyed_write key d) es
   find-among key d [] = refl
   find-among key d (e ∷ es) =
@@ -89,7 +89,7 @@ module _ {K : Type 0} {R : K → K → Ordering} (keys_total : IsTotalOrder R) (
       ]
       ∙ ap (λ t. cond t (Some e.1) (find (keyed_write_cmp R) (keyed_write key d) es)) (sym (at_keyed_write keys_total key d e.0))
 
-  -- of two writes of one key the dots decide
+  -- writes at one key are ordered by dot
   one_key : (key : K) (w x : KeyedWrite K) → eq_by_cmp R w.key key ≡ true → eq_by_cmp R x.key key ≡ true → (keyed_write_cmp R) w x ≡ dot_cmp w.dot x.dot
   one_key key w x s t =
       let tie : R w.key x.key ≡ Equal = ap (λ k. R w.key k) (tied_is exact_keys x.key key t ∙ sym (tied_is exact_keys w.key key s)) ∙ tied_itself keys_total w.key in
@@ -109,21 +109,21 @@ module _ {K : Type 0} {R : K → K → Ordering} (keys_total : IsTotalOrder R) (
     | false ↦ λ t. sorted_among key es (second _ _ h)
   ] refl
 
-  -- what stands at a key is the vote at its dot
+  -- the vote at a dot of a key is the standing one
   pub find-votes_at : (key : K) (votes : Votes R) (d : Dot) → find dot_cmp d (votes_at R key votes) ≡ map.get votes (keyed_write key d)
   find-votes_at key votes d = find-among key d (map.entries votes) ∙ sym (map.get-entries votes (keyed_write key d))
 
   pub votes_at-sorted : (key : K) (votes : Votes R) → T (is_sorted dot_cmp (votes_at R key votes))
   votes_at-sorted key votes = sorted_among key (map.entries votes) (map.entries_sorted votes)
 
-  -- the votes at a key are those that stand there
+  -- the votes stored at a key are those that stand there
   pub votes_stored : (m : List (K × DotFlags)) → AreKeyedVotes R m → (key : K) → store_at [] (find R key m) ≡ votes_at R key (votes_of R m)
   votes_stored m u key =
       let at = at_store keys_total exact_keys (fun_laws flag_laws) _ (u.stores key) in
       same_entries dot_cmp dots_total exact_dots _ _ at.in_order (votes_at-sorted key (votes_of R m))
       (λ d. sym (find-votes_at key (votes_of R m) d ∙ get-votes_of m u.in_order (keyed_write key d)))
 
-  -- ---- by key and back
+  -- ---- to the list by key and back
 
   bare_exactly : (votes : Votes R) (key : K) → is_empty_list (votes_at R key votes) ≡ not (has_key R (voted_keys R votes) key)
   unfolding voted_keys
@@ -133,19 +133,19 @@ module _ {K : Type 0} {R : K → K → Ordering} (keys_total : IsTotalOrder R) (
   unfolding votes_by_key
   find-votes votes key = find_kept exact_keys (λ k. votes_at R k votes) is_empty_list (voted_keys R votes) key (bare_exactly votes key)
 
-  -- the votes by key are kept so
+  -- the votes by key satisfy the stored invariant
   pub are_votes : (votes : Votes R) → AreKeyedVotes R (votes_by_key R votes)
   unfolding votes_by_key voted_keys
   are_votes votes = keyed_by_key exact_keys (λ k. votes_at R k votes) is_empty_list (IsMap dot_cmp IsAny)
       (λ k. record { in_order = votes_at-sorted k votes; values = λ d. any_flag _ })
       (voted_keys R votes) (keys_in-rising keys_total exact_keys (λ (e : KeyedWrite K × Flag). e.0.key) (map.entries votes)) (bare_exactly votes)
 
-  -- what is kept so is its votes by key
+  -- a stored list equals its votes by key
   pub votes_again : (m : List (K × DotFlags)) → AreKeyedVotes R m → votes_by_key R (votes_of R m) ≡ m
   votes_again m u = same_entries R keys_total exact_keys _ m (are_votes (votes_of R m)).in_order u.in_order (λ q.
       find-votes (votes_of R m) q ∙ ap (unless_empty is_empty_list) (sym (votes_stored m u q)) ∙ kept_again is_empty_list [] (IsMap dot_cmp IsAny) (find R q m) refl (u.stores q))
 
-  -- and the votes are those of their list by key
+  -- votes equal those of their list by key
   pub votes_by_key_again : (votes : Votes R) → votes_of R (votes_by_key R votes) ≡ votes
   votes_by_key_again votes = map.same_map (keyed_writes_total keys_total) (exact_keyed_writes exact_keys) _ votes (λ w.
       get-votes_of (votes_by_key R votes) (are_votes votes).in_order w

@@ -1,4 +1,4 @@
--- The test of start wishes in words, for every value.
+-- The test of start wishes equals its spelled-out form, for every value.
 use Rattle.std.specs.Prelude.{◌≡◌, ◌↔◌, true, List, [], ◌∷◌}
 use Rattle.std.proofs.Common.{sym, ap, ◌∙◌, inl, inr}
 use Rattle.std.specs.List.{list_any}
@@ -14,7 +14,7 @@ use Rattle.dac_wishes.specs.Writes.{Write, write, write_cmp}
 use Rattle.dac_wishes.specs.laws.Writes.{writes_total, exact_writes}
 use Rattle.dac_wishes.specs.WishesValue.{WishesValue, is_wished, SomeStands}
 
--- the writes have one of the key
+-- one of the writes is at the key
 one_of_key : (key : Key) (ws : List Write) → list_any (λ (w : Write). same_key w.key key) ws ≡ true → (d : Dot) × (list_any (eq_by_cmp write_cmp (write key d)) ws ≡ true)
 one_of_key key [] h = absurd (false≢true h)
 one_of_key key (w ∷ ws) h = elim (or_cases (same_key w.key key) (list_any (λ (w : Write). same_key w.key key) ws) h) [
@@ -29,7 +29,7 @@ of_one_key key d (w ∷ ws) h = elim (or_cases (eq_by_cmp write_cmp (write key d
   | inr r ↦ or_right _ _ (of_one_key key d ws r)
 ]
 
--- the test says that some start of the key stands
+-- the test returns whether a start of the key stands
 pub is_wished-some : (key : Key) (v : WishesValue) → (is_wished key v ≡ true) ↔ SomeStands key v
 is_wished-some key v = (
   λ h. let d = one_of_key key (set.items v.standing) h in (d.0, set.contains-items v.standing (write key d.0) ∙ d.1),

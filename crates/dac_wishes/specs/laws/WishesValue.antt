@@ -13,7 +13,7 @@ use Rattle.dac_wishes.specs.Writes.{Write, write_cmp}
 use Rattle.dac_wishes.specs.laws.Writes.{writes_total, exact_writes}
 use Rattle.dac_wishes.specs.WishesValue.{AreWishes, AreWishesBelow, WishesValue, join_wishes, may_stand, no_wishes}
 
--- ---- what a join shows
+-- ---- the parts of a join
 
 pub known-join : (x y : WishesValue) → (join_wishes x y).known ≡ set.union x.known y.known
 unfolding join_wishes
@@ -25,7 +25,7 @@ standing-join x y w =
     set.contains-union writes_total (set.retain x.standing (may_stand y)) (set.retain y.standing (may_stand x)) w
     ∙ (λ i. set.contains-retain x.standing (may_stand y) w (λ u e j. may_stand y (sym (exact_writes w u e) j)) i || set.contains-retain y.standing (may_stand x) w (λ u e j. may_stand x (sym (exact_writes w u e) j)) i)
 
--- two values that show the same are equal
+-- two values with equal parts are equal
 pub same_wishes : (x y : WishesValue) → x.known ≡ y.known → ((w : Write) → set.contains x.standing w ≡ set.contains y.standing w) → x ≡ y
 same_wishes x y known h =
     let standing = set.same_set writes_total exact_writes x.standing y.standing h in

@@ -1,9 +1,9 @@
--- What is found in records, as they come.
+-- The values found in records, record by record.
 use Rattle.std.proofs.Common.{◌≡◌, ℕ, zero, suc, ◌+◌, ◌<◌, ◌≤◌, List, [], ◌∷◌, ◌++◌, length, take, take_all, drop, get_or, map, Option, Some, None, refl, sym, ap, ◌∙◌, arith}
 use Rattle.std.proofs.lemmas.List.{take_more, take-append-drop, length-take-le, length-map}
 use Rattle.dac_workers.specs.Compared.{before, found}
 
--- one, or none
+-- the list of a value, if there is one
 abbrev pub listed : {B : Type 0} → Option B → List B
 listed None = []
 listed (Some y) = y ∷ []
@@ -32,12 +32,12 @@ taken_suc g (z ∷ zs) (suc n) y lt at = let less : n < length zs = omega (arith
 pub taken_more : {A B : Type 0} (g : A → B) (ys : List A) (n : ℕ) (y : A) → n < length ys → y ≡ get_or ys n y → take (n + 1) (map g ys) ≡ take n (map g ys) ++ g y ∷ []
 taken_more g ys n y lt at = let on : n + 1 ≡ suc n = omega arith in ap (λ k. take k (map g ys)) on ∙ taken_suc g ys n y lt at
 
--- ---- what is found in the whole, where one more was found
+-- ---- a value among all that are found
 found_append : {A B : Type 0} (f : A → Option B) (xs ys : List A) → found f (xs ++ ys) ≡ found f xs ++ found f ys
 found_append f [] ys = refl
 found_append f (x ∷ xs) ys = ap (before (f x)) (found_append f xs ys) ∙ before_append (f x) (found f xs) (found f ys)
 
--- it stands behind what was found before it, and in front of the rest
+-- the value follows `front` in the list, with the rest after it
 pub record Stands {B : Type 0} (front : List B) (y : B) (all : List B) : Type 0 where
   pub rest : List B
   pub is : all ≡ (front ++ y ∷ []) ++ rest
@@ -60,34 +60,34 @@ longer : {B : Type 0} (front : List B) (y : B) (rest : List B) → length front 
 longer [] y rest = omega arith
 longer (x ∷ front) y rest = omega (arith, longer front y rest)
 
--- so there are more than stand before it, and it is the one behind them
+-- if a value follows the first n, there are more than n, and it is the one at n
 pub one_more : {B : Type 0} (all : List B) (y : B) (n : ℕ) → n ≤ length all → Stands (take n all) y all → n < length all
 one_more all y n within s = let front : length (take n all) ≡ n = length-take-le n all within in let more : length all ≡ length ((take n all ++ y ∷ []) ++ s.rest) = ap length s.is in omega (arith, front, more, longer (take n all) y s.rest)
 
 pub one_there : {B : Type 0} (all : List B) (y : B) (n : ℕ) → n ≤ length all → Stands (take n all) y all → get_or all n y ≡ y
 one_there all y n within s = ap (λ l. get_or l n y) s.is ∙ there (take n all) y s.rest n (length-take-le n all within)
 
--- ---- what is found, beside a list that it is compared with
+-- ---- values found, and a list that they are compared with
 mapped : {B C : Type 0} (g : C → B) (ys : List C) (n : ℕ) (w : C) (d : B) → n < length ys → w ≡ get_or ys n w → get_or (map g ys) n d ≡ g w
 mapped g [] n w d within at = absurd (omega (arith, within))
 mapped g (z ∷ ys) zero w d within at = ap g (sym at)
 mapped g (z ∷ ys) (suc n) w d within at = let less : n < length ys = omega (arith, within) in mapped g ys n w d less at
 
--- as many are compared as are found
+-- a value is found only while elements to compare are left
 pub found_within : {A B C : Type 0} (f : A → Option B) (g : C → B) (xs : List A) (i : ℕ) (x : A) (y : B) (ys : List C) (n : ℕ) → i < length xs → x ≡ get_or xs i x → f x ≡ Some y → n ≤ length ys → found f (take i xs) ≡ take n (map g ys) → found f xs ≡ map g ys → n < length ys
 found_within f g xs i x y ys n within at is few before whole =
     let many : length (map g ys) ≡ length ys = length-map ys g in
     let least : n ≤ length (map g ys) = omega (arith, few, many) in
     omega (arith, many, one_more (map g ys) y n least (stands f xs i x y (take n (map g ys)) (map g ys) within at is before whole))
 
--- and each is the one that it is compared with
+-- each value found equals the element that it is compared with
 pub found_same : {A B C : Type 0} (f : A → Option B) (g : C → B) (xs : List A) (i : ℕ) (x : A) (y : B) (ys : List C) (n : ℕ) (w : C) → i < length xs → x ≡ get_or xs i x → f x ≡ Some y → n < length ys → w ≡ get_or ys n w → found f (take i xs) ≡ take n (map g ys) → found f xs ≡ map g ys → y ≡ g w
 found_same f g xs i x y ys n w within at is few on before whole =
     let many : length (map g ys) ≡ length ys = length-map ys g in
     let least : n ≤ length (map g ys) = omega (arith, few, many) in
     sym (one_there (map g ys) y n least (stands f xs i x y (take n (map g ys)) (map g ys) within at is before whole)) ∙ mapped g ys n w y few on
 
--- in the end all were compared
+-- after the last record every element was compared
 pub found_all : {A B C : Type 0} (f : A → Option B) (g : C → B) (xs : List A) (i : ℕ) (ys : List C) (n : ℕ) → length xs ≤ i → n ≤ length ys → found f (take i xs) ≡ take n (map g ys) → found f xs ≡ map g ys → n ≡ length ys
 found_all f g xs i ys n past few before whole =
     let many : length (map g ys) ≡ length ys = length-map ys g in

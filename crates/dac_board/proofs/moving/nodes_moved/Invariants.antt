@@ -3,7 +3,7 @@ use Rattle.dac_base.specs.declared.NodeId.{NodeId}
 use Rattle.dac_board.specs.Grown.{NodeStays}
 use Rattle.dac_board.proofs.moving.nodes_moved.Given as goal
 
--- those that were looked at, and those that weren't stay marked
+-- the nodes compared so far, and the rest still marked
 abbrev pub invariant-loop-place : goal.invariant-loop-place
 invariant-loop-place l = record {
   long : length l.moved ≡ 64;

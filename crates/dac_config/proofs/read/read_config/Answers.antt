@@ -15,7 +15,7 @@ or_memory : (k : FaultKind) (at : ℕ) (P Q : Type 0) → (P → Q) → OrMemory
 or_memory NoMemory at P Q f h = h
 or_memory _ at P Q f h = f h
 
--- a fault of a reading is a fault of what goes on from it
+-- a fault of a reading is a fault of the sequence that begins with it
 fails_then : {A B : Type 0} (e : ConfigFault) (r : Result A ConfigFault) (f : A → Result B ConfigFault) → Fails e r → Fails e (r >>= f)
 fails_then e r f h = or_memory e.kind e.at _ _ (ap (λ q. q >>= f)) h
 

@@ -3,7 +3,7 @@ use Rattle.std.specs.Ordering.{nat_cmp}
 use Rattle.dac_origins.specs.Keys.{IsRising, has_key}
 use Rattle.dac_dots.proofs.counters.list_span.Given as goal
 
--- the counters below this one are there
+-- the counters below this one are inserted
 abbrev pub invariant-loop-n : goal.invariant-loop-n
 invariant-loop-n l = record {
   rising : IsRising nat_cmp l.counters.items;

@@ -4,7 +4,7 @@ use Rattle.dac_origins.specs.Keys.{IsRising, has_key}
 use Rattle.dac_dots.specs.Spans.{any_span}
 use Rattle.dac_dots.proofs.counters.merge_spans.Given as goal
 
--- what is gone through of both is there
+-- the result has the counters of both lists' spans so far
 abbrev pub invariant-both : goal.invariant-both
 invariant-both l = record {
   rising : IsRising nat_cmp l.both;

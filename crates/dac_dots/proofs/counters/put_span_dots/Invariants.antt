@@ -5,7 +5,7 @@ use Rattle.dac_origins.specs.Keys.{IsRising, has_key}
 use Rattle.dac_origins.specs.declared.dot.Dot.{Dot}
 use Rattle.dac_dots.proofs.counters.put_span_dots.Given as goal
 
--- the dots whose counters are below this one are there
+-- the dots whose counters are below this one are inserted
 abbrev pub invariant-loop-n : goal.invariant-loop-n
 invariant-loop-n l = record {
   rising : IsRising dot_cmp l.dots.items;

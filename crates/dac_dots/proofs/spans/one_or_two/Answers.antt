@@ -9,7 +9,7 @@ fails_so : {T E P : Type 0} (r : Result T E) → P → OnErr r P
 fails_so (Ok x) p = tt
 fails_so (Err e) p = p
 
--- what is asked of the spans with one more
+-- the required properties of the union with one more span
 abbrev HasMore : Span → Span → List Span → Type 0
 HasMore span single spans = (n : _) → any_span spans n ≡ (span_has n span || any_span (single ∷ []) n)
 

@@ -2,7 +2,7 @@ use Rattle.std.proofs.Common.{length, drop, ◌+◌, ◌-◌, ◌≡◌, ◌≤�
 use Rattle.dac_lattice.specs.Entries.{merge_entries}
 use Rattle.dac_lattice.proofs.merging.merge.Given as goal
 
--- what is merged, before the merge of what is left, is the whole merge
+-- the merged entries followed by the merge of the rest are the whole merge
 abbrev pub invariant-both : goal.invariant-both
 invariant-both g l =
     let merge = merge_entries g.K.Ord.cmp (g.C.Combine.combined l.how) in

@@ -5,7 +5,7 @@ use Rattle.dac_origins.specs.laws.InOrder.{tie}
 use Rattle.dac_lattice.specs.laws.EntryLaws.{find_at}
 use Rattle.dac_lattice.proofs.merging.place_near.Goals as goal
 
--- the entry at the place has the key
+-- the entry at the index has the key
 pub returns-in-Some : goal.returns-in-Some
 returns-in-Some g c =
     let at = c.in-Some.ensures.lookup.3 in

@@ -7,7 +7,7 @@ use Rattle.dac_live.specs.Lines.{Answers, LinesAnswered, told_in}
 use Rattle.dac_phases.specs.laws.Spoken.{flat_more, zip_within, zip_at, zip_all, all_zip_at}
 use Rattle.dac_live.proofs.lines.told_to.Goals as goal
 
--- of a phase and its answers
+-- the results fit the lines of a phase
 abbrev fits : Phase → List LineAnswer → Type 0
 fits p all = LinesAnswered p.lines.items all
 

@@ -6,7 +6,7 @@ use Rattle.dac_live.specs.Reads.{pages_in}
 use Rattle.dac_phases.specs.laws.Spoken.{flat_more, zip_within, zip_at, zip_all, all_zip_at}
 use Rattle.dac_live.proofs.reads.pages_read.Goals as goal
 
--- of a phase and what its lines read
+-- the reads fit the lines of a phase
 abbrev fits : Phase → List (Option Page) → Type 0
 fits p noted = length noted ≡ length p.lines.items
 

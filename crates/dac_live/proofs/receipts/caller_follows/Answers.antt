@@ -12,11 +12,11 @@ use Rattle.dac_live.proofs.Followed.{follows_append, follows_receipts}
 use Rattle.dac_phases.specs.laws.Spoken.{flat_more, zip_within, zip_at, zip_all, all_zip_at}
 use Rattle.dac_live.proofs.receipts.caller_follows.Goals as goal
 
--- of a phase and its answers
+-- the results fit the lines of a phase
 abbrev fits : Phase → List LineAnswer → Type 0
 fits p all = LinesAnswered p.lines.items all
 
--- of a phase and what its lines read
+-- the reads fit the lines of a phase
 abbrev notes : Phase → List (Option Page) → Type 0
 notes p noted = length noted ≡ length p.lines.items
 

@@ -5,7 +5,7 @@ use Rattle.dac_meaning.specs.StateValue.{join}
 use Rattle.dac_decide.specs.declared.start_gate.Opening.TheVariants.{Opened}
 use Rattle.dac_messages.specs.declared.event.Event.TheVariants.{Tick}
 use Rattle.dac_messages.specs.declared.reply.Reply.TheVariants.{Ticked}
-use Rattle.dac_model_node.specs.dac_ticks.Ticks.{turn_of}
+use Rattle.dac_model_node.specs.dac_ticks.Ticks.{sweep_of}
 use Rattle.dac_model_node.specs.dac_ticks.laws.Claims.{state_joined}
 use Rattle.dac_model_node.specs.dac_commands.laws.Written.{none_is}
 use Rattle.dac_model_node.specs.EventRefusals.{causes_to_tick, refusal_to_tick}
@@ -22,10 +22,10 @@ after_tick-requires-clause-grown c =
     let t = c.args.config.now in
     let k = c.running.inside.knowledge in
     let waits = c.deref.result.now in
-    let turn = turn_of t k.origin waits c.args.now k.state in
-    let made = c.in_ok-turn.ensures in
+    let sweep = sweep_of t k.origin waits c.args.now k.state in
+    let made = c.in_ok-sweep.ensures in
     let items = c.in_ok-deltas.ensures ∙ ap meanings (c.as_slice.ensures ∙ made.ops) in
-    c.in_ok-state.ensures ∙ (left_is k.state turn c.in_ok-turn.turn made ∙ (state_joined t k.origin waits c.args.now k.state ∙ ap (fold join k.state) (sym items)))
+    c.in_ok-state.ensures ∙ (left_is k.state sweep c.in_ok-sweep.sweep made ∙ (state_joined t k.origin waits c.args.now k.state ∙ ap (fold join k.state) (sym items)))
 
 pub returns : goal.returns
 returns c =
@@ -35,7 +35,7 @@ returns c =
     let now = c.args.now in
     let waits = c.deref.result.now in
     let noted = c.deref.ensures in
-    let made = c.in_ok-turn.ensures in
+    let made = c.in_ok-sweep.ensures in
     let items = c.in_ok-deltas.ensures ∙ ap meanings (c.as_slice.ensures ∙ made.ops) in
     let next = c.in_ok-next.ensures ∙ (λ i. ticking k now true (sym noted i) (items i)) in
     let opened = subst (λ (x : RunningValue). opening_at t x now ≡ Opened) (sym c.running.view_is) c.requires.open in

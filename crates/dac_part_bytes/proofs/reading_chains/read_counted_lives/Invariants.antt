@@ -9,7 +9,7 @@ use Rattle.dac_part_bytes.specs.Reading.{life_at}
 use Rattle.dac_bytes.specs.laws.Ascending.{Reaches}
 use Rattle.dac_part_bytes.proofs.reading_chains.read_counted_lives.Given as goal
 
--- what was read with what is still to be read is the whole, and the items so far are below what may come
+-- the items read so far with those of the rest make the whole, and the previous key is the greatest so far
 abbrev pub invariant-loop : goal.invariant-loop
 invariant-loop l =
     (with_front (map.entries l.lives) (items_at (life_at l.version l.nodes) (λ (e : NodeId × Life). Some e.0) (l.count - l.counter) l.before l.rest) ≡ items_at (life_at l.version l.nodes) (λ (e : NodeId × Life). Some e.0) l.count None l.fn.reader)

@@ -8,7 +8,7 @@ use Rattle.dac_part_bytes.specs.Reading.{known_dot_at}
 use Rattle.dac_bytes.specs.laws.Ascending.{Reaches}
 use Rattle.dac_part_bytes.proofs.reading_starts.read_dots.Given as goal
 
--- what was read with what is still to be read is the whole, and the items so far are below what may come
+-- the items read so far with those of the rest make the whole, and the previous dot is the greatest so far
 abbrev pub invariant-loop : goal.invariant-loop
 invariant-loop l =
     (with_front (in_order l.dots) (items_at (known_dot_at l.version l.nodes l.known) (λ (d : Dot). Some d) (l.count - l.counter) l.before l.rest) ≡ items_at (known_dot_at l.version l.nodes l.known) (λ (d : Dot). Some d) l.count None l.fn.reader)

@@ -8,7 +8,7 @@ use Rattle.dac_part_bytes.specs.Reading.{vote_at}
 use Rattle.dac_bytes.specs.laws.Ascending.{Reaches}
 use Rattle.dac_part_bytes.proofs.reading_votes.read_votes.Given as goal
 
--- what was read with what is still to be read is the whole, and the items so far are below what may come
+-- the items read so far with those of the rest make the whole, and the previous dot is the greatest so far
 abbrev pub invariant-loop : goal.invariant-loop
 invariant-loop l =
     (with_front l.votes (items_at (vote_at l.version l.nodes l.known l.truth) (λ (p : Dot × Flag). Some p.0) (l.count - l.counter) l.before l.rest) ≡ items_at (vote_at l.version l.nodes l.known l.truth) (λ (p : Dot × Flag). Some p.0) l.count None l.fn.reader)

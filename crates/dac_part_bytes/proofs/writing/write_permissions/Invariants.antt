@@ -4,7 +4,7 @@ use Rattle.dac_lattice.specs.declared.flags.Flag.TheVariants.{Up}
 use Rattle.dac_part_bytes.specs.Spelling.{key_bytes, keyed_votes_bytes}
 use Rattle.dac_part_bytes.proofs.writing.write_permissions.Given as goal
 
--- what is written, before what is left, is all
+-- the bytes written and those of the remaining entries are all bytes
 abbrev pub invariant-loop-key : goal.invariant-loop-key
 invariant-loop-key l = l.written ++ flat_map (keyed_votes_bytes (key_bytes l.version) l.version Up) l.left ≡ l.initial.written ++ flat_map (keyed_votes_bytes (key_bytes l.version) l.version Up) l.initial.left
 

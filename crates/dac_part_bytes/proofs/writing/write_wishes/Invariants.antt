@@ -4,7 +4,7 @@ use Rattle.dac_origins.specs.InOrder.{in_order}
 use Rattle.dac_part_bytes.specs.Spelling.{keyed_dots_bytes}
 use Rattle.dac_part_bytes.proofs.writing.write_wishes.Given as goal
 
--- what is written, before what is left, is all
+-- the bytes written and those of the remaining entries are all bytes
 abbrev pub invariant-loop-key : goal.invariant-loop-key
 invariant-loop-key l = l.written ++ flat_map (λ e. keyed_dots_bytes l.version (e.0, in_order e.1)) l.left ≡ l.initial.written ++ flat_map (λ e. keyed_dots_bytes l.version (e.0, in_order e.1)) l.initial.left
 

@@ -6,7 +6,7 @@ use Rattle.std.proofs.lemmas.Iterator.Splits.{YieldsList-from_slice_split}
 use borrow.Author.Tests.{tests}
 use Rattle.dac_script.proofs.words.words_of.Goals as goal
 
--- what all items of an iterator read, where its road is known
+-- the items of an iterator whose steps are known
 drained : {S A B : Type 0} {steps : S → Option A → S → Type 0} {v : A → B} {s : S} {all : List B} → YieldsList steps v s all → (items : List A) → Drains steps s items
     → map v items ≡ all
 drained road items all = items_from_drains items (all.1.0, all.1.1, λ _. (all.0, all.1.2)) road

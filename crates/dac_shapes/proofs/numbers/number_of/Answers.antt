@@ -3,7 +3,7 @@ use Rattle.dac_tokens.specs.Digits.{value_from}
 use Rattle.dac_tokens.specs.laws.Digits.{not_less, is_done, too_large, small_enough}
 use Rattle.dac_shapes.proofs.numbers.number_of.Goals as goal
 
--- what is read so far with one digit more
+-- the value of the digits read so far, with one more digit
 next_digit : (n m i v : ℕ) (digits : List ℕ) → i < length digits → value_from n (drop i digits) ≡ v → m ≡ 10 * n + (get_or digits i 0 - 48) → value_from m (drop (i + 1) digits) ≡ v
 next_digit n m i v digits lt e is = rw (is, add-one) (rw (drop-cons digits i 0) at e)
 

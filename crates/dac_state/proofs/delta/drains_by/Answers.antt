@@ -6,8 +6,8 @@ use Rattle.dac_operations.specs.Seen.{drain_in, seen_drain}
 use Rattle.dac_state.proofs.Seeing.{seen_whole}
 use Rattle.dac_state.proofs.delta.drains_by.Goals as goal
 
-pub delta_beside-requires : goal.delta_beside-requires
-delta_beside-requires c =
+pub delta_with_context-requires : goal.delta_with_context-requires
+delta_with_context-requires c =
     let o = c.args.op.now in
     let seen : seen_drain o.dot o.act ≡ drain_in o.act = seen_whole Other drain_in o.dot o.act c.tells_invariant.ensures.apart in
     rw (c.dot.ensures, c.drain_act-act.ensures, c.act.ensures)

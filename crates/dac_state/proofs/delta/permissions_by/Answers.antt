@@ -6,8 +6,8 @@ use Rattle.dac_operations.specs.Seen.{permit_in, seen_permit}
 use Rattle.dac_state.proofs.Seeing.{seen_whole}
 use Rattle.dac_state.proofs.delta.permissions_by.Goals as goal
 
-pub delta_beside-requires : goal.delta_beside-requires
-delta_beside-requires c =
+pub delta_with_context-requires : goal.delta_with_context-requires
+delta_with_context-requires c =
     let o = c.args.op.now in
     let seen : seen_permit o.dot o.act ≡ permit_in o.act = seen_whole Other permit_in o.dot o.act c.tells_invariant.ensures.apart in
     rw (c.dot.ensures, c.permit_act-act.ensures, c.act.ensures)

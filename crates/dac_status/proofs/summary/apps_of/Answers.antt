@@ -13,7 +13,7 @@ module _ (table : Table) (s : StateValue) (n k : ℕ) (apps : List AppSummary) w
   abbrev to_judge : ℕ → List AppSummary
   to_judge left = staged 64 no_app app_numbered (app_summary table s) (app_begun table s) n left
 
-  -- the next one gets its verdict
+  -- the next application gets its verdict
   judged : (d : AppSummary) (verdict : Verdict) → apps ≡ to_judge (suc k) → verdict ≡ verdict_of table s (app_numbered n)
       → set apps n (record { claim = (get_or apps n d).claim; verdict = verdict; marks = (get_or apps n d).marks }) ≡ staged 64 no_app app_numbered (app_summary table s) (app_begun table s) (n + 1) k
   judged d verdict is verdict_is =

@@ -32,7 +32,7 @@ loop-key-preserved-then-same g c =
     let found = c.store_from-mine.ensures.found ∙ found_before g.met.K.Ord.total g.met.K.MapKey.exact c.args.part.now c.args.left.now c.loop-key.left c.loop-key.key-index e c.loop-key-test.true c.loop-key-item.is c.requires.part c.loop-key.invariant.later in
     record {
       below = one_more g.met.K.Ord.total g.met.K.MapKey.exact (IsBelowAt g.K.Ord.cmp s.nothing s.below c.args.left.now c.args.heard.now c.args.other_heard.now) _ _ _ c.loop-key-test.true c.loop-key-item.is c.loop-key.invariant.below
-          (subst (λ f. s.below (store_at s.nothing f) c.args.heard.now e.1 c.args.other_heard.now) found (c.is_surely_below-same.ensures c.if-same.true c.args.heard.now c.args.other_heard.now));
+          (subst (λ f. s.below (store_at s.nothing f) c.args.heard.now e.1 c.args.other_heard.now) found (c.are_known_equal-same.ensures c.if-same.true c.args.heard.now c.args.other_heard.now));
       in_order = c.store_from-mine.ensures.in_order;
       later = later_more g.met.K.Ord.total g.met.K.MapKey.exact c.args.part.now c.args.left.now c.loop-key.left c.store_from-mine.new.left c.loop-key.key-index e c.loop-key-test.true c.loop-key-item.is c.loop-key.invariant.later c.store_from-mine.ensures.same;
     }

@@ -22,7 +22,7 @@ doubled : (a : Bool) → (a || false) ≡ (a || (a || false))
 doubled true = refl
 doubled false = refl
 
--- what is asked of the dots with one more
+-- the required properties of the dots with one more
 abbrev HasMore : Dot → Dot → List Dot → Type 0
 HasMore dot single ds = (q : Dot) → has_key dot_cmp ds q ≡ (eq_by_cmp dot_cmp q dot || has_key dot_cmp (single ∷ []) q)
 

@@ -7,7 +7,7 @@ use Rattle.dac_store.specs.Joining.{AreKept, joined_at}
 use Rattle.dac_store.proofs.PartLemmas.{rest_of}
 use Rattle.dac_store.proofs.joining.join_parts.Given as goal
 
--- what is joined, before the join of what is left, is the whole join
+-- the joined entries followed by the join of the rest are the whole join
 abbrev pub invariant-loop-block : goal.invariant-loop-block
 invariant-loop-block g l =
     let s = g.S.DotStore in

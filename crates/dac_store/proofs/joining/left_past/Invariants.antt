@@ -3,7 +3,7 @@ use Rattle.dac_lattice.specs.Entries.{merge_entries}
 use Rattle.dac_store.specs.Joining.{joined_at}
 use Rattle.dac_store.proofs.joining.left_past.Given as goal
 
--- those so far stay, before the merge of what is left
+-- the entries so far stay unchanged, before the merge of the rest
 abbrev pub invariant-loop-key : goal.invariant-loop-key
 invariant-loop-key g l =
     let s = g.S.DotStore in

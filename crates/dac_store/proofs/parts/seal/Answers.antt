@@ -1,6 +1,5 @@
-use Rattle.std.proofs.Common.{◌∙◌, ap, append-nil, rules, sym, take}
+use Rattle.std.proofs.Common.{◌∙◌, ap, take}
 use Rattle.std.specs.Arc.{arc_value}
-use Rattle.std.specs.List.{flat_map}
 use Rattle.dac_store.proofs.PartLemmas.{one_sealed}
 use Rattle.dac_store.proofs.parts.seal.Goals as goal
 
@@ -11,7 +10,3 @@ returns-clause-sealed g c =
 
 pub returns-clause-rest : goal.returns-clause-rest
 returns-clause-rest g c = ap (λ v. v.items) c.replace-sealed.ensures.after ∙ c.in_ok-rest.ensures.tail
-
-pub returns-then-count-eq0-clause-sealed : goal.returns-then-count-eq0-clause-sealed
-returns-then-count-eq0-clause-sealed g c =
-    sym (append-nil (flat_map arc_value c.args.blocks.now.items)) ∙ search rules

@@ -2,7 +2,7 @@ use Rattle.std.proofs.Common.{◌≡◌, ◌≤◌, length, false}
 use Rattle.dac_tokens.specs.Scan.{after_gap}
 use Rattle.dac_tokens.proofs.scan.after_gap.Given as goal
 
--- behind the gap of what is left stands what stands behind the gap of all
+-- skipping the gap of the rest gives the same bytes as skipping the gap of all
 abbrev pub invariant-loop-b : goal.invariant-loop-b
 invariant-loop-b l = record {
   same : after_gap l.comment l.rest ≡ after_gap false l.bytes;

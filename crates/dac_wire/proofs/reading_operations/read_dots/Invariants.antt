@@ -4,6 +4,6 @@ use Rattle.dac_bytes.specs.Items.{with_front}
 use Rattle.dac_origins.specs.declared.dot.Dot.{Dot}
 use Rattle.dac_wire.proofs.reading_operations.read_dots.Given as goal
 
--- what was read with what is still to be read is the whole
+-- the dots read so far with those of the rest make the whole
 abbrev pub invariant-loop : goal.invariant-loop
 invariant-loop l = with_front l.dots.items (items_at (dot_above_at l.version l.nodes) (λ (d : Dot). Some d) (l.count - l.counter) l.before l.rest) ≡ items_at (dot_above_at l.version l.nodes) (λ (d : Dot). Some d) l.count None l.fn.reader

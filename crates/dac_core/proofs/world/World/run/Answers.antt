@@ -8,14 +8,14 @@ use Rattle.dac_messages.specs.declared.reply.Reply.{Reply}
 use Rattle.dac_events.specs.declared.world_fault.WorldFault.{WorldFault}
 use Rattle.dac_settle.specs.dac_model_world.WorldValue.{WorldValue}
 use Rattle.dac_settle.specs.dac_model_world.ModelWorld.{RanAs}
-use Rattle.dac_settle.specs.dac_model_world.laws.Runs.{ran_turn}
+use Rattle.dac_settle.specs.dac_model_world.laws.Runs.{ran_next}
 use Rattle.dac_core.proofs.world.World.run.Goals as goal
 
 pub loop-event-preserved : goal.loop-event-preserved
 loop-event-preserved c =
     let ok : is_ok c.push.result ≡ true = c.push.ensures.succeeds (search rules) in
     let e : WorldEvent = get_or c.args.events.now c.loop-event.event-index (record { node = record { 0 = 0 }; what = Boot 0 }) in
-    let ran = ran_turn c.args.config.now c.args.events.now c.loop-event.event-index c.loop-event.answers.items c.loop-event.world c.step-answer.new.self e c.step-answer.result c.step-answer.ensures.follows c.loop-event-test.true (get_or_default c.args.events.now c.loop-event.event-index _ _ c.loop-event-test.true) c.loop-event.invariant.ran in
+    let ran = ran_next c.args.config.now c.args.events.now c.loop-event.event-index c.loop-event.answers.items c.loop-event.world c.step-answer.new.self e c.step-answer.result c.step-answer.ensures.follows c.loop-event-test.true (get_or_default c.args.events.now c.loop-event.event-index _ _ c.loop-event-test.true) c.loop-event.invariant.ran in
     record {
       ran = rw (c.push.ensures.items, ok) ran;
       count = c.step-answer.ensures.count ∙ c.loop-event.invariant.count;

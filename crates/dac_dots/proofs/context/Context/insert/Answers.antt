@@ -7,7 +7,7 @@ use Rattle.dac_origins.specs.laws.InOrder.{tie}
 use Rattle.dac_origins.specs.declared.dot.Dot.{Dot}
 use Rattle.dac_dots.proofs.context.Context.insert.Goals as goal
 
--- a dot that is there already adds nothing
+-- inserting a dot that is there changes nothing
 there_already : (dots : Dots) (d : Dot) → set.contains dots d ≡ true → dots ≡ set.insert dots d
 there_already dots d there = set.same_set dots_total exact_dots dots (set.insert dots d) (λ q. has q ∙ sym (set.contains-insert dots_total dots d q))
   where

@@ -10,7 +10,7 @@ returns-in-Nothing c =
     let none = no_dots c.other.inside.kept c.args.other.now c.other.view_is c.in-Nothing.is in
     subst (λ both. IfOk c.copy.result (λ copied. copied ≡ both)) (sym (adds_nothing_second c.args.other.now none c.args.self.now)) c.copy.ensures
 
-pub returns-in_ok-and_all-in-Many : goal.returns-in_ok-and_all-in-Many
-returns-in_ok-and_all-in-Many c =
+pub returns-in_ok-union_rows-in-Many : goal.returns-in_ok-union_rows-in-Many
+returns-in_ok-union_rows-in-Many c =
     let theirs : c.in_ok-both-in-Many.both ≡ c.args.other.now = search rules in
-    IfOk-weaker c.of_parts.result _ _ (λ both is. is ∙ c.in_ok-and_all-in-Many.ensures ∙ (λ i. set.union (theirs i) (c.requires i)) ∙ union_turned c.args.other.now c.args.self.now) c.of_parts.ensures
+    IfOk-weaker c.of_parts.result _ _ (λ both is. is ∙ c.in_ok-union_rows-in-Many.ensures ∙ (λ i. set.union (theirs i) (c.requires i)) ∙ union_turned c.args.other.now c.args.self.now) c.of_parts.ensures

@@ -1,13 +1,13 @@
 use Rattle.std.proofs.Common.{◌≡◌, ◌∙◌, ◌||◌, ◌&&◌, ℕ, nat_eq, sym}
 use Rattle.std.specs.Ordering.{nat_cmp}
 use Rattle.dac_origins.specs.Keys.{has_key}
-use Rattle.dac_dots.specs.Spans.{any_past}
+use Rattle.dac_dots.specs.Spans.{any_above}
 use Rattle.dac_dots.proofs.SpanLemmas.{valid_spans, further_is, zero_there, zero_missing}
 use Rattle.dac_dots.proofs.counters.Counters.further.Goals as goal
 use Rattle.dac_dots.proofs.counters.Counters.further.Goals.{then-contains+in_ok-insert_key, else-contains}
 
-pub list_past-requires-clause-valid : goal.list_past-requires-clause-valid
-list_past-requires-clause-valid c = valid_spans 0 c.spans.result.now c.spans.ensures.apart
+pub list_above-requires-clause-valid : goal.list_above-requires-clause-valid
+list_above-requires-clause-valid c = valid_spans 0 c.spans.result.now c.spans.ensures.apart
 
 pub returns : goal.returns
 returns c =
@@ -16,5 +16,5 @@ returns c =
       | then-contains+in_ok-insert_key w ↦ rw w.further-is (zero_there now w.insert_key.new.keys.items (sym c.contains.ensures ∙ w.if-contains.true) (rw c.new-further.ensures.items at w.in_ok-insert_key.ensures.ok))
       | else-contains w ↦ rw w.further-is (zero_missing now c.new-further.result.items (sym c.contains.ensures ∙ w.if-contains.false) c.new-further.ensures.items)
     ] in
-    further_is c.spans.result.now c.spans.ensures.apart now c.spans.ensures.value c.list_past.new.counters.items c.list_past.ensures.rising
-    (λ n. c.in_ok-list_past.ensures.ok n ∙ (λ i. any_past (c.upto.ensures i) c.spans.result.now n || first n i))
+    further_is c.spans.result.now c.spans.ensures.apart now c.spans.ensures.value c.list_above.new.counters.items c.list_above.ensures.rising
+    (λ n. c.in_ok-list_above.ensures.ok n ∙ (λ i. any_above (c.upto.ensures i) c.spans.result.now n || first n i))

@@ -12,14 +12,14 @@ returns-then-left-eq0 c =
     let now = c.args.self.now in
     sym (ap (slice_get (further_of (reach_of now) now)) c.if-left-eq0.true ∙ first_is_zero c.spans-spans.result.now c.spans-spans.ensures.apart now c.spans-spans.ensures.value (sym c.contains.ensures ∙ c.if-contains.true))
 
-pub past_at-requires : goal.past_at-requires
-past_at-requires c = valid_spans 0 c.spans-spans.result.now c.spans-spans.ensures.apart
+pub counter_above-requires : goal.counter_above-requires
+counter_above-requires c = valid_spans 0 c.spans-spans.result.now c.spans-spans.ensures.apart
 
 pub returns : goal.returns
 returns c =
     let now = c.args.self.now in
     let spans = c.spans-spans.result.now in
-    c.past_at.ensures
+    c.counter_above.ensures
     ∙ ap (λ u. slice_get (past u spans) c.if-contains.left) c.upto.ensures
     ∙ sym (elim c.if-contains.branch [
       | then-contains+else-left-eq0 w ↦

@@ -4,7 +4,7 @@ use Rattle.dac_origins.specs.Keys.{IsRising, has_key}
 use Rattle.dac_dots.specs.Spans.{any_span}
 use Rattle.dac_dots.proofs.counters.Counters.put_all.Given as goal
 
--- the spans so far are there too
+-- the counters of the spans so far are inserted
 abbrev pub invariant-loop-span : goal.invariant-loop-span
 invariant-loop-span l = record {
   rising : IsRising nat_cmp l.fn.self → IsRising nat_cmp l.self;

@@ -6,7 +6,7 @@ use Rattle.dac_origins.specs.declared.dot.Dot.{Dot}
 use Rattle.dac_dots.specs.Spans.{any_span}
 use Rattle.dac_dots.proofs.counters.Counters.put_dots.Given as goal
 
--- the dots of the spans so far are there
+-- the dots of the spans so far are inserted
 abbrev pub invariant-loop-span : goal.invariant-loop-span
 invariant-loop-span l = record {
   rising : IsRising dot_cmp l.dots.items;

@@ -4,7 +4,7 @@ use Rattle.std.proofs.lemmas.Nat.{le_or_l, le_or_r}
 use Rattle.dac_dots.proofs.FilterLemmas.{apart_from}
 use Rattle.dac_dots.proofs.filter.DotFilter.meets.Goals as goal
 
--- two numbers are 0 where no bit is set in either
+-- two numbers are 0 if their bitwise or is
 both_zero : (n m : ℕ) → bit_or n m ≡ 0 → (n ≡ 0) × (m ≡ 0)
 both_zero n m e = let left = le_or_l n m in let right = le_or_r n m in (omega arith, omega arith)
 

@@ -11,7 +11,7 @@ returns-then-not-is_below c = (λ e. absurd (false≢true e), λ can. absurd (fa
 
 pub returns : goal.returns
 returns c =
-    let rises = rises_both (c.args.upto + 1) c.args.further.now c.rises_from.result c.rises_from.ensures in (
+    let rises = rises_both (c.args.upto + 1) c.args.further.now c.ascends_from.result c.ascends_from.ensures in (
       λ yes. record {
         above = c.is_below.ensures.0 c.if-not-is_below.false;
         rising = rises.0 yes;

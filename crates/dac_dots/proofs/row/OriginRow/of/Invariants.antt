@@ -3,7 +3,7 @@ use Rattle.std.specs.Ordering.{nat_cmp}
 use Rattle.dac_origins.specs.Keys.{IsRising, has_key}
 use Rattle.dac_dots.proofs.row.OriginRow.of.Given as goal
 
--- the further counters so far are there too
+-- the further counters so far are inserted
 abbrev pub invariant-loop-n : goal.invariant-loop-n
 invariant-loop-n l = record {
   rising : IsRising nat_cmp l.counters;

@@ -16,7 +16,7 @@ returns-then-leq g c =
     subst (λ both. IfOk c.copy-then-leq.result (λ copied. copied ≡ both))
     (sym (join_below laws c.args.other.now c.args.self.now c.tells_invariant-2.ensures c.tells_invariant.ensures (c.leq.ensures.0 c.if-leq.true))) c.copy-then-leq.ensures
 
--- the merge is what the laws of maps say is closed
+-- by the law `closed` of maps the merge is a map
 pub of-requires : goal.of-requires
 of-requires g c =
     rw (c.in_ok-entries.ensures, c.entries-mine.ensures, c.entries-theirs.ensures)

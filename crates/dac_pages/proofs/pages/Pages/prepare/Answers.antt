@@ -9,7 +9,7 @@ pub returns : goal.returns
 returns c =
     let w = c.append.new.self in
     let was : published_by (Some c.in-Some.writer) ≡ c.args.self.now = sym (ap published_by c.in-Some.is) ∙ c.self.view_is in
-    let shown : w.paged.shown.value ≡ c.args.self.now.shown = ap (λ d. d.shown.value) c.append.ensures.paged ∙ ap (λ (v : PagesValue). v.shown) was in
+    let shown : w.desk.shown.value ≡ c.args.self.now.shown = ap (λ d. d.shown.value) c.append.ensures.desk ∙ ap (λ (v : PagesValue). v.shown) was in
     elim c.match-append.branch [
       | in-Ok r ↦
           let ready : last_of (drop w.behind w.log.items) ≡ Some c.args.page = ap last_of (r.in-Ok.ensures.pending) ∙ last_of-push (drop c.in-Some.writer.behind c.in-Some.writer.log.items) c.args.page in

@@ -12,10 +12,10 @@ publish_as-writer-requires g c next is =
     let value : published_by (Some w) ≡ c.args.self.now = sym (ap published_by same) ∙ c.self.view_is in
     let page = c.requires.0 in
     let ready : last_of (drop w.behind w.log.items) ≡ Some page = ap (λ (v : PagesValue). v.ready) value ∙ c.requires.1 in
-    let is_page : next ≡ page = is ∙ taken_in (drop w.behind w.log.items) w.paged.shown.value page ready in
-    let before : w.paged.shown.value.place ≡ c.args.self.now.shown.place = ap (λ (v : PagesValue). v.shown.place) value in
+    let is_page : next ≡ page = is ∙ taken_in (drop w.behind w.log.items) w.desk.shown.value page ready in
+    let before : w.desk.shown.value.place ≡ c.args.self.now.shown.place = ap (λ (v : PagesValue). v.shown.place) value in
     let now : next.place ≡ page.place = ap (λ (p : Page). p.place) is_page in
-    rises _ _ w.paged.shown.value next (omega (arith, before, now, c.requires.2))
+    rises _ _ w.desk.shown.value next (omega (arith, before, now, c.requires.2))
 
 pub returns : goal.returns
 returns g c =
@@ -26,6 +26,6 @@ returns g c =
     let page = c.requires.0 in
     let ready : last_of (drop w.behind w.log.items) ≡ Some page = ap (λ (v : PagesValue). v.ready) value ∙ c.requires.1 in
     let done = if_ok _ c.publish_as-writer.result.1 (c.publish_as-writer.ensures.succeeds tt) c.publish_as-writer.ensures.values in
-    let shown : after.paged.shown.value ≡ page = done.0 ∙ taken_in (drop w.behind w.log.items) w.paged.shown.value page ready in
+    let shown : after.desk.shown.value ≡ page = done.0 ∙ taken_in (drop w.behind w.log.items) w.desk.shown.value page ready in
     let none : last_of (drop after.behind after.log.items) ≡ None = last_of-none _ done.1 in
     rw c.put_back.ensures (ap Some shown ∙ sym c.requires.1, none)

@@ -4,7 +4,7 @@ use Rattle.dac_peers.specs.Peers.{number_acked}
 use Rattle.dac_peers.specs.laws.Least.{all_have_the_least, is_number}
 use Rattle.dac_peers.proofs.peers.Peers.acked_past.Goals as goal
 
--- what all acknowledged is at most what the node did
+-- the number that all nodes acknowledged is at most each node's
 pub returns-then-acked-base : goal.returns-then-acked-base
 returns-then-acked-base c =
     let p = c.args.self.now in

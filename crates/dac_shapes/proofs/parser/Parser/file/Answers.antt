@@ -6,7 +6,7 @@ use Rattle.dac_shapes.specs.Shape.{State, list_of, section_at, end_at, file_at, 
 use Rattle.dac_shapes.proofs.Loops.{length_apps}
 use Rattle.dac_shapes.proofs.parser.Parser.file.Goals as goal
 
--- a file whose sections and end are read, by its draft
+-- the draft of a file, from its sections and its end
 file_is : (s t u : State) (sections : List Section) (at : ℕ) (draft : Written) → list_of section_at s ≡ Ok (sections, t) → end_at t ≡ Ok (at, u) → draft ≡ written sections u.seen.met → file_at s ≡ cond (eqb (length draft.apps) 0) (fails NoDistributed at) (Ok draft)
 unfolding file_at
 file_is s t u sections at draft listed ended is = rw (listed, ended, is) refl

@@ -10,14 +10,14 @@ join-requires-clause-mine c = rw c.context-mine.ensures c.self.invariant.state.h
 pub join-requires-clause-theirs : goal.join-requires-clause-theirs
 join-requires-clause-theirs c = rw c.context-theirs.ensures c.other.invariant.state.heard
 
-pub join_beside-requires : goal.join_beside-requires
-join_beside-requires c = known_of_permissions c.self.invariant c.other.invariant (rw (c.context-mine.ensures, c.context-theirs.ensures) at c.in_ok-known.ensures.known)
+pub join_with_context-requires : goal.join_with_context-requires
+join_with_context-requires c = known_of_permissions c.self.invariant c.other.invariant (rw (c.context-mine.ensures, c.context-theirs.ensures) at c.in_ok-known.ensures.known)
 
-pub join_beside-requires-2 : goal.join_beside-requires-2
-join_beside-requires-2 c = rw (c.context-mine.ensures, c.context-theirs.ensures) at c.in_ok-known.ensures.known
+pub join_with_context-requires-2 : goal.join_with_context-requires-2
+join_with_context-requires-2 c = rw (c.context-mine.ensures, c.context-theirs.ensures) at c.in_ok-known.ensures.known
 
-pub join_beside-requires-3 : goal.join_beside-requires-3
-join_beside-requires-3 c = known_of_drains c.self.invariant c.other.invariant (rw (c.context-mine.ensures, c.context-theirs.ensures) at c.in_ok-known.ensures.known)
+pub join_with_context-requires-3 : goal.join_with_context-requires-3
+join_with_context-requires-3 c = known_of_drains c.self.invariant c.other.invariant (rw (c.context-mine.ensures, c.context-theirs.ensures) at c.in_ok-known.ensures.known)
 
 pub invariant_of-result : goal.invariant_of-result
 invariant_of-result c =

@@ -6,14 +6,14 @@ use Rattle.dac_state.proofs.parts.Parts.leq.Goals as goal
 pub leq-requires : goal.leq-requires
 leq-requires c = rw c.context-known.ensures c.self.invariant.state.heard
 
-pub leq_beside-requires : goal.leq_beside-requires
-leq_beside-requires c = permissions_within c.self.invariant c.other.invariant ((rw (c.context-known.ensures, c.context.ensures) at c.leq.ensures).0 c.if-not-leq.false).0
+pub leq_with_contexts-requires : goal.leq_with_contexts-requires
+leq_with_contexts-requires c = permissions_within c.self.invariant c.other.invariant ((rw (c.context-known.ensures, c.context.ensures) at c.leq.ensures).0 c.if-not-leq.false).0
 
-pub leq_beside-requires-2 : goal.leq_beside-requires-2
-leq_beside-requires-2 c = ((rw (c.context-known.ensures, c.context.ensures) at c.leq.ensures).0 c.if-not-leq.false).0
+pub leq_with_contexts-requires-2 : goal.leq_with_contexts-requires-2
+leq_with_contexts-requires-2 c = ((rw (c.context-known.ensures, c.context.ensures) at c.leq.ensures).0 c.if-not-leq.false).0
 
-pub leq_beside-requires-then-leq : goal.leq_beside-requires-then-leq
-leq_beside-requires-then-leq c = drains_within c.self.invariant c.other.invariant ((rw (c.context-known.ensures, c.context.ensures) at c.leq.ensures).0 c.if-not-leq.false).0
+pub leq_with_contexts-requires-then-leq : goal.leq_with_contexts-requires-then-leq
+leq_with_contexts-requires-then-leq c = drains_within c.self.invariant c.other.invariant ((rw (c.context-known.ensures, c.context.ensures) at c.leq.ensures).0 c.if-not-leq.false).0
 
 pub returns-then-not-leq : goal.returns-then-not-leq
 returns-then-not-leq c =
@@ -28,13 +28,13 @@ pub returns-then-leq : goal.returns-then-leq
 returns-then-leq c = rw (← c.self.view_is, ← c.other.view_is) (
   λ e. record {
     heard = ((rw (c.context-known.ensures, c.context.ensures) at c.leq.ensures).0 c.if-not-leq.false).1;
-    permits = shown_below c.self.invariant c.other.invariant (c.leq_beside.ensures.0 c.if-not-leq_beside.false);
-    starts = c.leq_beside-2.ensures.0 c.if-not-leq_beside-2.false;
+    permits = shown_below c.self.invariant c.other.invariant (c.leq_with_contexts.ensures.0 c.if-not-leq_with_contexts.false);
+    starts = c.leq_with_contexts-2.ensures.0 c.if-not-leq_with_contexts-2.false;
     lives = c.leq-2.ensures.0 c.if-not-leq-2.false;
     claims = c.leq-3.ensures.0 c.if-leq.true;
-    drains = shown_drains_below c.self.invariant c.other.invariant (c.leq_beside-then-leq.ensures.0 e);
+    drains = shown_drains_below c.self.invariant c.other.invariant (c.leq_with_contexts-then-leq.ensures.0 e);
   },
-  λ below. c.leq_beside-then-leq.ensures.1 (drains_shown_below c.self.invariant c.other.invariant below.drains),
+  λ below. c.leq_with_contexts-then-leq.ensures.1 (drains_shown_below c.self.invariant c.other.invariant below.drains),
 )
 
 pub returns-else-leq : goal.returns-else-leq

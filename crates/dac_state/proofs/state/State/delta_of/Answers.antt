@@ -1,6 +1,6 @@
 use Rattle.std.proofs.Common.{◌∷◌, [], ◌∙◌, ap, sym}
 use Rattle.dac_wishes.specs.WishesValue.{WishesValue}
-use Rattle.dac_state.specs.Heard.{heard_beside}
+use Rattle.dac_state.specs.Heard.{heard_given}
 use Rattle.dac_state.proofs.Making.{are_parts}
 use Rattle.dac_state.proofs.state.State.delta_of.Goals as goal
 
@@ -8,7 +8,7 @@ pub beside-parts-requires : goal.beside-parts-requires
 beside-parts-requires c =
     are_parts
     (record {
-      heard = ap (heard_beside c.in_ok-heard.heard) (sym c.context.ensures) ∙ c.in_ok-heard.ensures;
+      heard = ap (heard_given c.in_ok-heard.heard) (sym c.context.ensures) ∙ c.in_ok-heard.ensures;
       permissions = c.in_ok-permissions.ensures.permissions;
       wishes = c.in_ok-wishes.ensures.wishes;
       lives = c.in_ok-lives.ensures;

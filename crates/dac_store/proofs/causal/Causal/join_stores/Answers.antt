@@ -23,8 +23,8 @@ returns-then-leaves-2 g c =
     ∙ g.met.S.DotStore.laws.alone_right theirs.store theirs.context mine.context c.tells_invariant-2.ensures.store (c.leaves-2.ensures.unheard c.if-leaves-2.true) in
     subst (λ s. IfOk c.copy-then-leaves-2.result (λ joined. joined ≡ s)) (ap (λ v. v.store) c.other.view_is ∙ sym stays) c.copy-then-leaves-2.ensures
 
-pub returns-then-is_far_behind : goal.returns-then-is_far_behind
-returns-then-is_far_behind g c =
+pub returns-then-is_much_smaller : goal.returns-then-is_much_smaller
+returns-then-is_much_smaller g c =
     let join = g.S.DotStore.join in
     let mine = c.args.self.now in
     let theirs = c.args.other.now in

@@ -1,7 +1,7 @@
 use Rattle.std.proofs.Common.{◌≡◌, length}
 use Rattle.dac_store.proofs.dot_map.DotMapDotStore.is_same.Given as goal
 
--- those that are left decide, and are as many
+-- the result depends on the remaining entries only, which are equally many
 abbrev pub invariant-loop-key : goal.invariant-loop-key
 invariant-loop-key g l = record { decides : l.mine ≡ l.theirs → l.self ≡ l.other; as_many : length l.mine ≡ length l.theirs }
 

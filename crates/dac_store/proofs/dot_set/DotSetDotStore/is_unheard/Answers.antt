@@ -25,7 +25,7 @@ pub returns : goal.returns
 returns c =
     (λ _. each_member dots_total exact_dots c.dots-dot-items.result.now c.args.self.now (rw c.dots-dot-items.ensures (in_order-same dots_total exact_dots c.args.self.now)) (λ x. set.contains c.args.heard.now x ≡ false) _ c.loop-dot-test.false c.loop-dot.invariant, λ _. refl)
 
--- what is not true is false
+-- a negated test is false
 not_true : (b : Bool) → not b ≡ true → b ≡ false
 not_true true e = absurd (false≢true e)
 not_true false e = refl

@@ -6,9 +6,9 @@ use Rattle.dac_store.proofs.parts.Parts.push.Goals as goal
 
 pub returns-clause-ok : goal.returns-clause-ok
 returns-clause-ok g c =
-    ap (λ l. flat_map arc_value c.self.inside.blocks.items ++ l) c.in_ok-push.ensures.items
+    ap (λ l. flat_map arc_value c.self.inside.blocks.items ++ l) (c.push_reserved.ensures.items ∙ ap (λ l. l ++ (c.args.key, c.args.store) ∷ []) c.reserve.ensures.items)
     ∙ sym (append_assoc (flat_map arc_value c.self.inside.blocks.items) c.self.inside.last.items ((c.args.key, c.args.store) ∷ []))
     ∙ ap (λ l. l ++ (c.args.key, c.args.store) ∷ []) c.self.view_is
 
-pub returns-in_err-push-clause-err : goal.returns-in_err-push-clause-err
-returns-in_err-push-clause-err g c = fails_so c.from_residual.result (ap (λ l. flat_map arc_value c.self.inside.blocks.items ++ l) c.in_err-push.ensures.items ∙ c.self.view_is)
+pub returns-in_err-reserve-clause-err : goal.returns-in_err-reserve-clause-err
+returns-in_err-reserve-clause-err g c = fails_so c.from_residual.result (ap (λ l. flat_map arc_value c.self.inside.blocks.items ++ l) c.reserve.ensures.items ∙ c.self.view_is)

@@ -16,7 +16,7 @@ returns-in_err-self-inside c =
     let t = rw c.in_err-self-inside.ensures.after at (next_taken c.self.inside.end c.self.inside.depth c.self.inside.rest.now c.after_gap-bytes.result.now c.args.self.now _ c.self.invariant.0 c.self.invariant.1 c.self.view_is c.after_gap-bytes.ensures.rest c.after_gap-bytes.ensures.within c.in_ok-token.ensures) in
     record { taken = rw (p.1, p.2) t.0; fault = rw (p.1, p.2) t.1; left = search rules; fewer = rw p.1 tt; err = search rules }
 
--- what is left is no longer than the bytes behind the gap
+-- the rest is no longer than the bytes after the gap
 pub invariant_of-self : goal.invariant_of-self
 invariant_of-self c =
     let h = IfOk-at_ok (λ x. length x.1 ≤ length c.after_gap-bytes.result.now) c.in_ok-token.ensures (word_no_more _ _) in

@@ -1,5 +1,5 @@
-use Rattle.dac_weave.specs.Placing.{StillBetween}
+use Rattle.dac_weave.specs.Placing.{BlockedBetween}
 use Rattle.dac_weave.proofs.merge.Merge.find_between.Given as goal
 
 abbrev pub invariant-loop-i : goal.invariant-loop-i
-invariant-loop-i l = StillBetween l.journals l.self l.fn.low l.i
+invariant-loop-i l = BlockedBetween l.journals l.self l.fn.low l.i

@@ -2,5 +2,5 @@ use Rattle.std.proofs.Common.{◌∷◌, ◌∙◌, ap}
 use Rattle.std.specs.FinSet as set
 use Rattle.dac_wishes.proofs.wishes.WishesPiece.delta.Goals as goal
 
-pub delta_beside-requires : goal.delta_beside-requires
-delta_beside-requires c = c.in_ok-named.ensures ∙ ap (λ ks. set.from_list (c.args.dot ∷ ks)) c.over.ensures
+pub delta_with_context-requires : goal.delta_with_context-requires
+delta_with_context-requires c = c.in_ok-named.ensures ∙ ap (λ ks. set.from_list (c.args.dot ∷ ks)) c.over.ensures

@@ -1,7 +1,0 @@
-use Rattle.std.proofs.Common.{◌≡◌, ◌++◌, map, take}
-use Rattle.std.specs.List.{flat_map}
-use Rattle.dac_live_play.specs.Recordings.{remark}
-use Rattle.dac_live_play.proofs.recording.put_remarks.Given as goal
-
-abbrev pub invariant-loop-line : goal.invariant-loop-line
-invariant-loop-line l = l.text.items ≡ l.fn.text.items ++ flat_map remark (map (λ line. line.now) (take l.line-index l.lines))
