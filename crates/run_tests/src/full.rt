@@ -10,7 +10,8 @@ use std::thread::Threads;
 /// Two nodes.
 const TWO: &[u8] = b"[{kernel,[{distributed,[{a,[a@h,b@h]}]}]}].";
 
-/// So many ticks leave less room in a journal than the links need.
+/// So many ticks leave less room in a journal than the links need. Each run has one more than the one before: so the journal is full
+/// at another ship of a phase, or at the one in its last round.
 const TICKS: u64 = 65_500;
 
 /// So many phases are enough for that.
@@ -25,13 +26,13 @@ fn line(node: u8, what: Ask) -> Line {
     }
 }
 
-/// Both nodes boot, the last one's journal is nearly filled, and in phases without lines the links do the rest.
-fn filling(alloc: Global) -> Option<Vec<Phase>> {
+/// Both nodes boot, one's journal is nearly filled, and in phases without lines the links do the rest.
+fn filling(alloc: Global, node: u8, ticks: u64) -> Option<Vec<Phase>> {
     let mut lines = Vec::new(alloc);
     lines.push(line(0, boot(0))).ok()?;
     lines.push(line(1, boot(0))).ok()?;
-    for _time in 0..TICKS {
-        lines.push(line(1, tick(0))).ok()?;
+    for _time in 0..ticks {
+        lines.push(line(node, tick(0))).ok()?;
     }
     let mut phases = Vec::new(alloc);
     phases.push(Phase { lines }).ok()?;
@@ -45,14 +46,19 @@ fn filling(alloc: Global) -> Option<Vec<Phase>> {
     Some(phases)
 }
 
-/// The faults of so many runs are all the cause: the last node's journal is full. That its end of a link is gone then is none.
-fn all_say_full<R: Threads + Wait + Sync>(rt: &R, alloc: Global, times: u32) -> Option<bool> {
-    let phases = filling(alloc)?;
+/// The faults of so many runs are all the cause: this node's journal is full. That its end of a link is gone then is none.
+fn all_say_full<R: Threads + Wait + Sync>(
+    rt: &R,
+    alloc: Global,
+    node: u8,
+    times: u64,
+) -> Option<bool> {
     let full = RunFault::Site {
-        node: NodeId(1),
+        node: NodeId(node),
         why: LiveFault::JournalFull,
     };
-    for _time in 0..times {
+    for time in 0..times {
+        let phases = filling(alloc, node, TICKS.saturating_add(time))?;
         match ran(rt, alloc, TWO, phases.as_slice(), &Open)? {
             Err(fault) if fault == full => {}
             _ => return Some(false),
@@ -63,6 +69,15 @@ fn all_say_full<R: Threads + Wait + Sync>(rt: &R, alloc: Global, times: u32) -> 
 
 #[test]
 fn a_full_journal_is_told_before_a_lost_link(rt: HostRuntime) -> Result<(), Fail> {
-    assert_eq!(rt; all_say_full(&rt, rt.alloc(), 10), Some(true));
+    assert_eq!(rt; all_say_full(&rt, rt.alloc(), 1, 10), Some(true));
+    Ok(())
+}
+
+/// The other node's workers stand before those of the first one, so the fault that is met first is often a lost link.
+#[test]
+fn a_full_journal_of_the_first_node_is_told_before_a_lost_link(
+    rt: HostRuntime,
+) -> Result<(), Fail> {
+    assert_eq!(rt; all_say_full(&rt, rt.alloc(), 0, 3), Some(true));
     Ok(())
 }

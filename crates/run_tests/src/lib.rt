@@ -1,4 +1,4 @@
-//! Tests of runs: workers of two links at once, callers beside links, the turns of the last round, hearings that a gate counts, five nodes, a full journal, and what a run reports. Of links by
+//! Tests of runs: workers of two links at once, callers beside links, the turns of the last round, hearings that a gate counts, five nodes, full journals, the pages of callers' lines, and what a run reports. Of links by
 //! themselves: ends that are gone, letters that are no messages, and room. And of pages that are stale behind a receipt.
 #![tactic(auto)]
 
@@ -12,6 +12,8 @@ mod fresh;
 mod full;
 #[cfg(test)]
 mod last_round;
+#[cfg(test)]
+mod own_reads;
 #[cfg(test)]
 mod runs;
 #[cfg(test)]

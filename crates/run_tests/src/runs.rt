@@ -124,7 +124,7 @@ fn start(node: u8) -> Ask {
     }))
 }
 
-fn permit(node: u8, value: bool) -> Ask {
+pub(crate) fn permit(node: u8, value: bool) -> Ask {
     ask(Event::Command(Command::Permit {
         app: AppId(0),
         node: NodeId(node),

@@ -1,5 +1,5 @@
 //! Who takes turns: the links of the last round in their order, and callers and links beside each other.
-use crate::runs::{EXAMPLE, Open, boot, ran, three_phases, tick};
+use crate::runs::{EXAMPLE, Open, boot, permit, ran, tick};
 use dac_base::NodeId;
 use dac_live::{Closed, Gate, Line, Phase, Record};
 use dac_messages::Event;
@@ -11,6 +11,9 @@ use std::thread::Threads;
 
 /// The links of three nodes, by name.
 const LINKS: [(u8, u8); 6] = [(0, 1), (0, 2), (1, 0), (1, 2), (2, 0), (2, 1)];
+
+/// So many operations does a caller make in a phase.
+const OPERATIONS: u32 = 50;
 
 /// Counts all hearings of a run, and keeps the last one of each link.
 #[derive(Drop)]
@@ -34,17 +37,19 @@ impl Turns {
         }
     }
 
-    /// Whether the last hearings of all were those of the links, by name.
-    fn are_in_order(&self) -> bool {
+    /// Whether the last hearings of all were those of the links that shipped in the last round, by name.
+    fn are_in_order(&self, closed: &[Closed]) -> bool {
         let all = self.all.load(Ordering::SeqCst);
-        let mut left = 6u64;
-        for last in &self.last {
-            left = left.saturating_sub(1);
-            if last.load(Ordering::SeqCst).checked_add(left) != Some(all) {
-                return false;
+        let mut turn = all.saturating_sub(count_in_round(closed));
+        for (link, last) in LINKS.iter().zip(self.last.iter()) {
+            if ships_in_round(closed, link.0, link.1) {
+                turn = turn.saturating_add(1);
+                if last.load(Ordering::SeqCst) != turn {
+                    return false;
+                }
             }
         }
-        true
+        turn == all
     }
 }
 
@@ -85,6 +90,32 @@ fn last_ship(records: &[Record], node: u8) -> Option<usize> {
     last
 }
 
+/// Whether a message was shipped over the link in the last round. A node that has nothing new for another one refuses to ship.
+fn ships_in_round(closed: &[Closed], from: u8, to: u8) -> bool {
+    let Some(one) = closed.get(usize::from(from)) else {
+        return false;
+    };
+    let records = one.records();
+    let Some(place) = last_ship(records, to) else {
+        return false;
+    };
+    match records.get(place) {
+        Some(record) => record.answer.is_ok(),
+        None => false,
+    }
+}
+
+/// Over how many links one was.
+fn count_in_round(closed: &[Closed]) -> u64 {
+    let mut count = 0u64;
+    for (from, to) in LINKS {
+        if ships_in_round(closed, from, to) {
+            count = count.saturating_add(1);
+        }
+    }
+    count
+}
+
 /// Whether the last hearing from a node of a lesser name stands before the last ship to it.
 fn is_heard_first(closed: &[Closed], node: usize, other: u8) -> bool {
     let Some(one) = closed.get(node) else {
@@ -95,23 +126,69 @@ fn is_heard_first(closed: &[Closed], node: usize, other: u8) -> bool {
         last_ship(one.records(), other),
     ) {
         (Some(hears), Some(ships)) => hears < ships,
+        (None, ships) => ships.is_some(),
         _ => false,
     }
 }
 
-/// Whether the links of a run's last round took turns by name: each shipped and was heard before the next one shipped.
-fn take_turns<R: Threads + Wait + Sync>(rt: &R, alloc: Global) -> Option<bool> {
+/// Three nodes boot. Then a caller of each makes so many operations that most are still to be shipped in the last round.
+fn many_operations(alloc: Global) -> Option<Vec<Phase>> {
+    let mut boots = Vec::new(alloc);
+    let mut permits = Vec::new(alloc);
+    for node in 0..3u8 {
+        boots
+            .push(Line {
+                node: NodeId(node),
+                caller: 1,
+                what: boot(0),
+            })
+            .ok()?;
+        for time in 0..OPERATIONS {
+            permits
+                .push(Line {
+                    node: NodeId(node),
+                    caller: 1,
+                    what: permit(node, time % 2 == 0),
+                })
+                .ok()?;
+        }
+    }
+    let mut phases = Vec::new(alloc);
+    phases.push(Phase { lines: boots }).ok()?;
+    phases.push(Phase { lines: permits }).ok()?;
+    Some(phases)
+}
+
+/// Whether the links of a run's last round took turns by name: each shipped and was heard before the next one shipped. And over
+/// how many links a message was shipped.
+fn take_turns<R: Threads + Wait + Sync>(rt: &R, alloc: Global) -> Option<(bool, u64)> {
     let gate = Turns::new();
-    let phases = three_phases(alloc)?;
+    let phases = many_operations(alloc)?;
     let report = ran(rt, alloc, EXAMPLE, phases.as_slice(), &gate)?.ok()?;
     let closed = report.closed.as_slice();
     let heard = is_heard_first(closed, 1, 0) && is_heard_first(closed, 2, 0);
-    Some(gate.are_in_order() && heard && is_heard_first(closed, 2, 1))
+    let in_order = gate.are_in_order(closed) && heard && is_heard_first(closed, 2, 1);
+    Some((in_order, count_in_round(closed)))
+}
+
+/// Whether the links take turns by name in each run, until in one of at most so many each link ships a message in the last round. How
+/// many do hangs on the threads: a node may have learned before the round that another one lacks nothing.
+fn all_take_turns<R: Threads + Wait + Sync>(rt: &R, alloc: Global, times: u32) -> Option<bool> {
+    for _time in 0..times {
+        let (in_order, links) = take_turns(rt, alloc)?;
+        if !in_order {
+            return Some(false);
+        }
+        if links == 6 {
+            return Some(true);
+        }
+    }
+    Some(false)
 }
 
 #[test]
 fn links_take_turns_by_name(rt: HostRuntime) -> Result<(), Fail> {
-    assert_eq!(rt; take_turns(&rt, rt.alloc()), Some(true));
+    assert_eq!(rt; all_take_turns(&rt, rt.alloc(), 100), Some(true));
     Ok(())
 }
 
