@@ -1,5 +1,5 @@
 -- The program's world follows the model worlds that show as it.
-use Rattle.std.proofs.Common.{◌≡◌, ℕ, ◌<◌, ◌-◌, Bool, true, false, cond, inl, inr, List, ◌∷◌, ◌++◌, Option, Some, None, Result, Ok, Err, length, nat_eq, refl, sym, ap, subst, ◌∙◌, lt-ltb, eq-eqb, get_or, true≢false}
+use Rattle.std.proofs.Common.{◌≡◌, ℕ, ◌<◌, Bool, true, false, cond, inl, inr, List, ◌∷◌, ◌++◌, Option, Some, None, Result, Ok, Err, length, nat_eq, refl, sym, ap, subst, ◌∙◌, lt-ltb, eq-eqb, get_or, true≢false}
 use Rattle.std.specs.Prelude.{nat_lt, unwrap_or, IsOk, IfOk, IfErr, IfSome, OnErr}
 use Rattle.std.specs.Option.{option_map}
 use Rattle.std.specs.List.{slice_get}
