@@ -1,8 +1,8 @@
--- What happens at a node that needs nothing of what others issued or shipped.
+-- Events that need no message or operation of the world.
 use Rattle.dac_events.specs.declared.What.{What}
 use Rattle.dac_events.specs.declared.What.TheVariants.{Deliver, Hand}
 
--- it is neither a delivery nor a hand
+-- the event delivers neither a message nor an operation
 abbrev pub IsByItself : What → Type 0
 IsByItself (Deliver k) = ⊥
 IsByItself (Hand k) = ⊥

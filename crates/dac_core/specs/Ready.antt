@@ -1,4 +1,4 @@
--- When a node can do a change, and what was prepared at it.
+-- Changes that a node can apply, and prepared changes.
 use Rattle.std.specs.Prelude.{◌≡◌, List, Some, None, Result, Ok}
 use Rattle.std.specs.List.{slice_get}
 use Rattle.dac_base.specs.declared.NodeId.{NodeId}
@@ -9,15 +9,15 @@ use Rattle.dac_messages.specs.declared.reply.Reply.TheVariants.{Crashed}
 use Rattle.dac_settle.specs.dac_model_world.NodeValue.{NodeValue}
 use Rattle.dac_node.specs.Changes.{ChangeValue, Fits, Prepared, changed}
 
--- numbers are left for the deltas that come, and a crash leaves the node off
+-- the deltas of the change still get numbers, and a crash leaves the node off
 abbrev pub IsReady : NodeValue → ChangeValue → Type 0
 IsReady v change = Fits v change × (change.reply ≡ Crashed → (changed v change).running ≡ None)
 
--- so can the node of this number
+-- the change is ready at the node of this number
 abbrev pub IsReadyAt : List NodeValue → NodeId → ChangeValue → Type 0
 IsReadyAt nodes node change = (v : NodeValue) → slice_get nodes node.0 ≡ Some v → IsReady v change
 
--- What happens at the node of this number is an event that isn't refused there. This is what it does, and the node can do it.
+-- The node of this number doesn't refuse the event, this is its change, and the node can apply it.
 pub record IsPreparedAt (t : Table) (nodes : List NodeValue) (node : NodeId) (what : Result Event WorldFault)
     (change : ChangeValue) : Type 0 where
   pub event : Event

@@ -1,8 +1,9 @@
-//! All controllers of a configuration, with what they issued and shipped, whatever that is.
+//! All controllers of a configuration, with the operations that they issued and the messages that they shipped.
 
 ghost use Rattle.std.specs.Prelude.{◌≡◌, ◌<◌, ◌≤◌, ◌+◌, ◌++◌, [], true, IfOk, IfErr, OnOk, OnErr, Ok, List, length, vec_len, vec_capacity};
 ghost use Rattle.dac_operations.specs.Operations.{Operation};
-ghost use Rattle.dac_settle.specs.dac_model_world.ModelWorld.{event_of, issued_by, shipped_by};
+ghost use Rattle.std.specs.Option.{option_copied};
+ghost use Rattle.dac_settle.specs.dac_model_world.ModelWorld.{counted, event_of, issued_by, shipped_by};
 ghost use Rattle.dac_settle.specs.dac_model_world.WorldChanges.{NodeChanges};
 ghost use Rattle.dac_node.specs.Changes.{changed};
 ghost use Rattle.dac_core.specs.ByItself.{IsByItself};
@@ -19,15 +20,15 @@ use dac_state::Op;
 use std::alloc::Global;
 use std::marker::Model;
 
-/// All controllers of a configuration, every operation that they issued and every message that they shipped. A
-/// [`World`](crate::World) is one of which its events keep what a world needs.
+/// All controllers of a configuration, every operation that they issued and every message that they shipped, without the
+/// invariant of a [`World`](crate::World), so that a step can go through states between two events.
 pub struct Cluster {
-    nodes: Vec<Node>,
-    operations: Vec<Op>,
-    messages: Vec<Message>,
+    pub(crate) nodes: Vec<Node>,
+    pub(crate) operations: Vec<Op>,
+    pub(crate) messages: Vec<Message>,
 }
 
-/// Written out: a drop is one call for a proof, wherever it stands.
+/// Written out so that proofs see each drop as one call.
 impl Drop for Cluster {
     fn drop(self) {
         let Cluster {
@@ -80,7 +81,7 @@ impl Cluster {
         })
     }
 
-    /// One event of the world. After a fault all is as before. What is made of issued operations stays so.
+    /// One event of the world. A fault changes nothing. States and messages still mean issued operations afterwards.
     pub(crate) fn step(&mut self, config: &Config, event: &WorldEvent) -> Result<Reply, WorldFault>
         requires { IsMade self.old }
         ensures made { IsMade self.new }
@@ -99,8 +100,8 @@ impl Cluster {
         }
     }
 
-    /// One event of the world, as [`Cluster::step`] of it, where nothing but the fault is wanted of the answer. What it ships
-    /// is moved, and not copied.
+    /// One event of the world as in [`Cluster::step`], without the reply, so that operations and messages are moved rather
+    /// than copied.
     pub(crate) fn pass(&mut self, config: &Config, event: &WorldEvent) -> Result<(), WorldFault>
         requires { IsMade self.old }
         ensures made { IsMade self.new }
@@ -117,29 +118,7 @@ impl Cluster {
         }
     }
 
-    /// The controller of a node.
-    pub(crate) fn node(&self, node: NodeId) -> &Node
-        requires { node.0 < length self.now.nodes }
-        ensures { slice_get self.now.nodes node.0 ≡ Some result.now }
-    {
-        &self.nodes[node.0 as usize]
-    }
-
-    /// The operations that were issued, in the order of issuing.
-    pub(crate) fn operations(&self) -> &[Op]
-        ensures { result.now ≡ self.now.operations }
-    {
-        self.operations.as_slice()
-    }
-
-    /// The messages that were shipped, in the order of shipping.
-    pub(crate) fn messages(&self) -> &[Message]
-        ensures { result.now ≡ self.now.messages }
-    {
-        self.messages.as_slice()
-    }
-
-    /// What an event does at a node, where it is accepted. Nothing changes yet.
+    /// Prepares an event's change at its node, without applying it.
     fn prepare_at(
         &mut self,
         config: &Config,
@@ -161,7 +140,7 @@ impl Cluster {
         }
     }
 
-    /// An event that comes by itself at a node, which makes ready what the event takes.
+    /// Prepares an event that needs no message or operation of the world, after the node has filled its caches for it.
     fn happen_by_itself(
         &mut self,
         config: &Config,
@@ -179,7 +158,7 @@ impl Cluster {
         self.happen(config, node, event)
     }
 
-    /// Makes ready what an event takes at a node.
+    /// Fills the caches of a node that the event uses.
     fn warm(&mut self, node: NodeId, event: &Event)
         requires { node.0 < length self.old.nodes }
         ensures { self.new ≡ self.old }
@@ -187,7 +166,7 @@ impl Cluster {
         self.nodes[node.0 as usize].warm(event);
     }
 
-    /// An event at a node.
+    /// Prepares an event of a node.
     fn happen(&self, config: &Config, node: NodeId, event: &Event) -> Result<Change, WorldFault>
         requires { node.0 < length self.now.nodes }
         ensures prepared { IfOk result
@@ -201,7 +180,7 @@ impl Cluster {
         }
     }
 
-    /// The message of this number comes to a node.
+    /// Prepares the delivery of the message of this number to a node.
     fn deliver(&self, config: &Config, node: NodeId, number: u64) -> Result<Change, WorldFault>
         requires inside { node.0 < length self.now.nodes }
         requires made { IsMade self.now }
@@ -210,32 +189,17 @@ impl Cluster {
         ensures fault { IfErr result (λ fault. HappensAt config.now self.now node
             (heard_by (counted self.now.messages number)) (Err fault) self.now) }
     {
-        if number == 0 || number > self.messages.len() as u64 {
-            return Err(WorldFault::NoSuchMessage);
-        }
-        self.hear_message(config, node, number)
-    }
-
-    /// The message of this number, which was shipped, comes to a node.
-    fn hear_message(&self, config: &Config, node: NodeId, number: u64) -> Result<Change, WorldFault>
-        requires inside { node.0 < length self.now.nodes }
-        requires counted { 0 < number }
-        requires shipped { number ≤ length self.now.messages }
-        requires made { IsMade self.now }
-        ensures prepared { IfOk result (IsPreparedAt config.now self.now.nodes node
-            (heard_by (counted self.now.messages number))) }
-        ensures fault { IfErr result (λ fault. HappensAt config.now self.now node
-            (heard_by (counted self.now.messages number)) (Err fault) self.now) }
-    {
         laws::heard_dots_are_order();
-        let message = &self.messages[number as usize - 1];
+        let Some(message) = item_of(self.messages.as_slice(), number) else {
+            return Err(WorldFault::NoSuchMessage);
+        };
         match self.nodes[node.0 as usize].prepare_hear_by_dots(config, message) {
             Ok(change) => Ok(change),
             Err(why) => Err(WorldFault::Refused(why)),
         }
     }
 
-    /// The operation of this number comes to a node by itself.
+    /// Prepares the delivery of the operation of this number to a node, without a message.
     fn hand(&self, config: &Config, node: NodeId, number: u64) -> Result<Change, WorldFault>
         requires inside { node.0 < length self.now.nodes }
         requires made { IsMade self.now }
@@ -244,37 +208,17 @@ impl Cluster {
         ensures fault { IfErr result (λ fault. HappensAt config.now self.now node
             (handed_by (counted self.now.operations number)) (Err fault) self.now) }
     {
-        if number == 0 || number > self.operations.len() as u64 {
-            return Err(WorldFault::NoSuchOperation);
-        }
-        self.hear_operation(config, node, number)
-    }
-
-    /// The operation of this number, which was issued, comes to a node by itself.
-    fn hear_operation(
-        &self,
-        config: &Config,
-        node: NodeId,
-        number: u64,
-    ) -> Result<Change, WorldFault>
-        requires inside { node.0 < length self.now.nodes }
-        requires counted { 0 < number }
-        requires issued { number ≤ length self.now.operations }
-        requires made { IsMade self.now }
-        ensures prepared { IfOk result (IsPreparedAt config.now self.now.nodes node
-            (handed_by (counted self.now.operations number))) }
-        ensures fault { IfErr result (λ fault. HappensAt config.now self.now node
-            (handed_by (counted self.now.operations number)) (Err fault) self.now) }
-    {
         laws::heard_dots_are_order();
-        let operation = &self.operations[number as usize - 1];
+        let Some(operation) = item_of(self.operations.as_slice(), number) else {
+            return Err(WorldFault::NoSuchOperation);
+        };
         match self.nodes[node.0 as usize].prepare_hear_op_by_dot(operation) {
             Ok(change) => Ok(change),
             Err(why) => Err(WorldFault::Refused(why)),
         }
     }
 
-    /// Does what a node prepared, and answers memory that is refused as a refusal. A crash takes none.
+    /// Applies a prepared change and returns its reply. A crash never fails, because it allocates nothing.
     fn go_on(&mut self, node: NodeId, mut change: Change) -> Result<Reply, WorldFault>
         requires inside { node.0 < length self.old.nodes }
         requires ready { IsReadyAt self.old.nodes node change }
@@ -290,7 +234,7 @@ impl Cluster {
         }
     }
 
-    /// Does what a node prepared, and leaves the reply in it. All that takes memory comes before what can't be taken back.
+    /// Applies a prepared change, and leaves the reply in it. All allocations precede the first effect.
     fn change(&mut self, node: NodeId, change: &mut Change) -> Result<(), NoMemory>
         requires inside { node.0 < length self.old.nodes }
         requires ready { IsReadyAt self.old.nodes node change.old }
@@ -310,7 +254,7 @@ impl Cluster {
         Ok(())
     }
 
-    /// As [`Cluster::go_on`], without the reply.
+    /// Applies a prepared change like [`Cluster::go_on`], without the reply.
     fn pass_on(&mut self, node: NodeId, change: Change) -> Result<(), WorldFault>
         requires inside { node.0 < length self.old.nodes }
         requires ready { IsReadyAt self.old.nodes node change }
@@ -326,7 +270,7 @@ impl Cluster {
         }
     }
 
-    /// As [`Cluster::change`], where the reply isn't left. What it issues and ships is moved.
+    /// Applies a prepared change like [`Cluster::change`], and moves the operations and messages of its reply.
     fn change_by(&mut self, node: NodeId, mut change: Change) -> Result<(), NoMemory>
         requires inside { node.0 < length self.old.nodes }
         requires ready { IsReadyAt self.old.nodes node change }
@@ -350,7 +294,17 @@ impl Cluster {
     }
 }
 
-/// The node's event, where that is neither a message nor an operation of the world's.
+/// The item of this number, counted from 1.
+fn item_of<T>(items: &[T], number: u64) -> Option<&T>
+    ensures { option_copied result ≡ counted items.now number }
+{
+    if number == 0 || number > items.len() as u64 {
+        return None;
+    }
+    Some(&items[number as usize - 1])
+}
+
+/// The node's event, if it needs no message or operation of the world.
 fn event_by_itself(what: What) -> Event
     requires { IsByItself what }
     ensures { (operations : List Operation) (messages : List Message)
@@ -366,7 +320,7 @@ fn event_by_itself(what: What) -> Event
     }
 }
 
-/// Whether the reply to what a node prepared is one that issues and ships nothing: that of a crash, or to what is heard.
+/// Whether a prepared change issues and ships nothing, as a crash or an incoming message.
 fn notes_nothing(change: &Change) -> bool
     ensures issues { result ≡ true → issued_by change.now.reply ≡ [] }
     ensures ships { result ≡ true → shipped_by change.now.reply ≡ [] }
@@ -378,7 +332,7 @@ fn notes_nothing(change: &Change) -> bool
     }
 }
 
-/// Does what a node prepared, and leaves the reply in it.
+/// Applies a prepared change to its node, and leaves the reply in it.
 fn change_node(nodes: &mut Vec<Node>, node: NodeId, change: &mut Change) -> Result<(), NoMemory>
     requires inside { node.0 < length nodes.old.items }
     requires ready { IsReadyAt nodes.old.items node change.old }
@@ -391,7 +345,7 @@ fn change_node(nodes: &mut Vec<Node>, node: NodeId, change: &mut Change) -> Resu
     nodes[node.0 as usize].perform(change)
 }
 
-/// How many operations the reply to a change issues.
+/// The number of operations that a change issues.
 fn issued_count(change: &Change) -> usize
     ensures { result ≡ length (issued_by change.now.reply) }
 {
@@ -402,7 +356,7 @@ fn issued_count(change: &Change) -> usize
     }
 }
 
-/// Makes room for what the reply to a change issues and ships.
+/// Reserves room for the operations and the message of a change.
 fn make_room(
     operations: &mut Vec<Op>,
     messages: &mut Vec<Message>,
@@ -420,7 +374,7 @@ fn make_room(
     Ok(())
 }
 
-/// Notes what a reply issues and ships, where there is room.
+/// Appends the operations and the message of a reply to the lists, which have room for them.
 fn note(operations: &mut Vec<Op>, messages: &mut Vec<Message>, reply: Reply)
     requires operations_room { vec_len operations.old + length (issued_by reply)
         ≤ vec_capacity operations.old }

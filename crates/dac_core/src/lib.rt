@@ -1,17 +1,20 @@
 //! One controller, and the world of all controllers of a cluster.
 //!
-//! A [`Node`] is one controller: off with the number of its last incarnation, or running with the state that it has
-//! heard and issued. It changes by [`Node::step`], or by the second half of a step, one [`Event`] at a time. A
-//! [`World`] has all controllers of a configuration, every operation that they issued and every message that they
-//! shipped. Messages and single operations may be lost, repeated and reordered, and controllers may crash.
+//! A [`Node`] is one controller: off with the number of its last incarnation, or running with a state. It changes by
+//! [`Node::step`], or by the second half of a step, one [`Event`] at a time. A [`World`] has all controllers of a
+//! configuration, every operation that they issued and every message that they shipped. Messages and single operations
+//! can be lost, repeated and reordered, and controllers can crash.
 //!
-//! The promises are convergence and settling, on [`World::run`]. After any list of events each running
-//! controller's state is the meaning of the set of operations that it has heard. So controllers that heard
-//! the same set hold equal states. Merging two states gives their least upper bound. Where the events end in enough
-//! rounds, begun in a ready world, each application is settled at each running controller.
+//! The contract of [`World::run`] promises convergence and settling. After any list of events each running controller's
+//! state is the meaning of the set of operations that it has heard, so that controllers that heard the same set hold equal
+//! states, and merging two states gives their least upper bound. If the events end in enough rounds, begun in a ready
+//! world, each application is settled at each running controller.
 //!
-//! A caller of a world, for a configuration of one application and two nodes. It tells whom the second node takes for the
-//! holder, once it has heard of the first one's claim. The module `callers` of `controller_tests` runs it.
+//! Functions that don't return `NoMemory` or [`WorldFault`] allocate nothing. A call that fails leaves its arguments
+//! unchanged, except for caches that contracts don't see.
+//!
+//! This caller runs one application on two nodes, and returns the holder that the second node names after it received
+//! the first one's claim. The module `callers` of `controller_tests` runs it.
 //!
 //! ```
 //! let (main, spare, app) = (NodeId(0), NodeId(1), AppId(0));

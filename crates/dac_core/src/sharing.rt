@@ -1,4 +1,4 @@
-//! Equal intervals of several nodes that share memory.
+//! Equal delta intervals of several nodes share memory.
 
 ghost use Rattle.std.specs.Prelude.{◌≡◌};
 
@@ -6,8 +6,8 @@ use dac_messages::{Body, Message, Reply};
 use dac_node::Change;
 use dac_state::State;
 
-/// Where the last message brings an interval of another node, an equal one that is shipped now becomes a copy of it. In a
-/// round the nodes that have heard of all ship equal ones. Those of one node share memory by themselves.
+/// If the last message contains an interval of another node, an equal one that is shipped now becomes a copy of it. Nodes
+/// that have heard everything ship equal intervals in a round. Those of one node share memory anyway.
 pub(crate) fn share_last(messages: &[Message], change: &mut Change)
     ensures { change.new ≡ change.old }
 {
@@ -16,7 +16,7 @@ pub(crate) fn share_last(messages: &[Message], change: &mut Change)
     }
 }
 
-/// The interval that the last message brings, where a change ships one of another node.
+/// The interval in the last message, if a change ships one of another node.
 fn last_of_another<'a>(messages: &'a [Message], change: &Change) -> Option<&'a State> {
     let Some(Reply::Shipped(message)) = change.reply() else {
         return None;

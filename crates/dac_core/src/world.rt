@@ -15,15 +15,15 @@ use std::alloc::Global;
 use std::marker::Model;
 
 /// All controllers of a configuration, every operation that they issued and every message that they
-/// shipped. A message may be delivered late, twice, after its sender's crash or never.
+/// shipped. A message can be delivered late, twice, after its sender's crash or never.
 ///
-/// States and messages mean operations that were issued, no two of which have one dot. So what comes to a controller is
-/// compared with its state by heard dots alone.
+/// States and messages mean operations that were issued, no two of which have the same dot. Therefore a controller
+/// compares an incoming message with its state by heard dots alone.
 pub struct World {
     cluster: Cluster,
 }
 
-/// Written out: a drop is one call for a proof, wherever it stands.
+/// Written out so that proofs see each drop as one call.
 impl Drop for World {
     fn drop(self) {
         let World { cluster: _cluster } = self;
@@ -56,7 +56,7 @@ impl World {
     ghost use Rattle.dac_settle.specs.dac_model_world.AtNode.{HearsIn};
     ghost use Rattle.dac_core.specs.Passing.{Passes};
 
-    /// All controllers of the configuration, off and never booted. [`NoMemory`] is the only error.
+    /// All controllers of the configuration, off and never booted.
     pub fn new(alloc: Global, config: &Config) -> Result<Self, NoMemory>
         ensures { IfOk result (Shows config.now (start config.now)) }
     {
@@ -64,9 +64,9 @@ impl World {
         Ok(World { cluster })
     }
 
-    /// A whole run: these events, one after another, in a new world, with the answer to each. An event that is
-    /// answered by `NoMemory` is no event. The run itself is answered so where memory is refused for the world or for
-    /// the list of answers, before any event; no clause speaks of that.
+    /// A whole run: these events in sequence in a new world, with the result of each. An event whose result is
+    /// `NoMemory` changes nothing. The run itself fails with `NoMemory` if the world or the list of results can't be
+    /// allocated, before any event; no clause covers that.
     pub fn run(
         alloc: Global,
         config: &Config,
@@ -75,13 +75,13 @@ impl World {
         ensures run { IfOk result (λ both. RanAs config.now events.now both.1.items both.0) }
         ensures answers { IfOk result (λ both. length both.1.items ≡ length events.now) }
         ensures count { IfOk result (λ both. length both.0.nodes ≡ node_count config.now) }
-        // Convergence. Each running controller's state is the meaning of the issued operations whose dots it has heard. So
-        // controllers that heard the same set hold equal states and bytes, and name the same holder and the same next
-        // candidate. The record says more: of what was issued and shipped, of answers, of causes and of histories.
+        // Convergence. Each running controller's state is the meaning of the issued operations whose dots it has heard.
+        // Therefore controllers that heard the same set hold equal states and bytes, and name the same holder and the same
+        // next candidate. The record also covers operations, messages, results, causality and histories.
         ensures converges { IfOk result
             (λ both. Converges config.now events.now both.1.items both.0) }
-        // Settling. Let the events end in as many rounds as there are applications, begun in a ready world. Then nothing is
-        // to be done about any application at any running controller.
+        // Settling. If the events end in as many rounds as there are applications, begun in a ready world, then no running
+        // controller has anything left to do about any application.
         ensures settles { IfOk result (λ both. Settles config.now events.now both.1.items both.0) }
     {
         let mut world = World::new(alloc, config)?;
@@ -90,17 +90,17 @@ impl World {
             let answer = world.step(config, event);
             let _ = answers.push(answer);
         }
-        // What holds of every run holds of this one.
+        // The laws hold of every run, so they hold of this one.
         laws::runs_converge();
         rounds_settle();
         Ok((world, answers))
     }
 
-    /// One event of the world. After a fault all is as before.
+    /// One event of the world. A fault changes nothing.
     pub fn step(&mut self, config: &Config, event: &WorldEvent) -> Result<Reply, WorldFault>
         ensures follows { Follows config.now self.old (λ w. happens config.now w event.now) result
             self.new }
-        // What the node has heard grows by the dots that its event brings, and by no more; no other node changes.
+        // The node's heard dots grow by exactly those that its event brings, and no other node changes.
         ensures heard { IfOk result (λ reply. HearsIn self.old event.now reply self.new) }
         ensures unchanged { OnErr result (self.new ≡ self.old) }
         ensures count { length self.new.nodes ≡ length self.old.nodes }
@@ -108,8 +108,8 @@ impl World {
         self.cluster.step(config, event)
     }
 
-    /// One event of the world, as [`World::step`] of it, where nothing but the fault is wanted of the answer. What it ships
-    /// is moved, and not copied.
+    /// One event of the world as in [`World::step`], without the reply, so that operations and messages are moved rather
+    /// than copied.
     pub fn pass(&mut self, config: &Config, event: &WorldEvent) -> Result<(), WorldFault>
         ensures passes { Passes config.now self.old event.now result self.new }
         ensures unchanged { OnErr result (self.new ≡ self.old) }
@@ -123,20 +123,20 @@ impl World {
         requires { node.0 < length self.now.nodes }
         ensures { slice_get self.now.nodes node.0 ≡ Some result.now }
     {
-        self.cluster.node(node)
+        &self.cluster.nodes[node.0 as usize]
     }
 
-    /// The operations that were issued, in the order of issuing.
+    /// All issued operations, in the order of issue.
     pub fn operations(&self) -> &[Op]
         ensures { result.now ≡ self.now.operations }
     {
-        self.cluster.operations()
+        self.cluster.operations.as_slice()
     }
 
-    /// The messages that were shipped, in the order of shipping.
+    /// All shipped messages, in the order of shipping.
     pub fn messages(&self) -> &[Message]
         ensures { result.now ≡ self.now.messages }
     {
-        self.cluster.messages()
+        self.cluster.messages.as_slice()
     }
 }

@@ -1,5 +1,5 @@
 -- The program's world follows the model worlds that show as it.
-use Rattle.std.proofs.Common.{◌≡◌, ℕ, ◌<◌, ◌-◌, Bool, true, false, cond, inl, inr, List, ◌∷◌, ◌++◌, Option, Some, None, Result, Ok, Err, length, nat_eq, refl, sym, ap, subst, ◌∙◌, lt-ltb, eq-eqb, get_or, true≢false}
+use Rattle.std.proofs.Common.{◌≡◌, ℕ, ◌<◌, Bool, true, false, cond, inl, inr, List, ◌∷◌, ◌++◌, Option, Some, None, Result, Ok, Err, length, nat_eq, refl, sym, ap, subst, ◌∙◌, lt-ltb, eq-eqb, get_or, true≢false}
 use Rattle.std.specs.Prelude.{nat_lt, unwrap_or, IsOk, IfOk, IfErr, IfSome, OnErr}
 use Rattle.std.specs.Option.{option_map}
 use Rattle.std.specs.List.{slice_get}
@@ -29,7 +29,7 @@ use Rattle.dac_model_node.specs.Step.{model_step, step_by, accepted, Stepped}
 use Rattle.dac_model_node.specs.Hearing.{HearsExactly}
 use Rattle.dac_model_node.specs.Accepted.{AcceptedAs, AreNewest, IsNotingBy, left_by, reply_by}
 use Rattle.dac_model_world.specs.WorldValue.{WorldValue}
-use Rattle.dac_model_world.specs.ModelWorld.{ModelWorld, Shows, WorldStepped, happens, happens_by, answered_by, event_of, counted, numbered, with_node, issued_by, shipped_by, out_of_memory, Step, Follows}
+use Rattle.dac_model_world.specs.ModelWorld.{ModelWorld, Shows, WorldStepped, happens, happens_by, answered_by, event_of, numbered, with_node, issued_by, shipped_by, out_of_memory, Step, Follows}
 use Rattle.dac_model_world.specs.WorldChanges.{Goes}
 use Rattle.dac_model_world.specs.AtNode.{HearsAt, HearsIn, HappensAt}
 use Rattle.dac_model_node.specs.laws.Heard.{hears_exactly}
@@ -185,12 +185,6 @@ happens_at t v e lt w h =
 -- the node that the code reads
 pub node_at : (v : WorldValue) (me : NodeId) (x : NodeValue) → me.0 < length v.nodes → x ≡ get_or v.nodes me.0 x → Here v me x
 node_at v me x lt read = record { inside = lt; there = slice_get_read v.nodes (length v.nodes) me.0 x refl lt read }
-
--- the item of a number that the code reads
-pub counted_there : {X : Type 0} (xs : List X) (k : ℕ) (x : X) → (k ≡ 0 → ⊥) → k - 1 < length xs → x ≡ get_or xs (k - 1) x → counted xs k ≡ Some x
-counted_there xs k x some lt read =
-    ap (λ b. cond b None (slice_get xs (k - 1))) (false_from_ne_true (nat_eq k 0) (λ e. some (exact_unsigned_eq k 0 e)))
-    ∙ slice_get_read xs (length xs) (k - 1) x refl lt read
 
 -- a prepared change is applied, or fails with `NoMemory` and changes nothing
 gone_follows : (t : Table) (v u : WorldValue) (me : NodeId) (e : Event) (old : NodeValue) (become : NodeValue → NodeValue) (own : Reply) (answer : Result Reply WorldFault) → Here v me old → AcceptedAs t me old e (become old) own →

@@ -23,7 +23,7 @@ loop-event-preserved c =
       room = search rules;
     }
 
--- the run of all events, once the loop has taken each
+-- the run of all events, at the end of the loop
 whole : (t : Table) (events : List WorldEvent) (answers : List (Result Reply WorldFault)) (v : WorldValue) (i : ℕ) → length events ≤ i → RanAs t (take i events) answers v → RanAs t events answers v
 whole t events answers v i h r = rw take_all at r
 
