@@ -1,13 +1,17 @@
-"""The program's behavior if its output can't be written. Skipped if the models replace it."""
+"""The program's behavior if its output can't be written or memory is short. Skipped if the models replace it."""
 
 from __future__ import annotations
 
+import functools
+import resource
 import subprocess
 import unittest
 from pathlib import Path
 
 from support import EXAMPLES, IS_STAND_IN, PROGRAM
 
+# Limits of memory, in KiB, around those below which the C library's loader fails. It ends with this status.
+LIMITS, NOT_LOADED = range(2_600, 4_400, 4), 127
 INPUTS = {"check": "manual.config", "sim": "failover.distac", "live": "live-three-nodes.distac", "record": "race.live"}
 
 
@@ -32,6 +36,15 @@ class Program(unittest.TestCase):
     def test_a_reader_that_wants_no_more_is_no_fault(self) -> None:
         for command in INPUTS:
             self.assertEqual(self.ended('"$0" "$1" | true', command), (0, ""))
+
+    def test_want_of_memory_is_printed(self) -> None:
+        source = Path(EXAMPLES, INPUTS["check"]).read_bytes()
+        right = (0, Path(EXAMPLES, "manual.out").read_bytes(), b"")
+        for limit in LIMITS:
+            limited = functools.partial(resource.setrlimit, resource.RLIMIT_AS, (1024 * limit, 1024 * limit))
+            done = subprocess.run([PROGRAM, "check"], input=source, capture_output=True, check=False, preexec_fn=limited)
+            said = (done.returncode, done.stdout, done.stderr)
+            self.assertTrue(done.returncode == NOT_LOADED or said in (right, (1, b"out of memory\n", b"")), (limit, said))
 
     def test_help_and_version(self) -> None:
         for word in ("--help", "--version"):
