@@ -1,5 +1,5 @@
 //! A dot store paired with its causal context.
-ghost use Rattle.std.specs.Prelude.{◌≡◌, ◌↔◌, true, IsTrue, IfOk, IfErr};
+ghost use Rattle.std.specs.Prelude.{◌≡◌, ◌↔◌, true, IsTrue, IfOk, IfErr, OnOk, OnErr};
 ghost use Rattle.std.specs.FinSet as set;
 ghost use Rattle.dac_origins.specs.Dots.{IsSubset};
 ghost use Rattle.dac_store.specs.Stores.{IsHeld, IsStoredBelow, IsUnheard, join_stored};
@@ -109,6 +109,33 @@ impl<S: DotStore> Causal<S> {
         let store = self.join_stores(other)?;
         let context = union.copy()?;
         Ok(Causal { store, context })
+    }
+
+    /// Joins the other value into this one, in place where possible. Takes `union`, the union of both contexts. After
+    /// [`NoMemory`] this value is unchanged.
+    pub fn absorb_with_context(
+        &mut self,
+        other: &Self,
+        union: SharedContext,
+    ) -> Result<(), NoMemory>
+        requires { union ≡ set.union self.old.context other.now.context }
+        ensures ok { OnOk result (self.new ≡ join_stored S.join self.old other.now) }
+        ensures err { OnErr result (self.new ≡ self.old) }
+    {
+        self.tells_invariant();
+        other.tells_invariant();
+        if other.leaves(self) {
+            self.context = union;
+            return Ok(());
+        }
+        if self.leaves(other) || self.is_much_smaller(other) {
+            self.store = self.join_stores(other)?;
+        } else {
+            let heard = self.context.context();
+            self.store.absorb_in(heard, &other.store, other.context())?;
+        }
+        self.context = union;
+        Ok(())
     }
 
     /// Whether this value is below the other one, if this context is a subset of the other.

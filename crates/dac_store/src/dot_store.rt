@@ -1,5 +1,5 @@
 //! The trait of dot stores.
-ghost use Rattle.std.specs.Prelude.{◌≡◌, ◌↔◌, Bool, true, IsTrue, IfOk};
+ghost use Rattle.std.specs.Prelude.{◌≡◌, ◌↔◌, Bool, true, IsTrue, IfOk, OnOk, OnErr};
 ghost use Rattle.dac_origins.specs.Dots.{Dots};
 ghost use Rattle.dac_origins.specs.declared.Dot.{Dot};
 ghost use Rattle.dac_dots.specs.DotFilters.{may_have};
@@ -58,6 +58,23 @@ pub trait DotStore: Drop {
     ) -> Result<Self, NoMemory>
         ensures { IfOk result
             (λ joined. joined ≡ join self.now heard.now other.now other_heard.now) };
+
+    /// Joins the other store into this one, as [`DotStore::join_in`] joins them. After [`NoMemory`] this store is
+    /// unchanged. By default it makes the join anew.
+    fn absorb_in(
+        &mut self,
+        heard: &Context,
+        other: &Self,
+        other_heard: &Context,
+    ) -> Result<(), NoMemory>
+        ensures ok { OnOk result
+            (self.new ≡ join self.old heard.now other.now other_heard.now) }
+        ensures err { OnErr result (self.new ≡ self.old) }
+    {
+        let joined = self.join_in(heard, other, other_heard)?;
+        *self = joined;
+        Ok(())
+    }
 
     /// Whether this store is below the other one with these contexts: each dot of the other that is in `heard` is in
     /// this store too, with a value that isn't greater.
