@@ -95,12 +95,16 @@ module _ {L : Type 0} (is_value : L → Type 0) (join : L → L → L) where
         let same = ap (λ (k : KeptDeltas L). k.base) shown in
         omega arith
 
+    -- one more ending
+    pub joined_end : (mid : List (L × List L)) (e : L × List L) → AreJoined is_value join (es ++ e ∷ []) → mid ≡ es ++ e ∷ [] → AreJoined is_value join mid × (deltas_of mid ≡ deltas_of es ++ e.0 ∷ [])
+    joined_end mid e joined pushed = (
+      subst (AreJoined is_value join) (sym pushed) joined,
+      ap deltas_of pushed ∙ map-append (λ (x : L × List L). x.0) es (e ∷ []),
+    )
+
     -- one more delta
     pub joined_one : (mid : List (L × List L)) (d : L) → is_value d → mid ≡ es ++ (d, []) ∷ [] → AreJoined is_value join mid × (deltas_of mid ≡ deltas_of es ++ d ∷ [])
-    joined_one mid d value pushed = (
-      subst (AreJoined is_value join) (sym pushed) (joined_push is_value join es d h.joined value),
-      ap deltas_of pushed ∙ map-append (λ (x : L × List L). x.0) es ((d, []) ∷ []),
-    )
+    joined_one mid d value pushed = joined_end mid (d, []) (joined_push is_value join es d h.joined value) pushed
 
     -- making joins changes nothing else
     pub kept_same : (new : List (L × List L)) → AreJoined is_value join new → deltas_of new ≡ deltas_of es → IsKept is_value join count new

@@ -172,6 +172,13 @@ impl<L: Lattice> BlockEnd<L> {
         }
     }
 
+    /// The delta.
+    pub(crate) fn delta(&self) -> &L
+        ensures { result.now ≡ self.now.0 }
+    {
+        &self.delta
+    }
+
     /// The level of the longest block with a join, or 0 for the delta alone.
     pub(crate) fn level(&self) -> usize
         ensures { result ≡ length self.now.1 }

@@ -26,12 +26,12 @@ pub const MAX_DELTAS: usize = 1 << MOST_LEVEL;
 /// caches one interval until the next delta, so that peers that receive the same interval share it.
 #[derive(Drop)]
 pub struct Buffer<L: Bottom> {
-    alloc: Global,
-    count: u64,
-    kept: VecDeque<BlockEnd<L>>,
-    ready: Option<(u64, L)>,
+    pub(crate) alloc: Global,
+    pub(crate) count: u64,
+    pub(crate) kept: VecDeque<BlockEnd<L>>,
+    pub(crate) ready: Option<(u64, L)>,
     /// Whether a push makes the joins of its blocks: false for a lazy buffer.
-    makes_joins: bool,
+    pub(crate) makes_joins: bool,
 }
 
 impl<L: Bottom> Model for Buffer<L> {
@@ -46,7 +46,7 @@ impl<L: Bottom> Model for Buffer<L> {
 }
 
 /// Drops all but the newest 256 deltas.
-fn keep_newest<L: Bottom>(kept: &mut VecDeque<BlockEnd<L>>)
+pub(crate) fn keep_newest<L: Bottom>(kept: &mut VecDeque<BlockEnd<L>>)
     ensures { kept.new.items ≡ drop (length kept.old.items - MAX_DELTAS) kept.old.items }
 {
     let dropped = kept.len().saturating_sub(MAX_DELTAS);
