@@ -6,7 +6,7 @@ ghost use Rattle.dac_deltas.specs.declared.blocks.TheConstants.{MOST_LEVEL};
 ghost use Rattle.dac_deltas.specs.declared.buffer.TheConstants.{MAX_DELTAS};
 
 use crate::blocks::{
-    BlockEnd, MOST_LEVEL, add_joined, join_from, level_at, longest_joined, make_all_joins,
+    BlockEnd, MOST_LEVEL, add_joined, level_at, longest_joined, make_all_joins, next_end,
 };
 use dac_base::{MAX_COUNTER, NoMemory};
 use dac_lattice::{Bottom, Lattice};
@@ -144,14 +144,11 @@ impl<L: Bottom> Buffer<L> {
         ensures ok { OnOk result (self.new ≡ pushed self.old delta) }
         ensures err { OnErr result (self.new ≡ self.old) }
     {
-        delta.tells_invariant();
         let base = self.base();
-        let length = self.kept.len();
-        self.kept.push_back(BlockEnd::new(self.alloc, delta))?;
-        if let Err(refused) = join_from(&mut self.kept, base, length, self.makes_joins) {
-            self.kept.truncate(length);
-            return Err(refused);
-        }
+        let Some(end) = next_end(self.alloc, &mut self.kept, base, delta, self.makes_joins) else {
+            return Err(NoMemory);
+        };
+        self.kept.push_back_reserved(end);
         self.ready = None;
         self.count += 1;
         keep_newest(&mut self.kept);

@@ -1,13 +1,11 @@
 //! A push in two steps: all that can fail, and then the rest.
-ghost use Rattle.std.specs.Prelude.{◌≡◌, ◌+◌, ◌<◌, ◌++◌, ◌∷◌, [], length, IfSome, MatchResult};
-ghost use Rattle.std.specs.VecDeque.{deque_len, deque_capacity};
+ghost use Rattle.std.specs.Prelude.{◌≡◌, ◌<◌, MatchResult};
 ghost use Rattle.dac_base.specs.declared.limits.TheConstants.{MAX_COUNTER};
 ghost use Rattle.dac_deltas.specs.KeptDeltas.{pushed};
-ghost use Rattle.dac_deltas.specs.BlockEnds.{AreJoined, deltas_of};
 
-use crate::blocks::{BlockEnd, join_from};
+use crate::blocks::{BlockEnd, next_end};
 use crate::buffer::{Buffer, keep_newest};
-use dac_lattice::{Bottom, Lattice};
+use dac_lattice::Bottom;
 use std::alloc::Global;
 use std::collections::VecDeque;
 use std::marker::Model;
@@ -38,35 +36,6 @@ impl<L: Bottom> Model for Staged<L> {
 
     ghost invariant = { λ s. IsStaged L.is_value L.join L.bottom s.count s.kept.items s.ready s.end
         × (deque_len s.kept < deque_capacity s.kept) };
-}
-
-/// The next delta to store, with the joins of the blocks that end with it if `makes_joins`. The first stored delta has
-/// number `base`. Leaves the stored deltas, with room for one more. `None` for want of memory.
-fn next_end<L: Lattice>(
-    alloc: Global,
-    kept: &mut VecDeque<BlockEnd<L>>,
-    base: u64,
-    delta: L,
-    makes_joins: bool,
-) -> Option<BlockEnd<L>>
-    requires room { base + length kept.old.items < MAX_COUNTER }
-    requires joined { AreJoined L.is_value L.join kept.old.items }
-    ensures joined { AreJoined L.is_value L.join kept.new.items }
-    ensures same { deltas_of kept.new.items ≡ deltas_of kept.old.items }
-    ensures delta { IfSome result (λ end. end.0 ≡ delta) }
-    ensures end { IfSome result
-        (λ end. AreJoined L.is_value L.join (kept.new.items ++ end ∷ [])) }
-    ensures place { IfSome result (λ _. deque_len kept.new < deque_capacity kept.new) }
-{
-    delta.tells_invariant();
-    let length = kept.len();
-    if kept.push_back(BlockEnd::new(alloc, delta)).is_err() {
-        return None;
-    }
-    let joined = join_from(kept, base, length, makes_joins);
-    let end = kept.pop_back();
-    joined.ok()?;
-    end
 }
 
 impl<L: Bottom> Buffer<L> {

@@ -12,6 +12,6 @@ invariant_of-result g c =
     let end = c.self.inside.end in
     let mid = c.push_back_reserved.new.self.items in
     let staged = c.self.invariant.0 in
-    let one = joined_end is_value join count es staged.held.kept mid end staged.joined c.push_back_reserved.ensures.items in
+    let one = joined_end is_value join es mid end staged.joined c.push_back_reserved.ensures.items in
     let room : count + 1 ≤ MAX_COUNTER = let below = staged.countable in omega arith in
     record { kept = kept_added is_value join count es staged.held.kept mid c.keep_newest.new.kept.items (end.0 ∷ []) room one.0 one.1 c.keep_newest.ensures; ready = tt }
