@@ -269,8 +269,8 @@ impl Parts {
 /// Joins other permissions and wishes into these. Takes `union`, the union of the known dots of both sides. After
 /// [`NoMemory`] both are unchanged.
 ///
-/// Only one of both changes in place, the last, because a failure after that could not be undone. It is the one that
-/// the other side changes: the permissions if the other side has no start, when a join of the wishes copies little.
+/// Only one of both changes in place, the last, because a failure after that could not be undone. It is the permissions
+/// if the other side has some. Otherwise it is the wishes, because then the join of the permissions mostly shares them.
 fn absorb_standing(
     permissions: &mut Permissions,
     wishes: &mut Wishes,
@@ -286,7 +286,7 @@ fn absorb_standing(
     ensures same_permits { OnErr result (permissions.new ≡ permissions.old) }
     ensures same_starts { OnErr result (wishes.new ≡ wishes.old) }
 {
-    if other_wishes.len() == 0 {
+    if other_permissions.len() > 0 {
         let joined = wishes.join_with_context(other_wishes, &union)?;
         permissions.absorb_with_context(other_permissions, union)?;
         *wishes = joined;
