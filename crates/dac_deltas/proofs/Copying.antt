@@ -1,5 +1,5 @@
--- Copying a list element by element, and calls that fail.
-use Rattle.std.proofs.Common.{◌≡◌, ℕ, ◌+◌, ◌<◌, List, [], ◌∷◌, ◌++◌, length, get_or, take, Result, Ok, Err, OnErr, sym, ap, ◌∙◌, arith, append_assoc}
+-- Copying a list element by element.
+use Rattle.std.proofs.Common.{◌≡◌, ℕ, ◌+◌, ◌<◌, List, [], ◌∷◌, ◌++◌, length, get_or, take, sym, ap, ◌∙◌, arith, append_assoc}
 use Rattle.std.proofs.lemmas.List.{append-nil, take_more}
 
 -- one more element is copied; those so far are a prefix of the list
@@ -15,8 +15,3 @@ copied_next done new left rest all x y next so_far same pushed =
 pub copied_whole : {X : Type 0} (done left all : List X) → length left ≡ 0 → done ++ left ≡ all → done ≡ all
 copied_whole done [] all none so_far = sym (append-nil done) ∙ so_far
 copied_whole done (x ∷ left) all none so_far = absurd (omega arith)
-
--- a fact holds of a call that fails
-pub fails_so : {T E P : Type 0} (r : Result T E) → P → OnErr r P
-fails_so (Ok x) p = tt
-fails_so (Err e) p = p

@@ -1,12 +1,12 @@
 -- The contents of a buffer, after deltas are added and the oldest are dropped.
 use Rattle.std.proofs.Common.{◌≡◌, ◌+◌, ◌-◌, ◌≤◌, ℕ, List, [], ◌∷◌, ◌++◌, drop, fold, length, take, Option, refl, sym, ap, subst, ◌∙◌, arith, min}
-use Rattle.std.proofs.lemmas.List.{take-append-le, take_all, length-drop, length-append, length-map, length-take, drop-map, take-map, get_or-map, map-append}
+use Rattle.std.proofs.lemmas.List.{length-drop, length-append, length-map, length-take, drop-map, take-map, get_or-map, map-append}
 use Rattle.std.specs.List.{All}
 use Rattle.dac_base.specs.declared.limits.TheConstants.{MAX_COUNTER}
 use Rattle.dac_deltas.specs.KeptDeltas.{KeptDeltas, IsBuffer, newest, pushed, trimmed}
 use Rattle.dac_deltas.specs.laws.Logs.{same_kept, pushes_drop_together}
 use Rattle.dac_deltas.specs.BlockEnds.{AreJoined, IsKept, IsReady, IsHeld, deltas_of}
-use Rattle.dac_deltas.proofs.Joining.{joined_push, joined_drop, joined_take}
+use Rattle.dac_deltas.proofs.Joining.{joined_drop, joined_take}
 use Rattle.dac_deltas.specs.declared.buffer.TheConstants.{MAX_DELTAS}
 
 module _ {L : Type 0} (is_value : L → Type 0) (join : L → L → L) where
@@ -18,6 +18,13 @@ module _ {L : Type 0} (is_value : L → Type 0) (join : L → L → L) where
       let e : L × List L = (d, []) in
       let had = h k e (omega arith) 0 (omega arith) (omega arith) in
       subst is_value (sym (get_or-map (λ (x : L × List L). x.0) es k e d (omega arith))) had.value
+
+  -- one more ending
+  pub joined_end : (es new : List (L × List L)) (e : L × List L) → AreJoined is_value join (es ++ e ∷ []) → new ≡ es ++ e ∷ [] → AreJoined is_value join new × (deltas_of new ≡ deltas_of es ++ e.0 ∷ [])
+  joined_end es new e joined pushed = (
+    subst (AreJoined is_value join) (sym pushed) joined,
+    ap deltas_of pushed ∙ map-append (λ (x : L × List L). x.0) es (e ∷ []),
+  )
 
   module _ (count : ℕ) (es : List (L × List L)) (h : IsKept is_value join count es) where
     -- the base and the number of stored deltas add up to the count
@@ -95,13 +102,6 @@ module _ {L : Type 0} (is_value : L → Type 0) (join : L → L → L) where
         let same = ap (λ (k : KeptDeltas L). k.base) shown in
         omega arith
 
-    -- one more delta
-    pub joined_one : (mid : List (L × List L)) (d : L) → is_value d → mid ≡ es ++ (d, []) ∷ [] → AreJoined is_value join mid × (deltas_of mid ≡ deltas_of es ++ d ∷ [])
-    joined_one mid d value pushed = (
-      subst (AreJoined is_value join) (sym pushed) (joined_push is_value join es d h.joined value),
-      ap deltas_of pushed ∙ map-append (λ (x : L × List L). x.0) es ((d, []) ∷ []),
-    )
-
     -- making joins changes nothing else
     pub kept_same : (new : List (L × List L)) → AreJoined is_value join new → deltas_of new ≡ deltas_of es → IsKept is_value join count new
     kept_same new joined same = record { buffer = subst (λ ds. IsBuffer is_value (newest count ds)) (sym same) h.buffer; joined = joined }
@@ -118,9 +118,3 @@ module _ {L : Type 0} (is_value : L → Type 0) (join : L → L → L) (bottom :
         },
         ap (newest count) same,
       )
-
--- the earlier deltas are unchanged after one more
-pub taken_one : {L : Type 0} (es mid : List (L × List L)) (d : L) → deltas_of mid ≡ deltas_of es ++ d ∷ [] → take (length es) (deltas_of mid) ≡ deltas_of es
-taken_one {L} es mid d same =
-    let many = length-map es (λ (x : L × List L). x.0) in
-    ap (take (length es)) same ∙ (take-append-le (length es) (deltas_of es) (d ∷ []) (omega arith) ∙ take_all (length es) (deltas_of es) (omega arith))

@@ -3,6 +3,5 @@ mod Levels
 mod Few
 mod Joining
 mod Listing
-mod Putting
 mod Copying
 mod Intervals

@@ -1,5 +1,6 @@
 //! Aligned blocks of deltas, and their joins.
 ghost use Rattle.std.specs.Prelude.{List, ◌≡◌, ◌+◌, ◌-◌, ◌<◌, ◌≤◌, ◌^◌, ◌++◌, ◌∷◌, [], length, take, drop, IfOk, IfSome, OnOk, OnErr, slice_index_or};
+ghost use Rattle.std.specs.VecDeque.{deque_len, deque_capacity};
 ghost use Rattle.dac_base.specs.declared.limits.TheConstants.{MAX_COUNTER};
 ghost use Rattle.dac_deltas.specs.Blocks.{IsLongest};
 ghost use Rattle.dac_deltas.specs.BlockEnds.{AreJoined, IsNextJoin, IsJoinOfDeltas, deltas_of, join_at};
@@ -172,6 +173,13 @@ impl<L: Lattice> BlockEnd<L> {
         }
     }
 
+    /// The delta.
+    pub(crate) fn delta(&self) -> &L
+        ensures { result.now ≡ self.now.0 }
+    {
+        &self.delta
+    }
+
     /// The level of the longest block with a join, or 0 for the delta alone.
     pub(crate) fn level(&self) -> usize
         ensures { result ≡ length self.now.1 }
@@ -208,6 +216,35 @@ impl<L: Lattice> BlockEnd<L> {
             joins: copy_all(*self.joins.allocator(), &self.joins)?,
         })
     }
+}
+
+/// The next delta to store, with the joins of the blocks that end with it if `makes_joins`. The first stored delta has
+/// number `base`. Leaves the stored deltas, with room for one more. `None` for want of memory.
+pub(crate) fn next_end<L: Lattice>(
+    alloc: Global,
+    kept: &mut VecDeque<BlockEnd<L>>,
+    base: u64,
+    delta: L,
+    makes_joins: bool,
+) -> Option<BlockEnd<L>>
+    requires room { base + length kept.old.items < MAX_COUNTER }
+    requires joined { AreJoined L.is_value L.join kept.old.items }
+    ensures joined { AreJoined L.is_value L.join kept.new.items }
+    ensures same { deltas_of kept.new.items ≡ deltas_of kept.old.items }
+    ensures delta { IfSome result (λ end. end.0 ≡ delta) }
+    ensures end { IfSome result
+        (λ end. AreJoined L.is_value L.join (kept.new.items ++ end ∷ [])) }
+    ensures place { IfSome result (λ _. deque_len kept.new < deque_capacity kept.new) }
+{
+    delta.tells_invariant();
+    let length = kept.len();
+    if kept.push_back(BlockEnd::new(alloc, delta)).is_err() {
+        return None;
+    }
+    let joined = join_from(kept, base, length, makes_joins);
+    let end = kept.pop_back();
+    joined.ok()?;
+    end
 }
 
 /// Appends deltas to the stored ones. After [`NoMemory`] some can be there.

@@ -6,7 +6,7 @@ ghost use Rattle.dac_deltas.specs.declared.blocks.TheConstants.{MOST_LEVEL};
 ghost use Rattle.dac_deltas.specs.declared.buffer.TheConstants.{MAX_DELTAS};
 
 use crate::blocks::{
-    BlockEnd, MOST_LEVEL, add_joined, join_from, level_at, longest_joined, make_all_joins,
+    BlockEnd, MOST_LEVEL, add_joined, level_at, longest_joined, make_all_joins, next_end,
 };
 use dac_base::{MAX_COUNTER, NoMemory};
 use dac_lattice::{Bottom, Lattice};
@@ -26,12 +26,12 @@ pub const MAX_DELTAS: usize = 1 << MOST_LEVEL;
 /// caches one interval until the next delta, so that peers that receive the same interval share it.
 #[derive(Drop)]
 pub struct Buffer<L: Bottom> {
-    alloc: Global,
-    count: u64,
-    kept: VecDeque<BlockEnd<L>>,
-    ready: Option<(u64, L)>,
+    pub(crate) alloc: Global,
+    pub(crate) count: u64,
+    pub(crate) kept: VecDeque<BlockEnd<L>>,
+    pub(crate) ready: Option<(u64, L)>,
     /// Whether a push makes the joins of its blocks: false for a lazy buffer.
-    makes_joins: bool,
+    pub(crate) makes_joins: bool,
 }
 
 impl<L: Bottom> Model for Buffer<L> {
@@ -46,7 +46,7 @@ impl<L: Bottom> Model for Buffer<L> {
 }
 
 /// Drops all but the newest 256 deltas.
-fn keep_newest<L: Bottom>(kept: &mut VecDeque<BlockEnd<L>>)
+pub(crate) fn keep_newest<L: Bottom>(kept: &mut VecDeque<BlockEnd<L>>)
     ensures { kept.new.items ≡ drop (length kept.old.items - MAX_DELTAS) kept.old.items }
 {
     let dropped = kept.len().saturating_sub(MAX_DELTAS);
@@ -144,14 +144,11 @@ impl<L: Bottom> Buffer<L> {
         ensures ok { OnOk result (self.new ≡ pushed self.old delta) }
         ensures err { OnErr result (self.new ≡ self.old) }
     {
-        delta.tells_invariant();
         let base = self.base();
-        let length = self.kept.len();
-        self.kept.push_back(BlockEnd::new(self.alloc, delta))?;
-        if let Err(refused) = join_from(&mut self.kept, base, length, self.makes_joins) {
-            self.kept.truncate(length);
-            return Err(refused);
-        }
+        let Some(end) = next_end(self.alloc, &mut self.kept, base, delta, self.makes_joins) else {
+            return Err(NoMemory);
+        };
+        self.kept.push_back_reserved(end);
         self.ready = None;
         self.count += 1;
         keep_newest(&mut self.kept);

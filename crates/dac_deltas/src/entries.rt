@@ -1,11 +1,9 @@
 //! Finite maps with few keys.
-ghost use Rattle.std.specs.Prelude.{◌≡◌, [], length, None, IfOk, OnOk, OnErr};
-ghost use Rattle.std.specs.List.Sorted.{IsSearchInRange, IsBinarySearchResult};
+ghost use Rattle.std.specs.Prelude.{◌≡◌, [], None, IfOk, OnOk, OnErr};
 ghost use Rattle.std.specs.FinMap.{find, put};
-ghost use Rattle.dac_lattice.specs.Search.{IsInOrder};
 
 use dac_base::NoMemory;
-use dac_lattice::merging::value_at;
+use dac_lattice::merging::{put_entry, value_at};
 use dac_origins::MapKey;
 use std::alloc::Global;
 use std::marker::Model;
@@ -25,34 +23,6 @@ impl<K: MapKey, X: Copy> Model for Entries<K, X> {
     ghost view = { λ m. m.entries.items };
 
     ghost invariant = { λ m. IsInOrder K.cmp m.entries.items };
-}
-
-/// The index of a key in a list of entries, or of its insertion point.
-fn place_of<K: MapKey, X>(entries: &[(K, X)], key: K) -> Result<usize, usize>
-    ensures bound { IsSearchInRange result (length entries.now) }
-    ensures position { IsBinarySearchResult (λ e. K.cmp e.0 key) entries.now result }
-{
-    entries.binary_search_by_key(&key, |entry| entry.0)
-}
-
-/// Inserts an entry into a list in key order, or replaces the value if the key is there. After [`NoMemory`] the list is
-/// unchanged.
-fn put_entry<K: MapKey, X: Copy>(
-    entries: &mut Vec<(K, X)>,
-    key: K,
-    value: X,
-) -> Result<(), NoMemory>
-    requires { IsInOrder K.cmp entries.old.items }
-    ensures in_order { IsInOrder K.cmp entries.new.items }
-    ensures ok { OnOk result (entries.new.items ≡ put K.cmp key value entries.old.items) }
-    ensures err { OnErr result (entries.new.items ≡ entries.old.items) }
-    ensures first { OnErr result (find K.cmp key entries.old.items ≡ None) }
-{
-    match place_of(entries, key) {
-        Ok(place) => entries[place] = (key, value),
-        Err(place) => entries.insert(place, (key, value))?,
-    }
-    Ok(())
 }
 
 impl<K: MapKey, X: Copy> Entries<K, X> {

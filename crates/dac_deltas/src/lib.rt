@@ -9,15 +9,18 @@
 //! is the rest of an append-only log, and that an interval is the join of the log's deltas.
 //!
 //! Functions that don't return `Result<_, NoMemory>` allocate nothing. A public function that fails, only ever with
-//! `NoMemory`, leaves its borrowed arguments unchanged as contracts see them.
+//! `NoMemory`, leaves its borrowed arguments unchanged as contracts see them. [`Buffer::stage`] alone takes its buffer
+//! by value, and if memory runs out it hands the buffer back in place of `NoMemory`.
 #![tactic(auto)]
 
 pub use acks::Acks;
 pub use buffer::{Buffer, MAX_DELTAS};
 pub use entries::Entries;
+pub use staged::Staged;
 
 mod acks;
 mod blocks;
 mod buffer;
 mod entries;
 pub mod laws;
+mod staged;

@@ -1,3 +1,4 @@
 mod JoinLemmas
+mod Putting
 pub mod MergeLemmas
 pub mod SearchLemmas

@@ -1,7 +1,8 @@
 //! The merge of two maps that are stored as lists of entries in key order.
-ghost use Rattle.std.specs.Prelude.{◌≡◌, ◌++◌, [], None, Some, Option, IfOk, IsOkAnd, OnOk};
+ghost use Rattle.std.specs.Prelude.{◌≡◌, ◌++◌, [], length, None, Some, Option, IfOk, IsOkAnd, OnOk, OnErr};
+ghost use Rattle.std.specs.List.Sorted.{IsSearchInRange, IsBinarySearchResult};
 ghost use Rattle.std.specs.Option.{option_copied};
-ghost use Rattle.std.specs.FinMap.{find};
+ghost use Rattle.std.specs.FinMap.{find, put};
 ghost use Rattle.dac_lattice.specs.Entries.{merge_entries, keep};
 ghost use Rattle.dac_lattice.specs.Merges.{lowest_of, keep_lowest};
 ghost use Rattle.dac_lattice.specs.Search.{IsInOrder, IsPlaceOf};
@@ -111,7 +112,9 @@ pub fn merge<K: MapKey, X: Drop, C: Combine<K, X>>(
 /// The index of a key, or of its insertion point.
 fn place_of<K: MapKey, X>(entries: &[(K, X)], key: K) -> Result<usize, usize>
     requires { IsInOrder K.cmp entries.now }
-    ensures { IsPlaceOf K.cmp entries.now key result }
+    ensures bound { IsSearchInRange result (length entries.now) }
+    ensures position { IsBinarySearchResult (λ e. K.cmp e.0 key) entries.now result }
+    ensures place { IsPlaceOf K.cmp entries.now key result }
 {
     entries.binary_search_by_key(&key, |entry| entry.0)
 }
@@ -151,4 +154,24 @@ pub fn value_at<K: MapKey, X>(entries: &[(K, X)], key: K) -> Option<&X>
         Ok(place) => Some(&entries[place].1),
         Err(_) => None,
     }
+}
+
+/// Inserts an entry into a list in key order, or replaces the value if the key is there. After [`NoMemory`] the list is
+/// unchanged.
+pub fn put_entry<K: MapKey, X: Drop>(
+    entries: &mut Vec<(K, X)>,
+    key: K,
+    value: X,
+) -> Result<(), NoMemory>
+    requires { IsInOrder K.cmp entries.old.items }
+    ensures in_order { IsInOrder K.cmp entries.new.items }
+    ensures ok { OnOk result (entries.new.items ≡ put K.cmp key value entries.old.items) }
+    ensures err { OnErr result (entries.new.items ≡ entries.old.items) }
+    ensures first { OnErr result (find K.cmp key entries.old.items ≡ None) }
+{
+    match place_of(entries, key) {
+        Ok(place) => entries[place] = (key, value),
+        Err(place) => entries.insert(place, (key, value))?,
+    }
+    Ok(())
 }

@@ -1,5 +1,8 @@
 //! The parts of a state.
-ghost use Rattle.std.specs.Prelude.{◌≡◌, ◌↔◌, IsTrue, IfOk};
+ghost use Rattle.std.specs.Prelude.{◌≡◌, ◌↔◌, IsTrue, IfOk, OnOk, OnErr};
+ghost use Rattle.std.specs.FinSet as set;
+ghost use Rattle.dac_wishes.specs.PermissionsValue.{join_permissions};
+ghost use Rattle.dac_wishes.specs.WishesValue.{join_wishes};
 ghost use Rattle.dac_meaning.specs.StateValue.{IsState, IsBelow, drains_of, join, permissions_of, wishes_of};
 ghost use Rattle.dac_state.specs.Heard.{heard_given};
 ghost use Rattle.dac_state.specs.Parts.{AreParts, state_of_parts};
@@ -7,7 +10,7 @@ ghost use Rattle.dac_state.specs.Parts.{AreParts, state_of_parts};
 use crate::heard::Heard;
 use dac_base::NoMemory;
 use dac_chains::{Claims, Lives};
-use dac_dots::Context;
+use dac_dots::{Context, SharedContext};
 use dac_lattice::Lattice;
 use dac_wishes::{Drains, Permissions, Wishes};
 use std::alloc::Global;
@@ -172,6 +175,32 @@ impl Parts {
         })
     }
 
+    /// Joins other parts into these, in place where possible. After [`NoMemory`] these are unchanged.
+    pub(crate) fn absorb(&mut self, other: &Self) -> Result<(), NoMemory>
+        ensures ok { OnOk result (self.new ≡ join self.old other.now) }
+        ensures err { OnErr result (self.new ≡ self.old) }
+    {
+        let mine = self.wishes.context();
+        let theirs = other.wishes.context();
+        let (known, heard) = self.heard.join(mine, &other.heard, theirs)?;
+        let lives = self.lives.join(&other.lives)?;
+        let claims = self.claims.join(&other.claims)?;
+        let drains = self.drains.join_with_context(&other.drains, &known)?;
+        // This is the last call that can fail, because it changes parts in place.
+        absorb_standing(
+            &mut self.permissions,
+            &mut self.wishes,
+            &other.permissions,
+            &other.wishes,
+            known,
+        )?;
+        self.heard = heard;
+        self.lives = lives;
+        self.claims = claims;
+        self.drains = drains;
+        Ok(())
+    }
+
     /// Whether each part is below the other's.
     pub(crate) fn leq(&self, other: &Self) -> bool
         ensures { IsTrue result ↔ IsBelow self.now other.now }
@@ -235,4 +264,36 @@ impl Parts {
             drains,
         })
     }
+}
+
+/// Joins other permissions and wishes into these. Takes `union`, the union of the known dots of both sides. After
+/// [`NoMemory`] both are unchanged.
+///
+/// Only one of both changes in place, the last, because a failure after that could not be undone. It is the one that
+/// the other side changes: the permissions if the other side has no start, when a join of the wishes copies little.
+fn absorb_standing(
+    permissions: &mut Permissions,
+    wishes: &mut Wishes,
+    other_permissions: &Permissions,
+    other_wishes: &Wishes,
+    union: SharedContext,
+) -> Result<(), NoMemory>
+    requires permits { union ≡ set.union permissions.old.known other_permissions.now.known }
+    requires starts { union ≡ set.union wishes.old.known other_wishes.now.known }
+    ensures permits { OnOk result
+        (permissions.new ≡ join_permissions permissions.old other_permissions.now) }
+    ensures starts { OnOk result (wishes.new ≡ join_wishes wishes.old other_wishes.now) }
+    ensures same_permits { OnErr result (permissions.new ≡ permissions.old) }
+    ensures same_starts { OnErr result (wishes.new ≡ wishes.old) }
+{
+    if other_wishes.len() == 0 {
+        let joined = wishes.join_with_context(other_wishes, &union)?;
+        permissions.absorb_with_context(other_permissions, union)?;
+        *wishes = joined;
+        return Ok(());
+    }
+    let joined = permissions.join_with_context(other_permissions, &union)?;
+    wishes.absorb_with_context(other_wishes, union)?;
+    *permissions = joined;
+    Ok(())
 }

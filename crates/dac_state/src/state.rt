@@ -1,6 +1,6 @@
 //! The meaning of a set of operations.
-ghost use Rattle.std.specs.Prelude.{◌≡◌, ◌∷◌, [], IfOk};
-ghost use Rattle.dac_meaning.specs.StateValue.{drains_of, permissions_of, wishes_of};
+ghost use Rattle.std.specs.Prelude.{◌≡◌, ◌∷◌, [], IfOk, OnOk, OnErr};
+ghost use Rattle.dac_meaning.specs.StateValue.{drains_of, join, permissions_of, wishes_of};
 ghost use Rattle.dac_meaning.specs.Meaning.{meaning_of};
 
 use crate::delta::{
@@ -98,6 +98,22 @@ impl State {
     /// The allocator of the parts.
     pub(crate) fn allocator(&self) -> Global {
         self.parts().allocator()
+    }
+
+    /// Joins another state into this one. Changes the parts in place if no copy shares them. After [`NoMemory`] the
+    /// state is unchanged.
+    pub fn absorb(&mut self, other: &Self) -> Result<(), NoMemory>
+        ensures ok { OnOk result (self.new ≡ join self.old other.now) }
+        ensures err { OnErr result (self.new ≡ self.old) }
+    {
+        if let KeptParts::Shared(shared) = &mut self.kept {
+            if let Some(parts) = Arc::get_mut(shared) {
+                return parts.absorb(other.parts());
+            }
+        }
+        let joined = self.join(other)?;
+        *self = joined;
+        Ok(())
     }
 
     /// The dots of the operations heard.

@@ -2,4 +2,5 @@ pub mod Passing
 mod PartLemmas
 mod EntryLemmas
 mod JoinLemmas
+mod AbsorbLemmas
 mod BelowLemmas

@@ -346,14 +346,21 @@ module _ {K X : Type 0} {R : K → K → Ordering} (o : IsTotalOrder R) (exact :
       point : IsPartitionPoint (λ b. last_below b ≡ true) (λ b. last_below b ≡ false) blocks place
       point = found (parted_by_last blocks in_blocks full)
 
+      -- the blocks before the place are below the key
+      pub below_place : AllWithin (λ b. is_above_entries R (value b) k ≡ true) blocks 0 place
+      below_place j d q p = sym (last_decides blocks j d in_blocks (omega arith)) ∙ point.0 j d q p
+
+      -- the block at the place isn't
+      pub not_below : (b : B) → place < length blocks → b ≡ get_or blocks place b → is_above_entries R (value b) k ≡ false
+      not_below b p is = ap is_below is ∙ sym (last_decides blocks place b in_blocks p) ∙ point.1 place b (omega arith) p
+
       past : IsPartAt R k whole (rest_of value blocks last place)
-      past = parts_past blocks last whole place (part_whole k whole (flat_map value blocks ++ last) s (sym split)) (λ j d q p. sym (last_decides blocks j d in_blocks (omega arith)) ∙ point.0 j d q p) bound
+      past = parts_past blocks last whole place (part_whole k whole (flat_map value blocks ++ last) s (sym split)) below_place bound
 
       -- the first block that isn't below the key
       pub part_found_at : (b : B) → place < length blocks → b ≡ get_or blocks place b → IsPartAt R k whole (value b)
       part_found_at b p is =
-          part_here value k blocks last place b whole p is past
-          (ap is_below is ∙ sym (last_decides blocks place b in_blocks p) ∙ point.1 place b (omega arith) p)
+          part_here value k blocks last place b whole p is past (not_below b p is)
 
       -- no block remains, because all are below the key
       pub part_at_last : length blocks ≤ place → IsPartAt R k whole last

@@ -6,6 +6,7 @@ pub mod DotMaps
 pub mod Appending
 pub mod Parts
 pub mod Joining
+pub mod Absorbing
 pub mod Few
 pub mod FewEntries
 pub mod SameDots

@@ -1,18 +1,22 @@
 //! Blocks of entries, which maps share.
-ghost use Rattle.std.specs.Prelude.{◌≡◌, ◌↔◌, true, IsTrue, IfOk};
+ghost use Rattle.std.specs.Prelude.{◌≡◌, ◌↔◌, true, IsTrue, IfOk, OnOk, OnErr};
 ghost use Rattle.std.specs.Arc.{arc_value};
+ghost use Rattle.std.specs.FinMap.{put};
+ghost use Rattle.dac_lattice.specs.Search.{IsInOrder};
 ghost use Rattle.dac_store.specs.DotMaps.{has_in};
 ghost use Rattle.dac_store.specs.Stores.{IsUnheard};
 
 use crate::DotStore;
 use crate::part::{are_unheard, entries_have, fill_each};
 use dac_dots::{DotFilter, FilteredContext};
+use dac_lattice::merging::put_entry;
 use dac_origins::{Dot, MapKey, NoMemory};
 use std::alloc::Global;
 use std::marker::Model;
 use std::sync::Arc;
 
-/// An immutable list of entries with a filter of all their dots. Contracts treat it as its entries.
+/// A list of entries with a filter of all their dots. It changes only while no other map shares it. Contracts treat it
+/// as its entries.
 #[derive(Drop)]
 pub(crate) struct Block<K: MapKey, S: DotStore> {
     filter: DotFilter,
@@ -40,6 +44,20 @@ impl<K: MapKey, S: DotStore> Block<K, S> {
         fill_each(&entries, &mut filter);
         let block = Arc::new(alloc, Block { filter, entries })?;
         Ok(block)
+    }
+
+    /// Puts a store at a key, in place. After [`NoMemory`] the block is unchanged.
+    pub(crate) fn put(&mut self, key: K, store: S) -> Result<(), NoMemory>
+        requires { IsInOrder K.cmp self.old }
+        ensures ok { OnOk result (self.new ≡ put K.cmp key store self.old) }
+        ensures err { OnErr result (self.new ≡ self.old) }
+    {
+        put_entry(&mut self.entries, key, store)?;
+        // A filter only gains dots, so the one of the new entries is made anew.
+        let mut filter = DotFilter::none();
+        fill_each(&self.entries, &mut filter);
+        self.filter = filter;
+        Ok(())
     }
 
     /// The entries without the filter.

@@ -1,15 +1,16 @@
 //! The entries of a map, with their number.
-ghost use Rattle.std.specs.Prelude.{◌≡◌, [], ◌∷◌, ◌++◌, length, false, true, IfOk, OnOk, OnErr};
+ghost use Rattle.std.specs.Prelude.{◌≡◌, [], ◌∷◌, ◌++◌, length, false, true, IfOk, IfSome, OnOk, OnErr, if◌then◌else◌};
 ghost use Rattle.std.specs.Arc.{arc_value};
 ghost use Rattle.std.specs.List.{flat_map};
 ghost use Rattle.std.specs.Option.{option_copied};
-ghost use Rattle.std.specs.FinMap.{find};
+ghost use Rattle.std.specs.FinMap.{find, put};
 ghost use Rattle.dac_store.specs.Appending.{is_above_entries};
 ghost use Rattle.dac_store.specs.DotFuns.{is_empty_list};
-ghost use Rattle.dac_store.specs.DotMaps.{IsKeyed};
+ghost use Rattle.dac_store.specs.DotMaps.{IsKeyed, join_keyed};
 
 use crate::DotStore;
 use crate::block::Block;
+use crate::joining::{JoinStores, join_at};
 use crate::parts::Parts;
 use dac_origins::{MapKey, NoMemory};
 use std::alloc::{AllocError, Global};
@@ -121,6 +122,60 @@ impl<K: MapKey, S: DotStore> Counted<K, S> {
         ensures { option_copied result ≡ find K.cmp key self.now }
     {
         self.parts.get(key)
+    }
+
+    /// Puts a store with dots at a key, in place. Returns false, and changes nothing, as [`Parts::put_at`] does.
+    fn put_at(&mut self, key: K, store: S) -> Result<bool, NoMemory>
+        requires store { S.is_store store }
+        requires dots { S.is_empty store ≡ false }
+        ensures ok { IfOk result
+            (λ done. self.new ≡ (if done then put K.cmp key store self.old else self.old)) }
+        ensures err { OnErr result (self.new ≡ self.old) }
+    {
+        let Some(count) = self.count_with(key) else {
+            return Err(NoMemory);
+        };
+        let done = self.parts.put_at(key, store)?;
+        if done {
+            self.count = count;
+        }
+        Ok(done)
+    }
+
+    /// The number of entries after one is put at this key, or `None` if it exceeds `usize`.
+    fn count_with(&self, key: K) -> Option<usize>
+        ensures { IfSome result (λ count. (s : S) → count ≡ length (put K.cmp key s self.now)) }
+    {
+        match self.get(key) {
+            Some(_) => Some(self.count),
+            None => self.count.checked_add(1),
+        }
+    }
+
+    /// Joins a map with one key by changing the entry at that key in place. Returns false, and changes nothing, if the
+    /// join can change others too or drops that key, or if the entry can't be changed in place.
+    pub(crate) fn absorb_one(
+        &mut self,
+        how: &JoinStores<'_>,
+        key: K,
+        store: &S,
+    ) -> Result<bool, NoMemory>
+        ensures joined { IfOk result (λ done. done ≡ true
+            → self.new
+            ≡ join_keyed K.cmp S.nothing S.is_empty S.join self.old how.now.mine.now
+            ((key, store.now) ∷ []) how.now.theirs.now) }
+        ensures left { IfOk result (λ done. done ≡ false → self.new ≡ self.old) }
+        ensures err { OnErr result (self.new ≡ self.old) }
+    {
+        if !self.parts.are_others_unheard(key, how.theirs) {
+            return Ok(false);
+        }
+        let joined = join_at(how, self.get(key), store)?;
+        joined.tells_invariant();
+        if joined.is_empty() {
+            return Ok(false);
+        }
+        self.put_at(key, joined)
     }
 
     /// Appends an entry, whose key is above all others. After [`NoMemory`] nothing has changed.

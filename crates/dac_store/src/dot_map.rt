@@ -5,7 +5,7 @@ ghost use Rattle.std.specs.List.{flat_map};
 ghost use Rattle.std.specs.Option.{option_copied};
 ghost use Rattle.std.specs.FinMap.{find};
 ghost use Rattle.dac_store.specs.Appending.{is_above_entries};
-ghost use Rattle.dac_store.specs.DotMaps.{IsKeyed};
+ghost use Rattle.dac_store.specs.DotMaps.{IsKeyed, join_keyed};
 
 use crate::DotStore;
 use crate::below::{are_below, block_below};
@@ -24,8 +24,8 @@ use std::sync::Arc;
 /// A map from keys to dot stores. A key without dots is absent, so equal maps are equal values. Contracts treat it as
 /// the list of its entries in key order.
 ///
-/// The entries are stored in immutable blocks, and the last ones in a list after them. A join shares the blocks of its
-/// own side that it is known to leave unchanged.
+/// The entries are stored in blocks, and the last ones in a list after them. A join shares the blocks of its own side
+/// that it is known to leave unchanged. Blocks that maps share never change; a block of one map alone can.
 ///
 /// Copies share all entries, so a copy only increments a reference count. Appending to shared entries first copies
 /// those in no block. An empty map needs no allocation.
@@ -143,6 +143,42 @@ impl<K: MapKey, S: DotStore> DotMap<K, S> {
         Entries::of(blocks, last)
     }
 
+    /// Joins the other map into this one by changing one entry in place, if the other map has one key and the join
+    /// changes no other entry, and if no other map shares the entry. Otherwise returns false and changes nothing.
+    fn absorb_one(
+        &mut self,
+        heard: &Context,
+        other: &Self,
+        other_heard: &Context,
+    ) -> Result<bool, NoMemory>
+        ensures joined { IfOk result (λ done. done ≡ true
+            → self.new
+            ≡ join_keyed K.cmp S.nothing S.is_empty S.join self.old heard.now other.now
+            other_heard.now) }
+        ensures left { IfOk result (λ done. done ≡ false → self.new ≡ self.old) }
+        ensures err { OnErr result (self.new ≡ self.old) }
+    {
+        let theirs = other.entries();
+        let Some((key, store)) = theirs.first() else {
+            return Ok(false);
+        };
+        if other.len() != 1 {
+            return Ok(false);
+        }
+        let Some(kept) = &mut self.kept else {
+            return Ok(false);
+        };
+        let Some(own) = Arc::get_mut(kept) else {
+            return Ok(false);
+        };
+        let how = JoinStores {
+            alloc: self.alloc,
+            mine: &FilteredContext::of(heard, 1),
+            theirs: &FilteredContext::of(other_heard, own.len()),
+        };
+        own.absorb_one(&how, *key, store)
+    }
+
     /// The number of keys.
     pub fn len(&self) -> usize
         ensures { result ≡ length self.now }
@@ -234,6 +270,20 @@ impl<K: MapKey, S: DotStore> DotStore for DotMap<K, S> {
         let parts = join_parts(&how, blocks, last, other.entries())?;
         let joined = Self::of(parts)?;
         Ok(joined)
+    }
+
+    fn absorb_in(
+        &mut self,
+        heard: &Context,
+        other: &Self,
+        other_heard: &Context,
+    ) -> Result<(), NoMemory> {
+        if self.absorb_one(heard, other, other_heard)? {
+            return Ok(());
+        }
+        let joined = self.join_in(heard, other, other_heard)?;
+        *self = joined;
+        Ok(())
     }
 
     fn leq_in(&self, heard: &Context, other: &Self, other_heard: &Context) -> bool {

@@ -5,7 +5,7 @@ ghost use Rattle.std.specs.List.{flat_map};
 ghost use Rattle.std.specs.Option.{option_copied};
 ghost use Rattle.dac_lattice.specs.Entries.{keep, merge_entries};
 ghost use Rattle.dac_lattice.specs.Search.{IsInOrder};
-ghost use Rattle.dac_store.specs.DotMaps.{IsKeyed, has_in, join_keyed, unless_empty};
+ghost use Rattle.dac_store.specs.DotMaps.{IsKeyed, has_in, join_keyed, store_at, unless_empty};
 ghost use Rattle.dac_store.specs.Joining.{AreBefore, AreKept, ArePassed, IsLeft, IsMergedBelow, IsMergedPart, IsMergedWith, IsNotBelow, IsTakenAt, joined_at};
 ghost use Rattle.dac_store.specs.Stores.{IsUnheard};
 
@@ -152,6 +152,22 @@ fn kept_at<K: MapKey, S: DotStore, C: Combine<K, S>>(
             let kept = how.left(key, mine)?;
             Ok(kept)
         }
+    }
+}
+
+/// The join of the stores at a key that the other side has.
+pub(crate) fn join_at<S: DotStore>(
+    how: &JoinStores<'_>,
+    mine: Option<&S>,
+    theirs: &S,
+) -> Result<S, NoMemory>
+    ensures { IfOk result (λ joined. joined
+        ≡ S.join (store_at S.nothing (option_copied mine.entry)) how.now.mine.now theirs.now
+        how.now.theirs.now) }
+{
+    match mine {
+        Some(mine) => mine.join_in(how.mine.context(), theirs, how.theirs.context()),
+        None => S::empty(how.alloc).join_in(how.mine.context(), theirs, how.theirs.context()),
     }
 }
 

@@ -8,7 +8,8 @@
 //!
 //! Stores mostly test whether a context contains a dot; only the join of two sets lists the dots of a context, if they
 //! are few. Maps store their entries in blocks, each with a filter of its dots, so that a join can share the blocks
-//! that it is known to leave unchanged. No contract mentions blocks: [`Entries`] iterates over the entries of a map.
+//! that it is known to leave unchanged. A map that joins another one into itself ([`DotStore::absorb_in`]) changes a
+//! single entry in place if it can. No contract mentions blocks: [`Entries`] iterates over the entries of a map.
 //!
 //! Public functions that don't return `Result<_, NoMemory>` allocate nothing. One that does fails only with `NoMemory`,
 //! and then leaves its borrowed arguments unchanged.

@@ -2,6 +2,7 @@
 ghost use Rattle.std.specs.Prelude.{◌≡◌, ◌↔◌, true, IsTrue};
 ghost use Rattle.dac_origins.specs.declared.Dot.{Dot};
 ghost use Rattle.dac_dots.specs.DotFilters.{may_have};
+ghost use Rattle.dac_store.specs.Absorbing.{AreOthersUnheard};
 ghost use Rattle.dac_store.specs.DotMaps.{has_in};
 ghost use Rattle.dac_store.specs.Stores.{IsHeld, IsUnheard};
 
@@ -42,6 +43,22 @@ pub(crate) fn are_unheard<K: MapKey, S: DotStore>(
 {
     for (_, store) in entries {
         if !store.is_unheard(heard) {
+            return false;
+        }
+    }
+    true
+}
+
+/// Whether the context contains no dot of the stores at other keys than this one.
+pub(crate) fn are_others_unheard<K: MapKey, S: DotStore>(
+    entries: &[(K, S)],
+    key: K,
+    heard: &FilteredContext<'_>,
+) -> bool
+    ensures { result ≡ true → AreOthersUnheard K.cmp S.has key heard.now entries.now }
+{
+    for (other, store) in entries {
+        if !other.cmp(&key).is_eq() && !store.is_unheard(heard) {
             return false;
         }
     }

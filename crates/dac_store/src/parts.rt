@@ -1,17 +1,20 @@
 //! Entries in blocks, which maps share, with a few entries after them.
-ghost use Rattle.std.specs.Prelude.{◌≡◌, ◌<◌, ◌≤◌, [], ◌∷◌, ◌++◌, length, take, drop, IfOk, IfSome, OnOk, OnErr};
+ghost use Rattle.std.specs.Prelude.{◌≡◌, ◌<◌, ◌≤◌, [], ◌∷◌, ◌++◌, length, take, drop, true, IfOk, IfSome, OnOk, OnErr, if◌then◌else◌};
 ghost use Rattle.std.specs.Arc.{arc_value};
 ghost use Rattle.std.specs.List.{flat_map};
 ghost use Rattle.std.specs.Option.{option_copied};
-ghost use Rattle.std.specs.FinMap.{find};
+ghost use Rattle.std.specs.FinMap.{find, put};
 ghost use Rattle.dac_lattice.specs.Search.{IsInOrder};
 ghost use Rattle.dac_store.specs.Appending.{is_above_entries};
+ghost use Rattle.dac_store.specs.Absorbing.{AreOthersUnheard};
 ghost use Rattle.dac_store.specs.Parts.{HaveEntries, IsPartAt};
 
 use crate::DotStore;
 use crate::appending::{ends_below, last_is_below};
 use crate::block::Block;
-use dac_lattice::merging::value_at;
+use crate::part::are_others_unheard;
+use dac_dots::FilteredContext;
+use dac_lattice::merging::{put_entry, value_at};
 use dac_origins::{MapKey, NoMemory};
 use std::alloc::Global;
 use std::marker::Model;
@@ -185,6 +188,36 @@ impl<K: MapKey, S: DotStore> Parts<K, S> {
         Ok(())
     }
 
+    /// Puts a store at a key, in place. Returns false, and changes nothing, if the block that has the key, or would have
+    /// it, is full or shared with another map.
+    pub(crate) fn put_at(&mut self, key: K, store: S) -> Result<bool, NoMemory>
+        requires { IsInOrder K.cmp self.old }
+        ensures ok { IfOk result
+            (λ done. self.new ≡ (if done then put K.cmp key store self.old else self.old)) }
+        ensures err { OnErr result (self.new ≡ self.old) }
+    {
+        let place = self
+            .blocks
+            .partition_point(|block| last_is_below(block.entries(), key));
+        if place < self.blocks.len() {
+            return put_in_block(&mut self.blocks[place], key, store);
+        }
+        put_in_list(&mut self.last, key, store)
+    }
+
+    /// Whether the context contains no dot of the stores at other keys than this one.
+    pub(crate) fn are_others_unheard(&self, key: K, heard: &FilteredContext<'_>) -> bool
+        ensures { result ≡ true → AreOthersUnheard K.cmp S.has key heard.now self.now }
+    {
+        let (blocks, last) = self.pieces();
+        for block in blocks {
+            if !block.is_apart(heard) && !are_others_unheard(block.entries(), key, heard) {
+                return false;
+            }
+        }
+        are_others_unheard(last, key, heard)
+    }
+
     /// Whether a shared block can follow without first making a block of fewer than [`LEAST`] entries.
     pub(crate) fn ends_whole(&self) -> bool {
         self.last.is_empty() || self.last.len() >= LEAST
@@ -201,6 +234,44 @@ impl<K: MapKey, S: DotStore> Parts<K, S> {
         self.blocks.push(Arc::try_clone(block)?)?;
         Ok(())
     }
+}
+
+/// Puts a store at a key of a block, in place. Returns false, and changes nothing, if the block is full or shared.
+fn put_in_block<K: MapKey, S: DotStore>(
+    shared: &mut Arc<Block<K, S>, Global>,
+    key: K,
+    store: S,
+) -> Result<bool, NoMemory>
+    requires { IsInOrder K.cmp (arc_value shared.old) }
+    ensures ok { IfOk result (λ done. arc_value shared.new
+        ≡ (if done then put K.cmp key store (arc_value shared.old) else arc_value shared.old)) }
+    ensures err { OnErr result (arc_value shared.new ≡ arc_value shared.old) }
+{
+    match Arc::get_mut(shared) {
+        Some(block) if block.entries().len() < MOST => {
+            block.put(key, store)?;
+            Ok(true)
+        }
+        _ => Ok(false),
+    }
+}
+
+/// Puts a store at a key of a list. Returns false, and changes nothing, if the list is long enough for a block.
+fn put_in_list<K: MapKey, S: DotStore>(
+    entries: &mut Vec<(K, S)>,
+    key: K,
+    store: S,
+) -> Result<bool, NoMemory>
+    requires { IsInOrder K.cmp entries.old.items }
+    ensures ok { IfOk result (λ done. entries.new.items
+        ≡ (if done then put K.cmp key store entries.old.items else entries.old.items)) }
+    ensures err { OnErr result (entries.new.items ≡ entries.old.items) }
+{
+    if entries.len() + 1 >= MOST {
+        return Ok(false);
+    }
+    put_entry(entries, key, store)?;
+    Ok(true)
 }
 
 /// Makes a block of all of the last entries, if there are any. After [`NoMemory`] the entries can have changed.

@@ -1,5 +1,5 @@
 //! Drains.
-ghost use Rattle.std.specs.Prelude.{◌≡◌, ◌↔◌, length, IsTrue, IfOk};
+ghost use Rattle.std.specs.Prelude.{◌≡◌, ◌↔◌, length, IsTrue, IfOk, OnOk, OnErr};
 ghost use Rattle.std.specs.FinSet as set;
 ghost use Rattle.dac_origins.specs.Dots.{IsSubset};
 ghost use Rattle.std.specs.List.{list_any};
@@ -116,6 +116,21 @@ impl Drains {
     {
         let causal = self.causal.join_with_context(&other.causal, union)?;
         Ok(Drains { causal })
+    }
+
+    /// Joins the other value into this one, in place where possible. Takes `union`, the union of the known dots of both.
+    /// After [`NoMemory`] this value is unchanged.
+    pub fn absorb_with_context(
+        &mut self,
+        other: &Self,
+        union: SharedContext,
+    ) -> Result<(), NoMemory>
+        requires { union ≡ set.union self.old.known other.now.known }
+        ensures ok { OnOk result (self.new ≡ join_drains self.old other.now) }
+        ensures err { OnErr result (self.new ≡ self.old) }
+    {
+        self.causal.absorb_with_context(&other.causal, union)?;
+        Ok(())
     }
 
     /// The delta of one operation. It shares `named`, the dots that the operation names.

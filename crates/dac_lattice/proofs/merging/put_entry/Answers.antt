@@ -1,6 +1,6 @@
 use Rattle.std.proofs.Common.{Result, Ok, Err, OnErr, ◌∙◌}
-use Rattle.dac_deltas.proofs.Putting.{absent, put_between, put_there, in_order_put}
-use Rattle.dac_deltas.proofs.entries.put_entry.Goals as goal
+use Rattle.dac_lattice.proofs.Putting.{absent, put_between, put_there, in_order_put}
+use Rattle.dac_lattice.proofs.merging.put_entry.Goals as goal
 
 pub returns-in-Ok-clause-ok : goal.returns-in-Ok-clause-ok
 returns-in-Ok-clause-ok g c =
