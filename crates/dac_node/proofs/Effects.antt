@@ -27,21 +27,10 @@ use Rattle.dac_model_node.specs.Transitions.{Transition, brings, transition_of, 
 use Rattle.dac_model_node.specs.Accepted.{AreNewest, running_by}
 use Rattle.dac_model_node.specs.laws.Numbers.{fits, room_to_hear}
 use Rattle.dac_node.specs.declared.change.After.{After}
-use Rattle.dac_node.specs.declared.change.After.TheVariants.{Off, Boots, GoesOn, Keeps}
-use Rattle.dac_node.specs.Knowing.{AdvanceValue, adding, hearing, joining, knowledge_of, running_of}
-use Rattle.dac_node.specs.After.{running_after, after_by, after_from_base, from_base, gone_on, next_by, FitsIn, ShipsOwnIn}
+use Rattle.dac_node.specs.declared.change.After.TheVariants.{Off, Boots, GoesOn, Gains, Keeps}
+use Rattle.dac_node.specs.Knowing.{hearing, joining, knowledge_of, running_of}
+use Rattle.dac_node.specs.After.{running_after, after_by, after_from_base, from_base, gaining, gone_on, next_by, FitsIn, ShipsOwnIn}
 use Rattle.dac_node.specs.Changes.{ChangeValue, Effect, Fits, Prepared}
-
--- an event that notes nothing
-pub quiet_effect : (t : Table) (number : ℕ) (r : RunningValue) (e : Event) (change : ChangeValue) → (transition_of t r [] e).notes ≡ false → change.last ≡ number →
-    change.after ≡ after_by r [] (transition_of t r [] e) → change.reply ≡ (transition_of t r [] e).reply → Effect t number r e change
-quiet_effect t number r e change quiet last after reply = record { noted = []; noting = λ h. absurd (true≢false (sym h ∙ quiet)); last = last; after = ap (after_from_base r) after; reply = reply }
-
--- an event that notes nothing, after which the node runs on
-pub going_effect : (t : Table) (number : ℕ) (r : RunningValue) (e : Event) (next : AdvanceValue) (reply : Reply) (change : ChangeValue) → change ≡ record { last = number; after = GoesOn next; reply = reply } → (transition_of t r [] e).notes ≡ false
-    → GoesOn next ≡ after_by r [] (transition_of t r [] e) → reply ≡ (transition_of t r [] e).reply → Effect t number r e change
-going_effect t number r e next reply change is quiet after same =
-    quiet_effect t number r e change quiet (ap (λ (c : ChangeValue). c.last) is) (ap (λ (c : ChangeValue). c.after) is ∙ after) (ap (λ (c : ChangeValue). c.reply) is ∙ same)
 
 -- an event that notes nothing, after which the running value is the transition's up to the base
 pub kept_effect : (t : Table) (number : ℕ) (r : RunningValue) (e : Event) (after : After) (reply : Reply) (change : ChangeValue) → change ≡ record { last = number; after = after; reply = reply } → (transition_of t r [] e).notes ≡ false
@@ -59,16 +48,15 @@ abbrev added : RunningValue → PeersValue → List StateValue → ℕ → After
 added r peers adds trim = GoesOn (record { knowledge = joining (knowledge_of r) adds peers; deltas = adds; trim = trim })
 
 -- the number of own deltas that all other nodes have acknowledged by then
-abbrev pub acked : Table → RunningValue → PeersValue → List StateValue → ℕ
+abbrev acked : Table → RunningValue → PeersValue → List StateValue → ℕ
 acked t r peers adds = acked_by_all peers (fold join r.state adds) (node_count t) r.origin.node
 
 -- a message that brings something new
-pub adds_message : (t : Table) (r : RunningValue) (m : Message) (peers : PeersValue) (next : AdvanceValue) → is_below (content_of m.body) r.state ≡ false → peers ≡ heard_from r.origin r.kept.count r.peers m
-    → next ≡ record (adding (knowledge_of r) (content_of m.body ∷ []) peers) { trim = max r.kept.base (acked t r peers (content_of m.body ∷ [])) } → after_from_base r (GoesOn next) ≡ GoesOn (from_base r (next_by r [] (hears_message t r m)))
-adds_message t r m peers next new after is =
-    ap (λ (n : AdvanceValue). GoesOn (from_base r n)) is
-    ∙ (ap (added r peers (content_of m.body ∷ [])) (max_again r.kept.base (acked t r peers (content_of m.body ∷ [])))
-    ∙ (λ i. added r (after i) (brought i) (max r.kept.base (acked t r (after i) (brought i)))))
+pub adds_message : (t : Table) (r : RunningValue) (m : Message) (peers : PeersValue) → is_below (content_of m.body) r.state ≡ false → peers ≡ heard_from r.origin r.kept.count r.peers m
+    → after_from_base r (Gains (record { delta = content_of m.body; peers = peers; trims_for = Some (node_count t) })) ≡ GoesOn (from_base r (next_by r [] (hears_message t r m)))
+adds_message t r m peers new after =
+    ap (added r peers (content_of m.body ∷ [])) (max_again r.kept.base (acked t r peers (content_of m.body ∷ [])))
+    ∙ (λ i. added r (after i) (brought i) (max r.kept.base (acked t r (after i) (brought i))))
   where
     max_again : (b n : ℕ) → max b (max b n) ≡ max b n
     max_again b n = omega arith
@@ -93,6 +81,7 @@ trimmed_from_base k deltas n = ap (cut (fold pushed k deltas)) (alike k.base (fo
 run_from_base : (r : RunningValue) (after : After) → running_after (after_from_base r after) (Some r) ≡ running_after after (Some r)
 run_from_base r Off = refl
 run_from_base r (Boots b) = refl
+run_from_base r (Gains g) = ap (λ (kept : KeptDeltas StateValue). Some (running_of (joining (knowledge_of r) (g.delta ∷ []) g.peers) kept)) (trimmed_from_base r.kept (g.delta ∷ []) (gaining r g).trim)
 run_from_base r (Keeps peers trim) = ap (λ (kept : KeptDeltas StateValue). Some (running_of (joining (knowledge_of r) [] peers) kept)) (trimmed_from_base r.kept [] trim)
 run_from_base r (GoesOn next) = ap (λ (kept : KeptDeltas StateValue). Some (running_of next.knowledge kept)) (trimmed_from_base r.kept next.deltas next.trim)
 
@@ -132,6 +121,7 @@ fits_from_base : (r : RunningValue) (after : After) → FitsIn (Some r) (after_f
 fits_from_base r Off h = tt
 fits_from_base r (Boots b) h = tt
 fits_from_base r (GoesOn next) h = h
+fits_from_base r (Gains g) h = h.0
 fits_from_base r (Keeps peers trim) h = tt
 
 -- numbers are left for the new deltas
@@ -145,6 +135,7 @@ effect_fits t last r e change none countable f = record {
     to_fits Off h = tt
     to_fits (Boots b) h = tt
     to_fits (GoesOn next) h = h
+    to_fits (Gains g) h = (h, λ nothing. ap (fold join r.state) nothing)
     to_fits (Keeps peers trim) h = (omega (arith, countable), λ _. refl)
 
     by : (b : Bool) → FitsIn (Some r) (cond b Off (GoesOn (next_by r f.noted (transition_of t r f.noted e))))

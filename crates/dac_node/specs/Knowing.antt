@@ -1,5 +1,5 @@
 -- The knowledge of a running node, and its change by an event.
-use Rattle.std.specs.Prelude.{ℕ, Bool, false, List, [], ◌∷◌, Option, fold, refl}
+use Rattle.std.specs.Prelude.{ℕ, Bool, false, List, [], ◌∷◌, Option, Some, None, fold, max, refl}
 use Rattle.std.specs.Coded.{Coded, code_by, coded×, coded_ℕ, coded_bool, coded_list, coded_option}
 use Rattle.dac_origins.specs.declared.dot.Origin.{Origin}
 use Rattle.dac_origins.specs.Dots.{coded_origin}
@@ -7,7 +7,7 @@ use Rattle.dac_meaning.specs.StateValue.{StateValue, bottom, join, coded_state}
 use Rattle.dac_meaning.specs.Meaning.{meaning_of}
 use Rattle.dac_config.specs.Table.{Table}
 use Rattle.dac_deltas.specs.KeptDeltas.{KeptDeltas}
-use Rattle.dac_peers.specs.Peers.{PeersValue, no_peers, coded_peers}
+use Rattle.dac_peers.specs.Peers.{PeersValue, no_peers, coded_peers, acked_by_all}
 use Rattle.dac_decide.specs.declared.waits.Noted.{Noted}
 use Rattle.dac_decide.specs.FailoverWait.{coded_noted, waits_of}
 use Rattle.dac_decide.specs.declared.moments.Moments.{Moments}
@@ -90,6 +90,12 @@ joining k states peers = record {
   state = fold join k.state states;
   peers = peers;
 }
+
+-- The number below which deltas are dropped after a gain. With a number of nodes these are the deltas from the base on
+-- that all other nodes have acknowledged.
+abbrev pub trim_past : KnowledgeValue → ℕ → Option ℕ → ℕ
+trim_past k base None = 0
+trim_past k base (Some nodes) = max base (acked_by_all k.peers k.state nodes k.origin.node)
 
 -- the advance by new states, with this peer table
 abbrev pub adding : KnowledgeValue → List StateValue → PeersValue → AdvanceValue

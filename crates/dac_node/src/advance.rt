@@ -69,12 +69,4 @@ impl Advance {
         } = self;
         (knowledge, deltas, trim)
     }
-
-    /// Sets the number below which deltas are dropped.
-    pub(crate) fn trim_below(&mut self, trim: u64)
-        ensures { self.new
-            ≡ record { knowledge = self.old.knowledge; deltas = self.old.deltas; trim = trim } }
-    {
-        self.trim = trim;
-    }
 }

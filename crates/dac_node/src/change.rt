@@ -9,6 +9,7 @@ ghost use Rattle.dac_messages.specs.Bodies.{content_of};
 ghost use Rattle.dac_model_node.specs.EventRefusals.{refusal_on, refusal_to_obey};
 
 use crate::advance::Advance;
+use crate::gain::Gain;
 use crate::knowledge::covers;
 use crate::running::Running;
 use crate::ticking::tick;
@@ -32,6 +33,8 @@ pub(crate) enum After {
     Boots(Box<Running, Global>),
     /// The running node goes on with this knowledge and these deltas.
     GoesOn(Advance),
+    /// The running node adds this delta.
+    Gains(Gain),
     /// The running node keeps all except the peer table, and drops deltas below this number.
     Keeps(Peers, u64),
 }
@@ -206,9 +209,9 @@ impl Change {
         requires { refusal_to_obey config.now running.now command ≡ None }
         ensures { IfOk result (Effect config.now last running.now (Event.Command command)) }
     {
-        let (next, operation) = running.command(config, command)?;
+        let (gain, operation) = running.command(config, command)?;
         let alloc = running.knowledge.alloc;
-        let change = Change::new(alloc, last, After::GoesOn(next), Reply::Issued(operation))?;
+        let change = Change::new(alloc, last, After::Gains(gain), Reply::Issued(operation))?;
         Ok(change)
     }
 

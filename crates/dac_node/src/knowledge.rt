@@ -1,7 +1,9 @@
 //! The knowledge of a running controller.
 
-ghost use Rattle.std.specs.Prelude.{◌≡◌, ◌∷◌, [], IfOk, max};
+ghost use Rattle.std.specs.Prelude.{◌≡◌, ◌∷◌, [], IfOk, OnOk, OnErr, max};
+ghost use Rattle.std.specs.Arc.{arc_value};
 ghost use Rattle.dac_config.specs.Table.{node_count};
+ghost use Rattle.dac_meaning.specs.StateValue.{join};
 ghost use Rattle.dac_meaning.specs.Meaning.{meaning_of};
 ghost use Rattle.dac_meaning.specs.Below.{is_below};
 ghost use Rattle.dac_peers.specs.Peers.{acked_by_all};
@@ -9,7 +11,6 @@ ghost use Rattle.dac_messages.specs.Bodies.{content_of};
 ghost use Rattle.dac_node.specs.ByDots.{IsBelowByDots, IsBelowByDot};
 ghost use Rattle.dac_model_node.specs.Step.{up};
 
-use crate::advance::Advance;
 use dac_base::NoMemory;
 use dac_config::Config;
 use dac_decide::{Moments, Waits};
@@ -73,7 +74,7 @@ impl Model for Knowledge {
 }
 
 impl Knowledge {
-    ghost use Rattle.dac_node.specs.Knowing.{knows_at_boot, joining, adding};
+    ghost use Rattle.dac_node.specs.Knowing.{knows_at_boot, joining, trim_past};
     ghost use Rattle.dac_model_node.specs.NodeValue.{IsSound};
 
     /// Shows the invariant to proofs; does nothing at run time.
@@ -133,36 +134,15 @@ impl Knowledge {
         })
     }
 
-    /// Joins a state, and replaces the peer table.
-    pub(crate) fn join_state(&self, other: &State, peers: Peers) -> Result<Self, NoMemory>
-        ensures { IfOk result (λ knowledge. knowledge ≡ joining self.now (other.now ∷ []) peers) }
+    /// Absorbs a state, and replaces the peer table. If an allocation fails, nothing changes.
+    pub(crate) fn absorb(&mut self, other: &State, peers: Peers) -> Result<(), NoMemory>
+        ensures ok { OnOk result (self.new ≡ joining self.old (other.now ∷ []) peers) }
+        ensures err { OnErr result (self.new ≡ self.old) }
     {
-        let waits = Arc::try_clone(&self.waits)?;
-        let joined = self.state.join(other)?;
-        let state = Arc::new(self.alloc, joined)?;
-        Ok(Knowledge {
-            alloc: self.alloc,
-            origin: self.origin,
-            moments: self.moments,
-            is_open: self.is_open,
-            waits,
-            state,
-            peers,
-        })
-    }
-
-    /// The advance by a new delta, with this peer table.
-    pub(crate) fn add_delta(&self, delta: State, peers: Peers) -> Result<Advance, NoMemory>
-        ensures { IfOk result (λ next. next ≡ adding self.now (delta ∷ []) peers) }
-    {
-        let knowledge = self.join_state(&delta, peers)?;
-        let mut deltas = Vec::new(self.alloc);
-        deltas.push(delta)?;
-        Ok(Advance {
-            knowledge,
-            deltas,
-            trim: 0,
-        })
+        absorb_into(self.alloc, &mut self.state, other)?;
+        self.peers = peers;
+        self.peers.settle();
+        Ok(())
     }
 
     /// Returns whether the content of a message's body is below the state.
@@ -186,25 +166,27 @@ impl Knowledge {
         }
     }
 
-    /// The advance by the new content of a message's body, with this peer table.
-    pub(crate) fn add_body(&self, body: &Body, peers: Peers) -> Result<Advance, NoMemory>
-        ensures { IfOk result
-            (λ next. next ≡ adding self.now (content_of body.now ∷ []) peers) }
+    /// A copy of the content of a message's body.
+    pub(crate) fn copy_content(&self, body: &Body) -> Result<State, NoMemory>
+        ensures { IfOk result (λ content. content ≡ content_of body.now) }
     {
-        let delta = match body.state() {
-            Some(state) => state.copy()?,
-            None => State::bottom(self.alloc),
-        };
-        self.add_delta(delta, peers)
+        match body.state() {
+            Some(state) => state.copy(),
+            None => Ok(State::bottom(self.alloc)),
+        }
     }
 
-    /// The greater of `base` and the number of own deltas that all other nodes have acknowledged.
-    pub(crate) fn acked_past(&self, config: &Config, base: u64) -> u64
-        ensures { result
-            ≡ max base (acked_by_all self.now.peers self.now.state (node_count config.now)
-            self.now.origin.node) }
+    /// The number below which deltas are dropped after a gain: with a number of nodes, the greater of `base` and the
+    /// number of own deltas that all other nodes have acknowledged.
+    pub(crate) fn trim_past(&self, trims_for: Option<u8>, base: u64) -> u64
+        ensures { result ≡ trim_past self.now base trims_for }
     {
-        self.trim_with(config, &self.peers, base)
+        match trims_for {
+            Some(nodes) => self
+                .peers
+                .acked_past(&self.state, nodes, self.origin.node, base),
+            None => 0,
+        }
     }
 
     /// The greater of `base` and the number of own deltas that all other nodes have acknowledged by this peer table.
@@ -215,6 +197,19 @@ impl Knowledge {
     {
         peers.acked_past(&self.state, config.nodes(), self.origin.node, base)
     }
+}
+
+/// Joins another state into a state, in place if it isn't shared. If an allocation fails, nothing changes.
+fn absorb_into(alloc: Global, state: &mut Arc<State, Global>, other: &State) -> Result<(), NoMemory>
+    ensures ok { OnOk result (arc_value state.new ≡ join (arc_value state.old) other.now) }
+    ensures err { OnErr result (arc_value state.new ≡ arc_value state.old) }
+{
+    if let Some(own) = Arc::get_mut(state) {
+        return own.absorb(other);
+    }
+    let joined = state.join(other)?;
+    *state = Arc::new(alloc, joined)?;
+    Ok(())
 }
 
 /// Returns whether a state is below another.

@@ -1,14 +1,14 @@
 //! One controller: a node that is off, or runs with a state.
 //!
 //! A [`Node`] handles one event at a time, by [`Node::step`] or by its two halves. [`Node::prepare`] returns the
-//! refusal of the event, or its effect as a [`Change`]. [`Node::apply`] applies the change. It first appends the new
-//! deltas to the delta log, the only part that allocates, so a caller can reserve memory for its own data before
-//! anything changes.
+//! refusal of the event, or its effect as a [`Change`]. [`Node::apply`] applies the change. It first adds the new deltas
+//! to the delta log and to the state, the only part that allocates, so a caller can reserve memory for its own data
+//! before anything changes.
 //!
 //! At a tick a node re-evaluates placement: if its start gate is open, it notes which claims are lost, and claims the
 //! applications that it should run. It decides by a board, which it maintains for its state. A ship sends a peer
 //! whatever the peer hasn't acknowledged, as an interval of the newest deltas or as the whole state. A received state
-//! is joined, and deltas that all other nodes have acknowledged are dropped.
+//! is joined, in place if the node's state isn't shared, and deltas that all other nodes have acknowledged are dropped.
 //!
 //! Functions whose result can't carry `NoMemory` allocate nothing but caches, whose failed allocations are no error. A
 //! call that fails leaves the node unchanged, and has no error besides `NoMemory` unless it names others. Each `Drop`
@@ -40,6 +40,7 @@ pub use node::Node;
 
 mod advance;
 mod change;
+mod gain;
 mod knowledge;
 mod node;
 mod running;

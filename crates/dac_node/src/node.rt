@@ -1,7 +1,9 @@
 //! One controller.
 
 ghost use Rattle.std.specs.Prelude.{◌≡◌, IfOk, IfErr, IfSome, MatchResult, OnOk, OnErr, Some, None, unwrap_or};
+ghost use Rattle.std.specs.Option.{option_copied, option_map};
 ghost use Rattle.dac_config.specs.Table.{Table};
+ghost use Rattle.dac_meaning.specs.StateValue.{StateValue, join};
 ghost use Rattle.dac_messages.specs.Bodies.{content_of};
 ghost use Rattle.dac_model_node.specs.EventRefusals.{refusal_off as refused_off};
 ghost use Rattle.dac_model_node.specs.Transitions.{moment_of};
@@ -12,6 +14,7 @@ use crate::running::Running;
 use dac_base::{MAX_INCARNATION, NoMemory, NodeId};
 use dac_config::Config;
 use dac_events::Refusal;
+use dac_lattice::Lattice;
 use dac_messages::{Event, Message, Reply};
 use dac_origins::Origin;
 use dac_state::{Op, State};
@@ -51,7 +54,6 @@ impl Model for Node {
 }
 
 impl Node {
-    ghost use Rattle.std.specs.Option.{option_copied};
     ghost use Rattle.dac_model_node.specs.NodeValue.{off, origin_of, state_of};
     ghost use Rattle.dac_model_node.specs.EventRefusals.{refusal_of};
     ghost use Rattle.dac_model_node.specs.Step.{Steps, IsShown};
@@ -306,21 +308,23 @@ impl Node {
         Ok(())
     }
 
-    /// The state after a prepared change, if the controller then runs.
-    pub fn state_after<'a>(&'a self, change: &'a Change) -> Option<&'a State>
-        ensures { option_copied result ≡ state_of (changed self.now change.now) }
+    /// The state after a prepared change, if the controller then runs. It is computed if the change brings a delta, and
+    /// otherwise copied.
+    pub fn state_after(&self, change: &Change) -> Result<Option<State>, NoMemory>
+        ensures { IfOk result (λ state. state ≡ state_of (changed self.now change.now)) }
     {
         let Some(outcome) = &change.outcome else {
-            return None;
+            return Ok(None);
         };
         match &outcome.after {
-            After::Off => None,
-            After::Boots(running) => Some(running.state()),
+            After::Off => Ok(None),
+            After::Boots(running) => copied(Some(running.state())),
             After::GoesOn(next) => match &self.running {
-                None => None,
-                Some(_running) => Some(next.state()),
+                None => Ok(None),
+                Some(_running) => copied(Some(next.state())),
             },
-            After::Keeps(_peers, _trim) => self.state(),
+            After::Gains(gain) => joined(self.state(), &gain.delta),
+            After::Keeps(_peers, _trim) => copied(self.state()),
         }
     }
 
@@ -338,6 +342,7 @@ impl Node {
                 None => None,
                 Some(_running) => Some(next.origin()),
             },
+            After::Gains(_gain) => self.origin(),
             After::Keeps(_peers, _trim) => self.origin(),
         }
     }
@@ -363,6 +368,11 @@ impl Node {
                     running.go_on(next, &outcome.reply)?;
                 }
             }
+            After::Gains(gain) => {
+                if let Some(running) = &mut self.running {
+                    running.gain(gain)?;
+                }
+            }
             After::Keeps(peers, trim) => {
                 if let Some(running) = &mut self.running {
                     running.keep(peers, trim, &outcome.reply);
@@ -382,6 +392,27 @@ impl Node {
         ensures { self.new ≡ record { last = self.old.last; running = Some running.value } }
     {
         self.running = Some(Box::into_inner(running));
+    }
+}
+
+/// A copy of a state, if there is one.
+fn copied(state: Option<&State>) -> Result<Option<State>, NoMemory>
+    ensures { IfOk result (λ copied. copied ≡ option_copied state.entry) }
+{
+    match state {
+        None => Ok(None),
+        Some(state) => Ok(Some(state.copy()?)),
+    }
+}
+
+/// The join of a state, if there is one, with a delta.
+fn joined(state: Option<&State>, delta: &State) -> Result<Option<State>, NoMemory>
+    ensures { IfOk result
+        (λ joined. joined ≡ option_map (λ (s : StateValue). join s delta.now) (option_copied state.entry)) }
+{
+    match state {
+        None => Ok(None),
+        Some(state) => Ok(Some(state.join(delta)?)),
     }
 }
 

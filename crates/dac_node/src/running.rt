@@ -7,7 +7,6 @@ ghost use Rattle.dac_base.specs.declared.limits.TheConstants.{MAX_COUNTER as LAS
 ghost use Rattle.dac_deltas.specs.KeptDeltas.{trimmed};
 ghost use Rattle.dac_meaning.specs.StateValue.{IsState};
 ghost use Rattle.dac_meaning.specs.Below.{is_below};
-ghost use Rattle.dac_meaning.specs.Meaning.{meaning_of};
 ghost use Rattle.dac_messages.specs.Bodies.{content_of};
 ghost use Rattle.dac_model_node.specs.dac_commands.Commands.{next_operation, act_of as said_by};
 ghost use Rattle.dac_model_node.specs.dac_commands.Causes.{first, refusal_of_command as refused_command};
@@ -15,6 +14,7 @@ ghost use Rattle.dac_model_node.specs.EventRefusals.{refusal_to_tick as refused_
 ghost use Rattle.dac_model_node.specs.Step.{up};
 
 use crate::advance::Advance;
+use crate::gain::Gain;
 use crate::knowledge::{Knowledge, covers, is_below};
 use crate::shown::Shown;
 use dac_base::{MAX_COUNTER, NoMemory, NodeId};
@@ -65,8 +65,7 @@ impl Model for Running {
 
 impl Running {
     ghost use Rattle.dac_model_node.specs.Accepted.{booted, AreNewest};
-    ghost use Rattle.dac_node.specs.Knowing.{adding, knowledge_of};
-    ghost use Rattle.dac_node.specs.After.{gone_on, keeping, ShipsOwnIn};
+    ghost use Rattle.dac_node.specs.After.{gone_on, keeping, gaining, gain_of, ShipsOwnIn};
 
     /// Shows the invariant to proofs: the deltas kept are the newest, at most 2^62 were counted, and the state is well
     /// formed. Does nothing at run time.
@@ -148,6 +147,27 @@ impl Running {
         }
         self.knowledge = knowledge;
         self.knowledge.peers.settle();
+        Ok(())
+    }
+
+    /// Adds a delta, and drops those that all other nodes have then acknowledged, if the gain says so. If an allocation
+    /// fails, nothing changes.
+    pub(crate) fn gain(&mut self, gain: Gain) -> Result<(), NoMemory>
+        requires { self.old.kept.count + 1 ≤ LAST_NUMBER }
+        ensures ok { OnOk result (self.new ≡ gone_on (gaining self.old gain) self.old) }
+        ensures err { OnErr result (self.new ≡ self.old) }
+    {
+        let Running {
+            knowledge,
+            buffer,
+            shown,
+        } = self;
+        let base = buffer.base();
+        let trims_for = gain.trims_for;
+        gain.add_to(knowledge, buffer)?;
+        let trim = knowledge.trim_past(trims_for, base);
+        drop_below(buffer, trim);
+        shown.goes_stale();
         Ok(())
     }
 
@@ -311,15 +331,10 @@ impl Running {
         }
     }
 
-    /// The advance by an accepted command, and the operation that it issues.
-    pub(crate) fn command(
-        &self,
-        config: &Config,
-        command: Command,
-    ) -> Result<(Advance, Op), NoMemory>
+    /// The gain of an accepted command, and the operation that it issues.
+    pub(crate) fn command(&self, config: &Config, command: Command) -> Result<(Gain, Op), NoMemory>
         requires { refused_command config.now self.now.origin self.now.state command ≡ None }
-        ensures next { IfOk result (λ both. both.0
-            ≡ adding (knowledge_of self.now) (meaning_of (both.1 ∷ []) ∷ []) self.now.peers) }
+        ensures gain { IfOk result (λ both. both.0 ≡ gain_of self.now both.1) }
         ensures operation { IfOk result (λ both. both.1
             ≡ next_operation self.now.state self.now.origin
             (said_by config.now self.now.state command)) }
@@ -327,20 +342,22 @@ impl Running {
         let known = &self.knowledge;
         known.tells_invariant();
         let operation = operation_of(known.alloc, config, known.origin, &known.state, command)?;
-        let next = self.issue(&operation)?;
-        Ok((next, operation))
+        let gain = self.gain_of(&operation)?;
+        Ok((gain, operation))
     }
 
-    /// The advance by an own operation.
-    fn issue(&self, operation: &Op) -> Result<Advance, NoMemory>
-        ensures { IfOk result (λ next. next
-            ≡ adding (knowledge_of self.now) (meaning_of (operation.now ∷ []) ∷ [])
-            self.now.peers) }
+    /// The gain of an operation. Nothing is trimmed.
+    pub(crate) fn gain_of(&self, operation: &Op) -> Result<Gain, NoMemory>
+        ensures { IfOk result (λ gain. gain ≡ gain_of self.now operation.now) }
     {
         let known = &self.knowledge;
         let delta = State::delta_of(known.alloc, operation)?;
         let peers = known.peers.copy()?;
-        known.add_delta(delta, peers)
+        Ok(Gain {
+            delta,
+            peers,
+            trims_for: None,
+        })
     }
 }
 

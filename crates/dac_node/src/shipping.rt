@@ -11,6 +11,7 @@ ghost use Rattle.dac_node.specs.Knowing.{hearing, knowledge_of};
 ghost use Rattle.dac_node.specs.After.{after_from_base, from_base, next_by};
 
 use crate::change::After;
+use crate::gain::Gain;
 use crate::running::Running;
 use dac_base::{NoMemory, NodeId};
 use dac_config::Config;
@@ -145,10 +146,13 @@ impl Running {
             let trim = known.trim_with(config, &peers, self.buffer.base());
             return Ok((After::Keeps(peers, trim), false));
         }
-        let mut next = known.add_body(&message.body, peers)?;
-        let trim = next.knowledge.acked_past(config, self.buffer.base());
-        next.trim_below(trim);
-        Ok((After::GoesOn(next), true))
+        let delta = known.copy_content(&message.body)?;
+        let gain = Gain {
+            delta,
+            peers,
+            trims_for: Some(config.nodes()),
+        };
+        Ok((After::Gains(gain), true))
     }
 
     /// The running value after a single operation, and whether it was new. The caller passes whether it is known.
@@ -164,14 +168,12 @@ impl Running {
         ensures fresh { IfOk result
             (λ both. both.1 ≡ not (is_below (meaning_of (operation.now ∷ [])) self.now.state)) }
     {
-        let known = &self.knowledge;
-        let peers = known.peers.copy()?;
         // Most operations handed are known already.
         if is_known {
+            let peers = self.knowledge.peers.copy()?;
             return Ok((After::Keeps(peers, 0), false));
         }
-        let delta = State::delta_of(known.alloc, operation)?;
-        let next = known.add_delta(delta, peers)?;
-        Ok((After::GoesOn(next), true))
+        let gain = self.gain_of(operation)?;
+        Ok((After::Gains(gain), true))
     }
 }

@@ -92,7 +92,8 @@ pub(crate) fn record_call<R: Wait>(
         pages,
     } = paged;
     let next = journal.prepare(seat, event)?;
-    pages.prepare(next_page(*alloc, journal, pages.shown(), &next))?;
+    let page = next_page(*alloc, journal, pages.shown(), &next)?;
+    pages.prepare(page)?;
     let said = journal.commit(next)?;
     pages.publish(rt);
     Ok(said)

@@ -32,21 +32,26 @@ pub fn page_of(alloc: Global, config: &Config, place: u64, node: &Node) -> Page
 
 /// The page after a prepared record, computed from the page before it. The summary is computed again only if the state
 /// can have changed.
-pub(crate) fn next_page(alloc: Global, journal: &Journal, shown: &Page, next: &Next) -> Page
+pub(crate) fn next_page(
+    alloc: Global,
+    journal: &Journal,
+    shown: &Page,
+    next: &Next,
+) -> Result<Page, NoMemory>
     requires goes { GoesOnBy journal.now.beginning journal.now.records next.now.entry
         next.now.change }
     requires shown { shown.now ≡ page_after journal.now.beginning journal.now.records }
-    ensures { result
-        ≡ page_after journal.now.beginning (journal.now.records ++ next.now.entry ∷ []) }
+    ensures { IfOk result (λ page. page
+        ≡ page_after journal.now.beginning (journal.now.records ++ next.now.entry ∷ [])) }
 {
     let node = journal.node();
     let place = journal.records().len() as u64 + 1;
     if leaves_state(next.answer()) {
-        return Page {
+        return Ok(Page {
             place,
             origin: shown.origin,
             summary: shown.summary,
-        };
+        });
     }
     page_by(alloc, journal.config(), place, node, next.change())
 }
@@ -64,17 +69,25 @@ fn leaves_state(answer: &Answer) -> bool
 }
 
 /// The page of a node after a change, with this many records.
-fn page_by(alloc: Global, config: &Config, place: u64, node: &Node, change: Option<&Change>) -> Page
-    ensures { result ≡ page_of config.now place (node_by (option_copied change.entry) node.now) }
+fn page_by(
+    alloc: Global,
+    config: &Config,
+    place: u64,
+    node: &Node,
+    change: Option<&Change>,
+) -> Result<Page, NoMemory>
+    ensures { IfOk result (λ page. page
+        ≡ page_of config.now place (node_by (option_copied change.entry) node.now)) }
 {
-    match change {
-        None => page_of(alloc, config, place, node),
-        Some(change) => Page {
-            place,
-            origin: node.origin_after(change),
-            summary: summary_of(alloc, config, node.state_after(change)),
-        },
-    }
+    let Some(change) = change else {
+        return Ok(page_of(alloc, config, place, node));
+    };
+    let state = node.state_after(change)?;
+    Ok(Page {
+        place,
+        origin: node.origin_after(change),
+        summary: summary_of(alloc, config, state.as_ref()),
+    })
 }
 
 /// The summary of a state, or of the bottom state if there is none.

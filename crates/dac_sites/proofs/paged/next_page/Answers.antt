@@ -1,4 +1,6 @@
 use Rattle.std.proofs.Common.{◌≡◌, ◌+◌, ◌++◌, ◌∷◌, [], true, length, sym, ap, ◌∙◌, length-append}
+use Rattle.std.specs.Option.{option_copied}
+use Rattle.std.proofs.lemmas.Result.{IfOk-weaker}
 use Rattle.dac_pages.specs.declared.page.Page.{Page}
 use Rattle.dac_journal.specs.Keeping.{leaves_state}
 use Rattle.dac_journal.specs.Going.{node_by}
@@ -25,5 +27,5 @@ returns c =
     let rs = j.records ++ next.entry ∷ [] in
     let ends = (c.requires.goes v c.node-node.ensures).1 in
     let count : length c.records.result.now + 1 ≡ length rs = ap (λ l. length l + 1) c.records.ensures.value ∙ sym (length-append j.records (next.entry ∷ [])) in
-    let page : c.page_by.result ≡ page_of j.beginning.table (length rs) (node_by next.change v) = c.page_by.ensures ∙ (λ i. page_of (c.config.ensures i) (count i) (node_by (c.change.ensures i) v)) in
-    page ∙ page_there j.beginning rs (node_by next.change v) ends
+    let same : page_of c.config.result.now (length c.records.result.now + 1) (node_by (option_copied c.change.result) v) ≡ page_after j.beginning rs = (λ i. page_of (c.config.ensures i) (count i) (node_by (c.change.ensures i) v)) ∙ page_there j.beginning rs (node_by next.change v) ends in
+    IfOk-weaker c.page_by.result (λ (page : Page). page ≡ page_of c.config.result.now (length c.records.result.now + 1) (node_by (option_copied c.change.result) v)) (λ (page : Page). page ≡ page_after j.beginning rs) (λ page is. is ∙ same) c.page_by.ensures
