@@ -1,4 +1,5 @@
 mod JoinLemmas
 mod Putting
+pub mod Removing
 pub mod MergeLemmas
 pub mod SearchLemmas

@@ -5,7 +5,7 @@ ghost use Rattle.std.specs.Option.{option_copied};
 ghost use Rattle.std.specs.FinMap.{find, put};
 ghost use Rattle.dac_lattice.specs.Entries.{merge_entries, keep};
 ghost use Rattle.dac_lattice.specs.Merges.{lowest_of, keep_lowest};
-ghost use Rattle.dac_lattice.specs.Search.{IsInOrder, IsPlaceOf};
+ghost use Rattle.dac_lattice.specs.Search.{IsInOrder, IsPlaceOf, without};
 
 use dac_origins::{MapKey, NoMemory};
 use std::alloc::Global;
@@ -174,4 +174,14 @@ pub fn put_entry<K: MapKey, X: Drop>(
         Err(place) => entries.insert(place, (key, value))?,
     }
     Ok(())
+}
+
+/// Removes a key's entry, if it is there, from a list in key order.
+pub fn remove_entry<K: MapKey, X: Drop>(entries: &mut Vec<(K, X)>, key: K)
+    requires { IsInOrder K.cmp entries.old.items }
+    ensures { entries.new.items ≡ without K.cmp key entries.old.items }
+{
+    if let Ok(place) = place_of(entries, key) {
+        let _removed = entries.remove(place);
+    }
 }

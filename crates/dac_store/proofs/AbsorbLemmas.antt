@@ -1,22 +1,23 @@
 -- Joins that change one entry in place.
-use Rattle.std.proofs.Common.{◌≡◌, ℕ, ◌+◌, ◌<◌, ◌≤◌, zero, suc, Bool, true, false, cond, ◌&&◌, T, List, [], ◌∷◌, ◌++◌, Option, Some, None, Result, Ok, Err, length, get_or, slice_set, refl, sym, ap, subst, ◌∙◌, arith, append_assoc}
+use Rattle.std.proofs.Common.{◌≡◌, ℕ, ◌+◌, ◌<◌, ◌≤◌, zero, suc, Bool, true, false, cond, not, ◌&&◌, T, List, [], ◌∷◌, ◌++◌, Option, Some, None, Result, Ok, Err, length, get_or, slice_set, refl, sym, ap, subst, ◌∙◌, arith, append_assoc}
 use Rattle.std.specs.Prelude.{IfOk, IfSome, OnErr, is_some}
 use Rattle.std.specs.declared.cmp.Ordering.{Ordering}
 use Rattle.std.specs.declared.cmp.Ordering.TheVariants.{Less, Equal, Greater}
 use Rattle.std.specs.Ordering.{is_lt, is_eq, eq_by_cmp, ordering_reverse}
 use Rattle.std.specs.Cmp.{IsTotalOrder}
-use Rattle.std.specs.List.{flat_map, All, AllWithin}
+use Rattle.std.specs.List.{flat_map, AllWithin}
 use Rattle.std.specs.Option.{SomeIff}
 use Rattle.std.specs.FinMap.{find, put}
-use Rattle.std.specs.FinMap.Entries.{by_order, find-put, is_sorted-put, length-put, same_entries}
+use Rattle.std.specs.FinMap.Entries.{by_order, find-put, is_sorted-put, is_sorted-where_key, length-put, same_entries}
 use Rattle.std.proofs.lemmas.Bool.{false≢true, and_from, and_parts}
 use Rattle.std.proofs.lemmas.List.Elements.{All-set}
 use Rattle.std.proofs.lemmas.List.Folds.{list_all-append}
 use Rattle.std.proofs.lemmas.Map.Lookups.{CmpEqualImpliesEq}
 use Rattle.dac_origins.specs.Dots.{Dots}
 use Rattle.dac_origins.specs.declared.dot.Dot.{Dot}
-use Rattle.dac_lattice.specs.Entries.{Combine, merge_entries}
-use Rattle.dac_lattice.specs.Search.{AtEachEntry, IsInOrder}
+use Rattle.dac_lattice.specs.Entries.{Combine, keep}
+use Rattle.dac_lattice.specs.Search.{IsInOrder, without}
+use Rattle.dac_lattice.proofs.Removing.{find_without}
 use Rattle.dac_lattice.specs.laws.Entries.{find_merge, sorted_merge}
 use Rattle.dac_lattice.specs.laws.EntryLaws.{each_key, greater, less}
 use Rattle.dac_store.specs.Absorbing.{AreOthersUnheard, IsOtherUnheard}
@@ -85,6 +86,15 @@ module _ {K X : Type 0} {R : K → K → Ordering} (o : IsTotalOrder R) where
     | Greater ↦ omega arith
   ]
 
+  module _ {B : Type 0} (value : B → List (K × X)) (k : K) where
+    -- if each block is below the key, so are their entries
+    pub all_below : (blocks : List B) (i : ℕ) → length blocks ≤ i → AllWithin (λ b. is_above_entries R (value b) k ≡ true) blocks 0 i → is_above_entries R (flat_map value blocks) k ≡ true
+    all_below [] i p below = refl
+    all_below (b ∷ blocks) zero p below = absurd (omega arith)
+    all_below (b ∷ blocks) (suc i) p below =
+        list_all-append (λ (e : K × X). is_lt (R e.0 k)) (value b) (flat_map value blocks)
+        ∙ and_from _ _ (below 0 b (omega arith) (omega arith)) (all_below blocks i (omega arith) (λ j d q r. below (suc j) d (omega arith) (omega arith)))
+
   module _ {B : Type 0} (value : B → List (K × X)) (k : K) (v : X) where
     -- into the first block that isn't below the key
     pub put_block : (last : List (K × X)) (blocks : List B) (i : ℕ) (b new : B) → i < length blocks → b ≡ get_or blocks i b → AllWithin (λ b. is_above_entries R (value b) k ≡ true) blocks 0 i → is_above_entries R (value b) k ≡ false → value new ≡ put R k v (value b)
@@ -108,16 +118,9 @@ module _ {K X : Type 0} {R : K → K → Ordering} (o : IsTotalOrder R) where
     put_block_so last whole blocks i b new split p is below not true same = put_block last blocks i b new p is below not same ∙ ap (put R k v) split
     put_block_so last whole blocks i b new split p is below not false same = put_none value last whole blocks i b new split p is same
 
-    all_below : (blocks : List B) (i : ℕ) → length blocks ≤ i → AllWithin (λ b. is_above_entries R (value b) k ≡ true) blocks 0 i → is_above_entries R (flat_map value blocks) k ≡ true
-    all_below [] i p below = refl
-    all_below (b ∷ blocks) zero p below = absurd (omega arith)
-    all_below (b ∷ blocks) (suc i) p below =
-        list_all-append (λ (e : K × X). is_lt (R e.0 k)) (value b) (flat_map value blocks)
-        ∙ and_from _ _ (below 0 b (omega arith) (omega arith)) (all_below blocks i (omega arith) (λ j d q r. below (suc j) d (omega arith) (omega arith)))
-
     -- behind blocks below the key
     pub put_last : (last new : List (K × X)) (blocks : List B) (i : ℕ) → length blocks ≤ i → AllWithin (λ b. is_above_entries R (value b) k ≡ true) blocks 0 i → new ≡ put R k v last → flat_map value blocks ++ new ≡ put R k v (flat_map value blocks ++ last)
-    put_last last new blocks i p below is = ap (λ l. flat_map value blocks ++ l) is ∙ put_behind (flat_map value blocks) last k v (all_below blocks i p below)
+    put_last last new blocks i p below is = ap (λ l. flat_map value blocks ++ l) is ∙ put_behind (flat_map value blocks) last k v (all_below value k blocks i p below)
 
     -- behind them, or not
     pub put_last_so : (last new whole : List (K × X)) (blocks : List B) (i : ℕ) → flat_map value blocks ++ last ≡ whole → length blocks ≤ i → AllWithin (λ b. is_above_entries R (value b) k ≡ true) blocks 0 i
@@ -158,6 +161,19 @@ module _ {K S : Type 0} (R : K → K → Ordering) (has : S → Dot → Bool) (k
 
 -- ---- the join with one entry
 
+-- at most one entry is in order
+one_sorted : {K X : Type 0} (R : K → K → Ordering) (k : K) (w : Option X) → IsInOrder R (keep k w [])
+one_sorted R k None = tt
+one_sorted R k (Some v) = tt
+
+either : {A : Type 0} (t : Bool) (a : A) → a ≡ cond t a a
+either true a = refl
+either false a = refl
+
+find_one : {K X : Type 0} (R : K → K → Ordering) (k : K) (w : Option X) (q : K) → find R q (keep k w []) ≡ cond (eq_by_cmp R q k) w None
+find_one R k None q = either (eq_by_cmp R q k) None
+find_one R k (Some v) q = refl
+
 pub tied : (r : Ordering) → is_eq r ≡ true → r ≡ Equal
 tied Less p = absurd (false≢true p)
 tied Equal p = refl
@@ -176,13 +192,29 @@ module _ {K S : Type 0} {R : K → K → Ordering} (o : IsTotalOrder R) (exact :
   stays k q None apart kept other = sym (none q)
   stays k q (Some s) apart kept other = sym (stays_whole is_empty s _ (laws.alone s c d kept.0 (other apart)) kept.1)
 
-  -- one entry is put, the others stay
-  pub absorbed : (m : List (K × S)) (k : K) (w j : S) → IsKeyed R is_store is_empty m → AreOthersUnheard R has k d m → j ≡ join (store_at nothing (find R k m)) c w d → is_empty j ≡ false → put R k j m ≡ join_keyed R nothing is_empty join m c ((k, w) ∷ []) d
-  absorbed m k w j keyed others is dots =
-      same_entries R o exact _ _ (is_sorted-put R o k j m keyed.in_order) (sorted_merge o exact f m ((k, w) ∷ []) keyed.in_order tt) (λ q.
-      find-put R o q k j m
-      ∙ elim (eq_by_cmp R q k) as (λ t. eq_by_cmp R q k ≡ t → cond t (Some j) (find R q m) ≡ f q (find R q m) (cond t (Some w) None)) [
-        | true ↦ λ t. subst (λ x. Some j ≡ unless_empty is_empty (join (store_at nothing (find R x m)) c w d)) (sym (exact q k (tied _ t))) (sym (stays_whole is_empty j _ (sym is) dots))
+  -- the join with a map that has at most one key changes the store at that key alone
+  changes_one : (m new : List (K × S)) (k : K) (w : Option S) (j : S) → IsKeyed R is_store is_empty m → AreOthersUnheard R has k d m → j ≡ join (store_at nothing (find R k m)) c (store_at nothing w) d → IsInOrder R new
+      → ((q : K) → find R q new ≡ cond (eq_by_cmp R q k) (unless_empty is_empty j) (find R q m)) → new ≡ join_keyed R nothing is_empty join m c (keep k w []) d
+  changes_one m new k w j keyed others is sorted each =
+      same_entries R o exact _ _ sorted (sorted_merge o exact f m (keep k w []) keyed.in_order (one_sorted R k w)) (λ q.
+      each q
+      ∙ elim (eq_by_cmp R q k) as (λ t. eq_by_cmp R q k ≡ t → cond t (unless_empty is_empty j) (find R q m) ≡ f q (find R q m) (cond t w None)) [
+        | true ↦ λ t. subst (λ x. unless_empty is_empty j ≡ unless_empty is_empty (join (store_at nothing (find R x m)) c (store_at nothing w) d)) (sym (exact q k (tied _ t))) (ap (unless_empty is_empty) is)
         | false ↦ λ t. stays k q (find R q m) (λ e. false≢true (sym t ∙ ap is_eq e)) (keyed.stores q) (each_key o exact (IsOtherUnheard R has k d) (λ _. tt) m others q)
       ] refl
-      ∙ sym (find_merge o exact f none q m ((k, w) ∷ []) keyed.in_order tt))
+      ∙ sym (ap (f q (find R q m)) (find_one R k w q))
+      ∙ sym (find_merge o exact f none q m (keep k w []) keyed.in_order (one_sorted R k w)))
+
+  -- an entry is put, the others stay
+  pub absorbed : (m : List (K × S)) (k : K) (w : Option S) (j : S) → IsKeyed R is_store is_empty m → AreOthersUnheard R has k d m → j ≡ join (store_at nothing (find R k m)) c (store_at nothing w) d → is_empty j ≡ false
+      → put R k j m ≡ join_keyed R nothing is_empty join m c (keep k w []) d
+  absorbed m k w j keyed others is dots =
+      changes_one m (put R k j m) k w j keyed others is (is_sorted-put R o k j m keyed.in_order) (λ q.
+      find-put R o q k j m ∙ ap (λ b. cond (eq_by_cmp R q k) (cond b None (Some j)) (find R q m)) (sym dots))
+
+  -- an entry is removed, the others stay
+  pub dropped : (m : List (K × S)) (k : K) (w : Option S) (j : S) → IsKeyed R is_store is_empty m → AreOthersUnheard R has k d m → j ≡ join (store_at nothing (find R k m)) c (store_at nothing w) d → is_empty j ≡ true
+      → without R k m ≡ join_keyed R nothing is_empty join m c (keep k w []) d
+  dropped m k w j keyed others is bare =
+      changes_one m (without R k m) k w j keyed others is (is_sorted-where_key R (λ x. not (eq_by_cmp R k x)) m keyed.in_order) (λ q.
+      find_without R o q k m ∙ ap (λ b. cond (eq_by_cmp R q k) (cond b None (Some j)) (find R q m)) (sym bare))

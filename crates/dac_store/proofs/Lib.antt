@@ -3,4 +3,5 @@ mod PartLemmas
 mod EntryLemmas
 mod JoinLemmas
 mod AbsorbLemmas
+mod RemoveLemmas
 mod BelowLemmas

@@ -225,7 +225,7 @@ module _ {K X : Type 0} (R : K → K → Ordering) where
   above_parts k xs ys = list_all-append (λ (e : K × X). is_lt (R e.0 k)) xs ys
 
 module _ {K : Type 0} {R : K → K → Ordering} (o : IsTotalOrder R) where
-  lower : (x k : K) → is_lt (R x k) ≡ true → eq_by_cmp R k x ≡ false
+  pub lower : (x k : K) → is_lt (R x k) ≡ true → eq_by_cmp R k x ≡ false
   lower x k e = ap is_eq (greater o x k (less (R x k) (subst T (sym e) tt)))
 
 module _ {K X : Type 0} {R : K → K → Ordering} (o : IsTotalOrder R) (exact : CmpEqualImpliesEq R) where
@@ -236,7 +236,7 @@ module _ {K X : Type 0} {R : K → K → Ordering} (o : IsTotalOrder R) (exact :
       ap (λ t. cond t (Some x.1) (find R k (xs ++ ys))) (lower o x.0 k (and_parts _ _ h).0)
       ∙ find_past k xs ys (and_parts _ _ h).1
 
-  below_from : (k x : K) (es : List (K × X)) → R k x ≡ Less → T (below_all R x es) → T (below_all R k es)
+  pub below_from : (k x : K) (es : List (K × X)) → R k x ≡ Less → T (below_all R x es) → T (below_all R k es)
   below_from k x [] p h = tt
   below_from k x (e ∷ es) p h = both _ _ (subst (λ r. T (is_lt r)) (sym (o.trans k x e.0 p (less _ (first _ _ h)))) tt) (below_from k x es p (second _ _ h))
 

@@ -2,14 +2,15 @@
 ghost use Rattle.std.specs.Prelude.{◌≡◌, ◌↔◌, true, IsTrue, IfOk, OnOk, OnErr};
 ghost use Rattle.std.specs.Arc.{arc_value};
 ghost use Rattle.std.specs.FinMap.{put};
-ghost use Rattle.dac_lattice.specs.Search.{IsInOrder};
+ghost use Rattle.dac_lattice.specs.Search.{IsInOrder, without};
 ghost use Rattle.dac_store.specs.DotMaps.{has_in};
+ghost use Rattle.dac_store.specs.Parts.{MayHoldAll};
 ghost use Rattle.dac_store.specs.Stores.{IsUnheard};
 
 use crate::DotStore;
 use crate::part::{are_unheard, entries_have, fill_each};
 use dac_dots::{DotFilter, FilteredContext};
-use dac_lattice::merging::put_entry;
+use dac_lattice::merging::{put_entry, remove_entry};
 use dac_origins::{Dot, MapKey, NoMemory};
 use std::alloc::Global;
 use std::marker::Model;
@@ -40,8 +41,7 @@ impl<K: MapKey, S: DotStore> Block<K, S> {
         ensures { IfOk result (λ block. arc_value block ≡ entries.items) }
     {
         entries.shrink_to_fit();
-        let mut filter = DotFilter::none();
-        fill_each(&entries, &mut filter);
+        let filter = filter_of(&entries);
         let block = Arc::new(alloc, Block { filter, entries })?;
         Ok(block)
     }
@@ -54,10 +54,17 @@ impl<K: MapKey, S: DotStore> Block<K, S> {
     {
         put_entry(&mut self.entries, key, store)?;
         // A filter only gains dots, so the one of the new entries is made anew.
-        let mut filter = DotFilter::none();
-        fill_each(&self.entries, &mut filter);
-        self.filter = filter;
+        self.filter = filter_of(&self.entries);
         Ok(())
+    }
+
+    /// Removes a key's entry, if it is there, in place.
+    pub(crate) fn remove(&mut self, key: K)
+        requires { IsInOrder K.cmp self.old }
+        ensures { self.new ≡ without K.cmp key self.old }
+    {
+        remove_entry(&mut self.entries, key);
+        self.filter = filter_of(&self.entries);
     }
 
     /// The entries without the filter.
@@ -93,4 +100,13 @@ impl<K: MapKey, S: DotStore> Block<K, S> {
         }
         entries_have(&self.entries, dot)
     }
+}
+
+/// The filter of all dots of these entries.
+fn filter_of<K: MapKey, S: DotStore>(entries: &[(K, S)]) -> DotFilter
+    ensures { MayHoldAll S.has result.slots entries.now }
+{
+    let mut filter = DotFilter::none();
+    fill_each(entries, &mut filter);
+    filter
 }

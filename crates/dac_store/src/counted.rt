@@ -4,6 +4,8 @@ ghost use Rattle.std.specs.Arc.{arc_value};
 ghost use Rattle.std.specs.List.{flat_map};
 ghost use Rattle.std.specs.Option.{option_copied};
 ghost use Rattle.std.specs.FinMap.{find, put};
+ghost use Rattle.dac_lattice.specs.Entries.{keep};
+ghost use Rattle.dac_lattice.specs.Search.{without};
 ghost use Rattle.dac_store.specs.Appending.{is_above_entries};
 ghost use Rattle.dac_store.specs.DotFuns.{is_empty_list};
 ghost use Rattle.dac_store.specs.DotMaps.{IsKeyed, join_keyed};
@@ -12,6 +14,7 @@ use crate::DotStore;
 use crate::block::Block;
 use crate::joining::{JoinStores, join_at};
 use crate::parts::Parts;
+use dac_dots::FilteredContext;
 use dac_origins::{MapKey, NoMemory};
 use std::alloc::{AllocError, Global};
 use std::marker::Model;
@@ -152,28 +155,56 @@ impl<K: MapKey, S: DotStore> Counted<K, S> {
         }
     }
 
-    /// Joins a map with one key by changing the entry at that key in place. Returns false, and changes nothing, if the
-    /// join can change others too or drops that key, or if the entry can't be changed in place.
+    /// Removes a key, if it is there, in place. Returns false, and changes nothing, as [`Parts::remove_at`] does.
+    fn remove_at(&mut self, key: K) -> bool
+        ensures { self.new ≡ (if result then without K.cmp key self.old else self.old) }
+    {
+        let count = self.count_without(key);
+        let done = self.parts.remove_at(key);
+        if done {
+            self.count = count;
+        }
+        done
+    }
+
+    /// The number of entries at other keys than this one.
+    fn count_without(&self, key: K) -> usize
+        ensures { result ≡ length (without K.cmp key self.now) }
+    {
+        match self.get(key) {
+            Some(_) => self.count.saturating_sub(1),
+            None => self.count,
+        }
+    }
+
+    /// The first key whose store has a dot of the context, if any.
+    pub(crate) fn first_heard(&self, heard: &FilteredContext<'_>) -> Option<K> {
+        self.parts.first_heard(heard)
+    }
+
+    /// Joins a map that has at most this key, and `theirs` there, by changing the entry at that key in place: the entry
+    /// is removed if the joined store has no dots. Returns false, and changes nothing, if the join can change others
+    /// too, or if the entry can't be changed in place.
     pub(crate) fn absorb_one(
         &mut self,
         how: &JoinStores<'_>,
         key: K,
-        store: &S,
+        theirs: Option<&S>,
     ) -> Result<bool, NoMemory>
         ensures joined { IfOk result (λ done. done ≡ true
             → self.new
             ≡ join_keyed K.cmp S.nothing S.is_empty S.join self.old how.now.mine.now
-            ((key, store.now) ∷ []) how.now.theirs.now) }
+            (keep key (option_copied theirs.entry) []) how.now.theirs.now) }
         ensures left { IfOk result (λ done. done ≡ false → self.new ≡ self.old) }
         ensures err { OnErr result (self.new ≡ self.old) }
     {
         if !self.parts.are_others_unheard(key, how.theirs) {
             return Ok(false);
         }
-        let joined = join_at(how, self.get(key), store)?;
+        let joined = join_at(how, self.get(key), theirs)?;
         joined.tells_invariant();
         if joined.is_empty() {
-            return Ok(false);
+            return Ok(self.remove_at(key));
         }
         self.put_at(key, joined)
     }

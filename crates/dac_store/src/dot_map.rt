@@ -1,9 +1,10 @@
 //! Maps from keys to dot stores.
-ghost use Rattle.std.specs.Prelude.{◌≡◌, ◌&&◌, [], ◌∷◌, ◌++◌, length, not, false, true, IfOk, OnOk, OnErr, if◌then◌else◌};
+ghost use Rattle.std.specs.Prelude.{◌≡◌, ◌≤◌, ◌&&◌, [], ◌∷◌, ◌++◌, length, not, false, true, IfOk, IfSome, OnOk, OnErr, if◌then◌else◌};
 ghost use Rattle.std.specs.Arc.{arc_value};
 ghost use Rattle.std.specs.List.{flat_map};
 ghost use Rattle.std.specs.Option.{option_copied};
 ghost use Rattle.std.specs.FinMap.{find};
+ghost use Rattle.dac_lattice.specs.Entries.{keep};
 ghost use Rattle.dac_store.specs.Appending.{is_above_entries};
 ghost use Rattle.dac_store.specs.DotMaps.{IsKeyed, join_keyed};
 
@@ -143,8 +144,8 @@ impl<K: MapKey, S: DotStore> DotMap<K, S> {
         Entries::of(blocks, last)
     }
 
-    /// Joins the other map into this one by changing one entry in place, if the other map has one key and the join
-    /// changes no other entry, and if no other map shares the entry. Otherwise returns false and changes nothing.
+    /// Joins the other map into this one by changing one entry in place, if the other map has at most one key and the
+    /// join changes no other entry, and if no other map shares the entry. Otherwise returns false and changes nothing.
     fn absorb_one(
         &mut self,
         heard: &Context,
@@ -158,11 +159,7 @@ impl<K: MapKey, S: DotStore> DotMap<K, S> {
         ensures left { IfOk result (λ done. done ≡ false → self.new ≡ self.old) }
         ensures err { OnErr result (self.new ≡ self.old) }
     {
-        let theirs = other.entries();
-        let Some((key, store)) = theirs.first() else {
-            return Ok(false);
-        };
-        if other.len() != 1 {
+        if other.len() > 1 {
             return Ok(false);
         }
         let Some(kept) = &mut self.kept else {
@@ -176,7 +173,22 @@ impl<K: MapKey, S: DotStore> DotMap<K, S> {
             mine: &FilteredContext::of(heard, 1),
             theirs: &FilteredContext::of(other_heard, own.len()),
         };
-        own.absorb_one(&how, *key, store)
+        match other.key_to_join(own, how.theirs) {
+            Some(key) => own.absorb_one(&how, key, other.get(key)),
+            None => Ok(false),
+        }
+    }
+
+    /// The map's only key. If it is empty, the first key of `own` whose store has a dot of this context: an empty map
+    /// most often withdraws the dots of one key.
+    fn key_to_join(&self, own: &Counted<K, S>, heard: &FilteredContext<'_>) -> Option<K>
+        requires { length self.now ≤ 1 }
+        ensures { IfSome result (λ key. self.now ≡ keep key (find K.cmp key self.now) []) }
+    {
+        match self.entries().first() {
+            Some((key, _)) => Some(*key),
+            None => own.first_heard(heard),
+        }
     }
 
     /// The number of keys.

@@ -155,20 +155,20 @@ fn kept_at<K: MapKey, S: DotStore, C: Combine<K, S>>(
     }
 }
 
-/// The join of the stores at a key that the other side has.
+/// The join of the stores at a key, of each side that has it.
 pub(crate) fn join_at<S: DotStore>(
     how: &JoinStores<'_>,
     mine: Option<&S>,
-    theirs: &S,
+    theirs: Option<&S>,
 ) -> Result<S, NoMemory>
     ensures { IfOk result (λ joined. joined
-        ≡ S.join (store_at S.nothing (option_copied mine.entry)) how.now.mine.now theirs.now
-        how.now.theirs.now) }
+        ≡ S.join (store_at S.nothing (option_copied mine.entry)) how.now.mine.now
+        (store_at S.nothing (option_copied theirs.entry)) how.now.theirs.now) }
 {
-    match mine {
-        Some(mine) => mine.join_in(how.mine.context(), theirs, how.theirs.context()),
-        None => S::empty(how.alloc).join_in(how.mine.context(), theirs, how.theirs.context()),
-    }
+    let nothing = S::empty(how.alloc);
+    let mine = mine.unwrap_or(&nothing);
+    let theirs = theirs.unwrap_or(&nothing);
+    mine.join_in(how.mine.context(), theirs, how.theirs.context())
 }
 
 /// Whether the join is known to leave a store unchanged, given the other side's store at its key, if any.

@@ -65,6 +65,19 @@ pub(crate) fn are_others_unheard<K: MapKey, S: DotStore>(
     true
 }
 
+/// The first key whose store has a dot of the context, if any.
+pub(crate) fn first_heard<K: MapKey, S: DotStore>(
+    entries: &[(K, S)],
+    heard: &FilteredContext<'_>,
+) -> Option<K> {
+    for (key, store) in entries {
+        if !store.is_unheard(heard) {
+            return Some(*key);
+        }
+    }
+    None
+}
+
 /// Puts each dot of each store into a filter.
 pub(crate) fn fill_each<K: MapKey, S: DotStore>(entries: &[(K, S)], filter: &mut DotFilter)
     ensures own { (x : Dot) → has_in S.has entries.now x ≡ true

@@ -4,7 +4,7 @@ ghost use Rattle.std.specs.Arc.{arc_value};
 ghost use Rattle.std.specs.List.{flat_map};
 ghost use Rattle.std.specs.Option.{option_copied};
 ghost use Rattle.std.specs.FinMap.{find, put};
-ghost use Rattle.dac_lattice.specs.Search.{IsInOrder};
+ghost use Rattle.dac_lattice.specs.Search.{IsInOrder, without};
 ghost use Rattle.dac_store.specs.Appending.{is_above_entries};
 ghost use Rattle.dac_store.specs.Absorbing.{AreOthersUnheard};
 ghost use Rattle.dac_store.specs.Parts.{HaveEntries, IsPartAt};
@@ -12,9 +12,9 @@ ghost use Rattle.dac_store.specs.Parts.{HaveEntries, IsPartAt};
 use crate::DotStore;
 use crate::appending::{ends_below, last_is_below};
 use crate::block::Block;
-use crate::part::are_others_unheard;
+use crate::part::{are_others_unheard, first_heard};
 use dac_dots::FilteredContext;
-use dac_lattice::merging::{put_entry, value_at};
+use dac_lattice::merging::{put_entry, remove_entry, value_at};
 use dac_origins::{MapKey, NoMemory};
 use std::alloc::Global;
 use std::marker::Model;
@@ -205,6 +205,35 @@ impl<K: MapKey, S: DotStore> Parts<K, S> {
         put_in_list(&mut self.last, key, store)
     }
 
+    /// Removes a key's entry, if it is there, in place. Returns false, and changes nothing, if the block that has the
+    /// key, or would have it, is shared with another map or has no other entry.
+    pub(crate) fn remove_at(&mut self, key: K) -> bool
+        requires { IsInOrder K.cmp self.old }
+        ensures { self.new ≡ (if result then without K.cmp key self.old else self.old) }
+    {
+        let place = self
+            .blocks
+            .partition_point(|block| last_is_below(block.entries(), key));
+        if place >= self.blocks.len() {
+            remove_entry(&mut self.last, key);
+            return true;
+        }
+        remove_from_block(&mut self.blocks[place], key)
+    }
+
+    /// The first key whose store has a dot of the context, if any.
+    pub(crate) fn first_heard(&self, heard: &FilteredContext<'_>) -> Option<K> {
+        let (blocks, last) = self.pieces();
+        for block in blocks {
+            if !block.is_apart(heard) {
+                if let Some(key) = first_heard(block.entries(), heard) {
+                    return Some(key);
+                }
+            }
+        }
+        first_heard(last, heard)
+    }
+
     /// Whether the context contains no dot of the stores at other keys than this one.
     pub(crate) fn are_others_unheard(&self, key: K, heard: &FilteredContext<'_>) -> bool
         ensures { result ≡ true → AreOthersUnheard K.cmp S.has key heard.now self.now }
@@ -253,6 +282,23 @@ fn put_in_block<K: MapKey, S: DotStore>(
             Ok(true)
         }
         _ => Ok(false),
+    }
+}
+
+/// Removes a key's entry, if it is there, from a block, in place. Returns false, and changes nothing, if the block is
+/// shared or has no other entry.
+fn remove_from_block<K: MapKey, S: DotStore>(shared: &mut Arc<Block<K, S>, Global>, key: K) -> bool
+    requires { IsInOrder K.cmp (arc_value shared.old) }
+    ensures removed { arc_value shared.new
+        ≡ (if result then without K.cmp key (arc_value shared.old) else arc_value shared.old) }
+    ensures filled { 0 < length (arc_value shared.old) → 0 < length (arc_value shared.new) }
+{
+    match Arc::get_mut(shared) {
+        Some(block) if block.entries().len() > 1 => {
+            block.remove(key);
+            true
+        }
+        _ => false,
     }
 }
 

@@ -1,4 +1,4 @@
-use Rattle.std.proofs.Common.{◌++◌, ◌∙◌, ap, arith, append-nil, length, sym, take}
+use Rattle.std.proofs.Common.{◌++◌, ◌∙◌, ap, arith, append-nil, sym}
 use Rattle.std.specs.Arc.{arc_value}
 use Rattle.std.specs.List.{flat_map}
 use Rattle.std.proofs.lemmas.List.{drop_all, take_all}

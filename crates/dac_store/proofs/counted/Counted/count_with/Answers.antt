@@ -1,4 +1,4 @@
-use Rattle.std.proofs.Common.{◌≡◌, ◌∙◌, ◌+◌, rules, ap, length}
+use Rattle.std.proofs.Common.{◌≡◌, ◌+◌, rules, length}
 use Rattle.std.specs.FinMap.{put}
 use Rattle.dac_store.proofs.AbsorbLemmas.{count_new, count_there, some_if}
 use Rattle.dac_store.proofs.counted.Counted.count_with.Goals as goal

@@ -1,8 +1,8 @@
-use Rattle.std.proofs.Common.{◌∙◌, sym, subst}
+use Rattle.std.proofs.Common.{◌∙◌, subst}
 use Rattle.std.specs.Arc.{arc_value}
 use Rattle.dac_store.specs.Absorbing.{AreOthersUnheard, IsOtherUnheard}
 use Rattle.dac_store.proofs.AbsorbLemmas.{others_of_all}
-use Rattle.dac_store.proofs.PartLemmas.{each_splits, rest_of, walk_end, walk_next}
+use Rattle.dac_store.proofs.PartLemmas.{each_splits, walk_end, walk_next}
 use Rattle.std.proofs.Common.{Some}
 use Rattle.dac_store.proofs.parts.Parts.are_others_unheard.Goals.{else-not-is_apart-via-then-not-is_apart+else-not-are_others_unheard, else-not-is_apart-via-else-not-is_apart}
 use Rattle.dac_store.proofs.parts.Parts.are_others_unheard.Goals as goal

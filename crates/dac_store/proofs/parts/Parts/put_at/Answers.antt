@@ -1,7 +1,5 @@
-use Rattle.std.proofs.Common.{◌≡◌, ◌∙◌, ◌<◌, ◌≤◌, length, rules, sym, subst, ap, cond}
-use Rattle.std.specs.Prelude.{IfOk, OnErr}
+use Rattle.std.proofs.Common.{◌<◌, ◌≤◌, length, rules}
 use Rattle.std.specs.Arc.{arc_value}
-use Rattle.std.specs.FinMap.{put}
 use Rattle.std.proofs.lemmas.List.Sorted.{IsPartitionPoint-from_clause}
 use Rattle.dac_store.proofs.AbsorbLemmas.{did, if_done, on_err, put_block_so, put_filled, put_last_so, put_none}
 use Rattle.dac_store.proofs.PartLemmas.{below_place, last_below, not_below, part_at_last, part_found_at}
