@@ -27,6 +27,9 @@ const MOST: usize = 24;
 /// The least size of the blocks that a join makes.
 const LEAST: usize = 12;
 
+/// A removal in place leaves more than this many entries in a block, so that maps don't fall apart into small blocks.
+const FEW: usize = 5;
+
 /// Entries in blocks, and those after them. Contracts treat all entries as one list.
 #[derive(Drop)]
 pub(crate) struct Parts<K: MapKey, S: DotStore> {
@@ -206,7 +209,7 @@ impl<K: MapKey, S: DotStore> Parts<K, S> {
     }
 
     /// Removes a key's entry, if it is there, in place. Returns false, and changes nothing, if the block that has the
-    /// key, or would have it, is shared with another map or has no other entry.
+    /// key, or would have it, is shared with another map or would be too small.
     pub(crate) fn remove_at(&mut self, key: K) -> bool
         requires { IsInOrder K.cmp self.old }
         ensures { self.new ≡ (if result then without K.cmp key self.old else self.old) }
@@ -286,7 +289,7 @@ fn put_in_block<K: MapKey, S: DotStore>(
 }
 
 /// Removes a key's entry, if it is there, from a block, in place. Returns false, and changes nothing, if the block is
-/// shared or has no other entry.
+/// shared or would be too small.
 fn remove_from_block<K: MapKey, S: DotStore>(shared: &mut Arc<Block<K, S>, Global>, key: K) -> bool
     requires { IsInOrder K.cmp (arc_value shared.old) }
     ensures removed { arc_value shared.new
@@ -294,7 +297,7 @@ fn remove_from_block<K: MapKey, S: DotStore>(shared: &mut Arc<Block<K, S>, Globa
     ensures filled { 0 < length (arc_value shared.old) → 0 < length (arc_value shared.new) }
 {
     match Arc::get_mut(shared) {
-        Some(block) if block.entries().len() > 1 => {
+        Some(block) if block.entries().len() > FEW + 1 => {
             block.remove(key);
             true
         }
