@@ -23,6 +23,7 @@ enum Kind {
     /// Ends the start by its second operation.
     Stop,
     Claim,
+    Drain,
 }
 
 /// The dots that the act replaces.
@@ -51,6 +52,12 @@ fn act(kind: Kind, over: DotList) -> Act {
             term: 1,
             how: How::Normal,
             from: None,
+        },
+        Kind::Drain => Act::Drain {
+            node: NodeId(1),
+            inc: 1,
+            value: true,
+            over,
         },
     }
 }
@@ -148,4 +155,71 @@ fn is_meaning(alloc: Global) -> Option<bool> {
 #[test]
 fn parts_of_a_state(rt: HostRuntime) {
     assert!(rt; is_meaning(rt.alloc()) == Some(true));
+}
+
+/// The acts, and an up and a drain.
+const ALL: &[(u64, Kind)] = &[
+    (1, Kind::Up),
+    (2, Kind::Start),
+    (3, Kind::Start),
+    (9, Kind::Drain),
+    (5, Kind::Permit(true)),
+    (6, Kind::Permit(false)),
+    (7, Kind::Claim),
+    (8, Kind::Down),
+    (4, Kind::Stop),
+    (2, Kind::Start),
+];
+
+/// True if the state absorbs the other one as the second state is joined, which then is that join. The second state is
+/// equal to the first, and shares nothing. A copy taken meanwhile, if wanted, is left as it was.
+fn is_absorbed(
+    state: &mut State,
+    equal: &mut State,
+    other: &State,
+    is_copied: bool,
+) -> Result<bool, NoMemory> {
+    let kept = if is_copied { Some(state.copy()?) } else { None };
+    let joined = equal.join(other)?;
+    state.absorb(other)?;
+    let is_left = match &kept {
+        Some(kept) => kept.equal(equal),
+        None => true,
+    };
+    *equal = joined;
+    Ok(is_left && state.equal(equal))
+}
+
+/// The counter of the first act whose delta isn't absorbed as it is joined, if any.
+fn first_wrong(alloc: Global, is_copied: bool) -> Option<Option<u64>> {
+    let mut state = State::bottom(alloc);
+    let mut equal = State::bottom(alloc);
+    for (n, kind) in ALL {
+        let other = delta(alloc, *n, *kind)?;
+        if !is_absorbed(&mut state, &mut equal, &other, is_copied).ok()? {
+            return Some(Some(*n));
+        }
+    }
+    Some(None)
+}
+
+/// True if the state of some acts absorbs that of all, and that of all the state of some, as they are joined.
+fn are_absorbed(alloc: Global, some: &[(u64, Kind)], is_copied: bool) -> Option<bool> {
+    let mut low = meaning(alloc, some)?;
+    let mut equal = meaning(alloc, some)?;
+    let all = meaning(alloc, ALL)?;
+    let is_risen = is_absorbed(&mut low, &mut equal, &all, is_copied).ok()?;
+    let mut high = meaning(alloc, ALL)?;
+    let mut equal = meaning(alloc, ALL)?;
+    let is_left = is_absorbed(&mut high, &mut equal, &meaning(alloc, some)?, is_copied).ok()?;
+    Some(is_risen && is_left && low.equal(&all) && high.equal(&all))
+}
+
+#[test]
+fn states_absorb_as_they_are_joined(rt: HostRuntime) {
+    for is_copied in [false, true] {
+        assert!(rt; first_wrong(rt.alloc(), is_copied) == Some(None));
+        assert!(rt; are_absorbed(rt.alloc(), STARTS, is_copied) == Some(true));
+        assert!(rt; are_absorbed(rt.alloc(), &[], is_copied) == Some(true));
+    }
 }

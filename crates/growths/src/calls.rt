@@ -12,8 +12,9 @@ use tried_calls::decisions::{OfDecision, decisions};
 use tried_calls::messages::{OfList, OfMessage, lists, messages};
 use tried_calls::operations::{OfOperation, operations};
 use tried_calls::pieces::{
-    Made, OfAct, OfLattice, OfStore, Pushed, acts, block_maps, causals, claims, dot_funs, dot_maps,
-    dot_sets, drains, lives, making, maps, pairs, permissions, pushes, wishes,
+    Made, OfAct, OfLattice, OfStore, Pushed, absorbing, acts, block_maps, causals, claims,
+    dot_funs, dot_maps, dot_sets, drains, lives, making, maps, pairs, permissions, pushes,
+    replacing, wishes,
 };
 use tried_calls::states::{OfState, states};
 use tried_calls::trial::{Came, try_call};
@@ -36,10 +37,12 @@ pub enum Call {
     Maps(OfLattice),
     Pairs(OfLattice),
     Causals(OfLattice),
+    Absorbed,
     Sets(OfStore),
     Funs(OfStore),
     DotMaps(OfStore),
     BlockMaps(OfStore),
+    Replaced(bool),
     Made(Made),
     Pushed(Pushed),
     Act(OfAct),
@@ -105,6 +108,7 @@ pub const CALLS: &[(&str, Call)] = &[
     ("ByteWriter::write_dot", Call::Written(Written::Dot)),
     ("keys::insert_key", Call::Written(Written::Key)),
     ("Buffer::push", Call::Buffer(OfBuffer::Push)),
+    ("Buffer::stage", Call::Buffer(OfBuffer::Stage)),
     ("Buffer::push_all", Call::Buffer(OfBuffer::PushAll)),
     ("Buffer::interval", Call::Buffer(OfBuffer::Interval)),
     ("Buffer::warm", Call::Buffer(OfBuffer::Warm)),
@@ -128,13 +132,17 @@ pub const CALLS: &[(&str, Call)] = &[
     ("Pair::copy", Call::Pairs(OfLattice::Copy)),
     ("Causal::join", Call::Causals(OfLattice::Join)),
     ("Causal::copy", Call::Causals(OfLattice::Copy)),
+    ("Causal::absorb_with_context", Call::Absorbed),
     ("DotSet::join_in", Call::Sets(OfStore::Join)),
     ("DotSet::copy", Call::Sets(OfStore::Copy)),
     ("DotFun::join_in", Call::Funs(OfStore::Join)),
     ("DotFun::copy", Call::Funs(OfStore::Copy)),
     ("DotMap::join_in", Call::DotMaps(OfStore::Join)),
+    ("DotMap::absorb_in", Call::DotMaps(OfStore::Absorb)),
     ("DotMap::copy", Call::DotMaps(OfStore::Copy)),
     ("DotMap::join_in:blocks", Call::BlockMaps(OfStore::Join)),
+    ("DotMap::absorb_in:blocks", Call::Replaced(false)),
+    ("DotMap::absorb_in:shared", Call::Replaced(true)),
     ("DotMap::copy:blocks", Call::BlockMaps(OfStore::Copy)),
     ("DotSet::push", Call::Pushed(Pushed::ToSet)),
     ("DotFun::push", Call::Pushed(Pushed::ToFun)),
@@ -151,6 +159,7 @@ pub const CALLS: &[(&str, Call)] = &[
     ("Permissions::delta", Call::Act(OfAct::Permit)),
     ("Drains::delta", Call::Act(OfAct::Drain)),
     ("State::join", Call::State(OfState::Join)),
+    ("State::absorb", Call::State(OfState::Absorb)),
     ("State::copy", Call::State(OfState::Copy)),
     ("State::delta_of", Call::State(OfState::DeltaOf)),
     ("State::encode", Call::StateBytes(OfStateBytes::Encode)),
@@ -300,10 +309,12 @@ fn try_lattice<T: Print>(rt: &T, alloc: Global, call: Call) -> Option<Came> {
         Call::Maps(asked) => Some(try_call(rt, maps(alloc, asked))),
         Call::Pairs(asked) => Some(try_call(rt, pairs(alloc, asked))),
         Call::Causals(asked) => Some(try_call(rt, causals(alloc, asked))),
+        Call::Absorbed => Some(try_call(rt, absorbing(alloc))),
         Call::Sets(asked) => Some(try_call(rt, dot_sets(alloc, asked))),
         Call::Funs(asked) => Some(try_call(rt, dot_funs(alloc, asked))),
         Call::DotMaps(asked) => Some(try_call(rt, dot_maps(alloc, asked))),
         Call::BlockMaps(asked) => Some(try_call(rt, block_maps(alloc, asked))),
+        Call::Replaced(is_shared) => Some(try_call(rt, replacing(alloc, is_shared))),
         _ => try_value(rt, alloc, call),
     }
 }

@@ -3,7 +3,7 @@ use crate::sample::origin;
 use crate::tokens::Token;
 use dac_base::NoMemory;
 use dac_deltas::{Acks, Buffer, Entries};
-use dac_lattice::Max;
+use dac_lattice::{Bottom, Max};
 use std::alloc::Global;
 
 /// Appends a number, if the log isn't at its limit.
@@ -316,6 +316,125 @@ fn blocks_are_aligned(rt: HostRuntime) {
         let answer = are_blocks(rt.alloc(), *from, *wanted);
         assert!(rt; matches!(answer, Ok(true)), "from {from}");
     }
+}
+
+/// A log of `count` numbers in no order.
+fn mixed(alloc: Global, count: u64) -> Result<Buffer<Max<u64>>, NoMemory> {
+    let mut buffer = Buffer::new(alloc);
+    for number in 0..count {
+        push(&mut buffer, number.wrapping_mul(37) % 101)?;
+    }
+    Ok(buffer)
+}
+
+/// The log after a push in two steps, or after a stage that was cancelled. `None` if the log is at its limit.
+fn staged<L: Bottom>(buffer: Buffer<L>, delta: L, is_pushed: bool) -> Option<Buffer<L>> {
+    if buffer.count() >= 1 << 62 {
+        return None;
+    }
+    let staged = buffer.stage(delta).ok()?;
+    if is_pushed {
+        return Some(staged.commit());
+    }
+    Some(staged.cancel())
+}
+
+/// The number that is staged.
+fn staged_number(buffer: Buffer<Max<u64>>, number: u64) -> Option<u64> {
+    if buffer.count() >= 1 << 62 {
+        return None;
+    }
+    let staged = buffer.stage(Max::new(number)).ok()?;
+    Some(staged.delta().value)
+}
+
+/// True if both logs have as many deltas and the same intervals.
+fn are_alike(one: &Buffer<Max<u64>>, other: &Buffer<Max<u64>>) -> Result<bool, NoMemory> {
+    if one.count() != other.count() || one.base() != other.base() {
+        return Ok(false);
+    }
+    for from in 0..=one.count() {
+        if greatest(one, from)? != greatest(other, from)? {
+            return Ok(false);
+        }
+    }
+    Ok(true)
+}
+
+/// True if both logs are alike, and also after another number is pushed to each.
+fn stay_alike(
+    mut one: Buffer<Max<u64>>,
+    mut other: Buffer<Max<u64>>,
+    number: u64,
+) -> Result<bool, NoMemory> {
+    let are_same = are_alike(&one, &other)?;
+    push(&mut one, number)?;
+    push(&mut other, number)?;
+    Ok(are_same && are_alike(&one, &other)?)
+}
+
+/// True if a number that is staged and committed is pushed.
+fn is_committed(alloc: Global, count: u64) -> Option<bool> {
+    let committed = staged(mixed(alloc, count).ok()?, Max::new(60), true)?;
+    let mut pushed = mixed(alloc, count).ok()?;
+    push(&mut pushed, 60).ok()?;
+    stay_alike(committed, pushed, 50).ok()
+}
+
+/// True if a number that is staged and cancelled leaves nothing.
+fn is_cancelled(alloc: Global, count: u64) -> Option<bool> {
+    let cancelled = staged(mixed(alloc, count).ok()?, Max::new(200), false)?;
+    stay_alike(cancelled, mixed(alloc, count).ok()?, 50).ok()
+}
+
+/// Numbers of deltas: none, few, one before a block ends, and around the limit.
+const STAGED: &[u64] = &[0, 1, 9, 31, 32, 255, 256, 300];
+
+#[test]
+fn a_staged_delta_is_pushed_or_leaves_nothing(rt: HostRuntime) {
+    for count in STAGED {
+        assert!(rt; is_committed(rt.alloc(), *count) == Some(true), "{count}");
+        assert!(rt; is_cancelled(rt.alloc(), *count) == Some(true), "{count}");
+    }
+    assert!(rt; staged_number(Buffer::new(rt.alloc()), 7) == Some(7));
+}
+
+/// The joins of an interval in a log of tokens to which one was staged, and those after one more delta.
+fn staged_joins(
+    buffer: Result<Buffer<Token>, NoMemory>,
+    from: u64,
+    is_pushed: bool,
+) -> Option<(Option<u64>, Option<u64>)> {
+    let staged = staged(buffer.ok()?, Token::new(), is_pushed)?;
+    joins_and_next(staged, from).ok()
+}
+
+#[test]
+fn a_committed_delta_makes_the_joins_of_blocks(rt: HostRuntime) {
+    for (count, from, before, after) in PUSHED {
+        let buffer = with_tokens(Buffer::new(rt.alloc()), count.saturating_sub(1));
+        let answer = staged_joins(buffer, *from, true);
+        assert!(rt;
+            answer == Some((Some(*before), Some(*after))),
+            "{count}, {from}"
+        );
+    }
+    for (count, from, before, after) in LAZY {
+        let buffer = with_tokens(Buffer::lazy(rt.alloc()), count.saturating_sub(1));
+        let answer = staged_joins(buffer, *from, true);
+        assert!(rt;
+            answer == Some((Some(*before), Some(*after))),
+            "{count}, {from}"
+        );
+    }
+}
+
+#[test]
+fn a_remembered_interval_ends_with_a_commit_only(rt: HostRuntime) {
+    let cancelled = staged_joins(remembering(rt.alloc()), 3, false);
+    assert!(rt; cancelled == Some((Some(0), Some(6))));
+    let committed = staged_joins(remembering(rt.alloc()), 3, true);
+    assert!(rt; committed == Some((Some(6), Some(7))));
 }
 
 /// The acknowledgement of an origin after two numbers.

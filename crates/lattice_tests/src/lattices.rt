@@ -1,6 +1,7 @@
 //! Maxima, flags, pairs and maps.
 use crate::sample::{is_join, is_joined_above};
 use dac_base::{AppId, NoMemory};
+use dac_lattice::merging::put_entry;
 use dac_lattice::{Flag, Lattice, MapOf, Max, Pair};
 use std::alloc::Global;
 
@@ -63,4 +64,18 @@ fn numbers_and_flags_are_chains(rt: HostRuntime) {
     assert!(rt; matches!(answer, Ok(true)));
     let answer = is_joined_above(rt.alloc(), &Flag::Up, &Flag::Down);
     assert!(rt; matches!(answer, Ok(true)));
+}
+
+/// True if a list has an entry for each key after one was put, then a lesser one, then the first again.
+fn is_put_twice(alloc: Global) -> Result<bool, NoMemory> {
+    let mut entries: Vec<(u64, u64)> = Vec::new(alloc);
+    put_entry(&mut entries, 2, 20)?;
+    put_entry(&mut entries, 1, 10)?;
+    put_entry(&mut entries, 2, 21)?;
+    Ok(entries.as_slice() == [(1u64, 10u64), (2, 21)].as_slice())
+}
+
+#[test]
+fn entries_are_inserted_or_replaced(rt: HostRuntime) {
+    assert!(rt; is_put_twice(rt.alloc()) == Ok(true));
 }

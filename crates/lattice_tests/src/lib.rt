@@ -8,6 +8,8 @@
 #![tactic(auto)]
 
 #[cfg(test)]
+mod absorbing;
+#[cfg(test)]
 mod chains;
 #[cfg(test)]
 mod deltas;

@@ -1,10 +1,10 @@
 //! Permissions and wishes of a few operations.
-use crate::sample::{context_of, dot, is_joined_above};
+use crate::sample::{context_of, dot, is_joined_above, origin};
 use dac_base::{AppId, NoMemory, NodeId};
 use dac_lattice::{Bottom, Flag, Lattice, Piece};
 use dac_origins::Dot;
 use dac_store::{Causal, DotFun, DotMap, DotSet};
-use dac_wishes::{DotList, Key, Permissions, PermitAct, WishAct, Wishes};
+use dac_wishes::{DotList, DrainAct, Drains, Key, Permissions, PermitAct, WishAct, Wishes};
 use std::alloc::Global;
 
 /// Application 0 at node 1, incarnation 1.
@@ -129,6 +129,50 @@ fn is_permit(alloc: Global) -> Option<bool> {
 fn starts_and_permits_by_key(rt: HostRuntime) {
     assert!(rt; is_start(rt.alloc()) == Some(true));
     assert!(rt; is_permit(rt.alloc()) == Some(true));
+}
+
+/// True if a stop is absorbed as it is joined.
+fn a_stop_is_absorbed(alloc: Global) -> Result<bool, NoMemory> {
+    let mut wishes = start_of(alloc, dot(0, 2))?;
+    let stop = stop_of(alloc, dot(0, 3), dot(0, 2))?;
+    let joined = start_of(alloc, dot(0, 2))?.join(&stop)?;
+    let union = wishes.shared_context().union(stop.shared_context())?;
+    wishes.absorb_with_context(&stop, union)?;
+    Ok(wishes.equal(&joined) && has(&wishes, &[], 2))
+}
+
+/// True if a permit is absorbed as it is joined.
+fn a_permit_is_absorbed(alloc: Global) -> Result<bool, NoMemory> {
+    let mut permissions = permit_of(alloc, dot(0, 2), true)?;
+    let denied = permit_of(alloc, dot(1, 2), false)?;
+    let joined = permit_of(alloc, dot(0, 2), true)?.join(&denied)?;
+    let union = permissions.shared_context().union(denied.shared_context())?;
+    permissions.absorb_with_context(&denied, union)?;
+    Ok(permissions.equal(&joined) && has_two(&permissions))
+}
+
+/// The delta of a drain of node 1, which replaces these dots.
+fn drain_of(alloc: Global, dot: Dot, value: bool, over: &[Dot]) -> Result<Drains, NoMemory> {
+    let over = DotList::new(Vec::from_slice(alloc, over)?);
+    let at = origin(1);
+    delta_of(alloc, dot, &DrainAct::Drain { at, value, over })
+}
+
+/// True if the end of a drain is absorbed as it is joined.
+fn a_drain_is_absorbed(alloc: Global) -> Result<bool, NoMemory> {
+    let mut drains = drain_of(alloc, dot(0, 2), true, &[])?;
+    let ended = drain_of(alloc, dot(0, 3), false, &[dot(0, 2)])?;
+    let joined = drain_of(alloc, dot(0, 2), true, &[])?.join(&ended)?;
+    let union = drains.shared_context().union(ended.shared_context())?;
+    drains.absorb_with_context(&ended, union)?;
+    Ok(drains.equal(&joined) && drains.dots(NodeId(1), 1).len() == 1)
+}
+
+#[test]
+fn deltas_are_absorbed_as_they_are_joined(rt: HostRuntime) {
+    assert!(rt; a_stop_is_absorbed(rt.alloc()) == Ok(true));
+    assert!(rt; a_permit_is_absorbed(rt.alloc()) == Ok(true));
+    assert!(rt; a_drain_is_absorbed(rt.alloc()) == Ok(true));
 }
 
 /// True if a list returns its dots, also as a copy.

@@ -3,7 +3,7 @@ use crate::lattices::{FIRST, ORIGIN, SECOND};
 use crate::texts::TWO;
 use dac_chains::{Claim, Claims, How, Lives};
 use dac_config::{AppId, Config, NoMemory, NodeId, read_config};
-use dac_dots::{Context, Dot};
+use dac_dots::{Context, Dot, SharedContext};
 use dac_lattice::{Bottom, Flag, Lattice, Piece};
 use dac_state::{Act, DotList, Op, OpFault, State, StateFault, StateFaultKind};
 use dac_wishes::{Drains, Key, Permissions, Wishes};
@@ -80,6 +80,47 @@ fn is_told(alloc: Global) -> Option<bool> {
     )
 }
 
+/// True if the least state that absorbs another one equals it, with its parts.
+fn is_absorbed(alloc: Global) -> Option<bool> {
+    let mut state = State::bottom(alloc);
+    let up: State = up(alloc)?;
+    state.absorb(&up).ok()?;
+    Some(state.equal(&up) && are_parts_absorbed(alloc, &up).ok()?)
+}
+
+/// True if wishes that absorb others equal these, from none.
+fn are_wishes_absorbed(alloc: Global, other: &Wishes) -> Result<bool, NoMemory> {
+    let mut wishes = Wishes::bottom(alloc);
+    let union: SharedContext = wishes.shared_context().union(other.shared_context())?;
+    wishes.absorb_with_context(other, union)?;
+    Ok(wishes.equal(other))
+}
+
+/// The same of permissions.
+fn are_permissions_absorbed(alloc: Global, other: &Permissions) -> Result<bool, NoMemory> {
+    let mut permissions = Permissions::bottom(alloc);
+    let union: SharedContext = permissions.shared_context().union(other.shared_context())?;
+    permissions.absorb_with_context(other, union)?;
+    Ok(permissions.equal(other))
+}
+
+/// The same of drains.
+fn are_drains_absorbed(alloc: Global, other: &Drains) -> Result<bool, NoMemory> {
+    let mut drains = Drains::bottom(alloc);
+    let union: SharedContext = drains.shared_context().union(other.shared_context())?;
+    drains.absorb_with_context(other, union)?;
+    Ok(drains.equal(other))
+}
+
+/// True if each part of a state is absorbed.
+fn are_parts_absorbed(alloc: Global, state: &State) -> Result<bool, NoMemory> {
+    Ok(
+        are_wishes_absorbed(alloc, state.wishes())?
+            && are_permissions_absorbed(alloc, state.permissions())?
+            && are_drains_absorbed(alloc, state.drains())?,
+    )
+}
+
 /// The fault of an act that replaces its own dot.
 fn fault_of(alloc: Global) -> Option<OpFault> {
     let over = DotList::new(Vec::from_slice(alloc, &[SECOND]).ok()?);
@@ -131,6 +172,7 @@ fn are_operations(alloc: Global) -> bool {
 #[test]
 fn states(rt: HostRuntime) {
     assert!(rt; is_told(rt.alloc()) == Some(true));
+    assert!(rt; is_absorbed(rt.alloc()) == Some(true));
     assert!(rt; ORIGIN == FIRST.origin);
 }
 

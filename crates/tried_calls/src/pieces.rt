@@ -202,27 +202,70 @@ pub fn causals(alloc: Global, asked: OfLattice) -> Option<LatticeFixture<Causal<
     both(asked, causal_of(alloc, ME, 1), causal_of(alloc, OTHER, 2))
 }
 
+/// Two values paired with their contexts, and one that equals the first and shares nothing with it.
+#[derive(Drop)]
+pub struct AbsorbFixture {
+    one: Causal<FlagMap>,
+    other: Causal<FlagMap>,
+    equal: Causal<FlagMap>,
+}
+
+/// The fixture of values paired with their contexts that absorb others.
+pub fn absorbing(alloc: Global) -> Option<AbsorbFixture> {
+    Some(AbsorbFixture {
+        one: causal_of(alloc, ME, 1).ok()?,
+        other: causal_of(alloc, OTHER, 2).ok()?,
+        equal: causal_of(alloc, ME, 1).ok()?,
+    })
+}
+
+impl AbsorbFixture {
+    /// Makes the union of both contexts, and joins the other value into the first.
+    fn absorb(&mut self) -> Result<(), NoMemory> {
+        let shared = self.one.shared_context();
+        let union = shared.union(self.other.shared_context())?;
+        self.one.absorb_with_context(&self.other, union)
+    }
+}
+
+impl Fixture for AbsorbFixture {
+    fn call(&mut self) -> Said {
+        match self.absorb() {
+            Ok(()) => Said::Well(u64::from(self.other.leq(&self.one))),
+            Err(_) => Said::NoMemory,
+        }
+    }
+
+    fn is_as_before(&self) -> bool {
+        self.one.equal(&self.equal)
+    }
+}
+
 /// A call of a store.
 #[derive(Clone, Copy, Debug, PartialEq, Eq)]
 pub enum OfStore {
     Join,
+    Absorb,
     Copy,
 }
 
-/// Two stores, each paired with its context.
+/// Two stores, each paired with its context, and one that equals the first and shares nothing with it.
 #[derive(Drop)]
 pub struct StoreFixture<S: DotStore> {
     asked: OfStore,
     one: S,
+    equal: S,
     heard: Context,
     other: S,
     other_heard: Context,
 }
 
+/// The fixture of two stores. The first is given twice, because a copy would share its entries.
 fn stores<S: DotStore>(
     alloc: Global,
     asked: OfStore,
     one: Result<S, NoMemory>,
+    equal: Result<S, NoMemory>,
     other: Result<S, NoMemory>,
 ) -> Option<StoreFixture<S>> {
     let mine = [dot(ME, 1), dot(ME, 2), dot(ME, 3)];
@@ -230,6 +273,7 @@ fn stores<S: DotStore>(
     Some(StoreFixture {
         asked,
         one: one.ok()?,
+        equal: equal.ok()?,
         heard: context(alloc, &mine).ok()?,
         other: other.ok()?,
         other_heard: context(alloc, &theirs).ok()?,
@@ -245,12 +289,18 @@ impl<S: DotStore> Fixture for StoreFixture<S> {
                         .join_in(&self.heard, &self.other, &self.other_heard),
                 )
             }
+            OfStore::Absorb => {
+                of_any(
+                    self.one
+                        .absorb_in(&self.heard, &self.other, &self.other_heard),
+                )
+            }
             OfStore::Copy => of_any(self.one.copy()),
         }
     }
 
     fn is_as_before(&self) -> bool {
-        self.one.has(dot(ME, 1)) && !self.one.has(dot(OTHER, 1))
+        self.one.is_same(&self.equal) && !self.one.has(dot(OTHER, 1))
     }
 }
 
@@ -262,12 +312,14 @@ fn set_of(alloc: Global, node: NodeId) -> Result<DotSet, NoMemory> {
 
 /// The fixture of sets of dots.
 pub fn dot_sets(alloc: Global, asked: OfStore) -> Option<StoreFixture<DotSet>> {
-    stores(alloc, asked, set_of(alloc, ME), set_of(alloc, OTHER))
+    let (one, equal) = (set_of(alloc, ME), set_of(alloc, ME));
+    stores(alloc, asked, one, equal, set_of(alloc, OTHER))
 }
 
 /// The fixture of functions of dots.
 pub fn dot_funs(alloc: Global, asked: OfStore) -> Option<StoreFixture<DotFun<Flag>>> {
-    stores(alloc, asked, votes_of(alloc, ME), votes_of(alloc, OTHER))
+    let (one, equal) = (votes_of(alloc, ME), votes_of(alloc, ME));
+    stores(alloc, asked, one, equal, votes_of(alloc, OTHER))
 }
 
 fn map_at(alloc: Global, node: NodeId, key: u64) -> Result<FlagMap, NoMemory> {
@@ -276,7 +328,8 @@ fn map_at(alloc: Global, node: NodeId, key: u64) -> Result<FlagMap, NoMemory> {
 
 /// The fixture of maps of dots.
 pub fn dot_maps(alloc: Global, asked: OfStore) -> Option<StoreFixture<FlagMap>> {
-    stores(alloc, asked, map_at(alloc, ME, 1), map_at(alloc, OTHER, 2))
+    let (one, equal) = (map_at(alloc, ME, 1), map_at(alloc, ME, 1));
+    stores(alloc, asked, one, equal, map_at(alloc, OTHER, 2))
 }
 
 /// A value at each of 40 keys, as joins build the map: 24 entries are in two blocks.
@@ -291,7 +344,27 @@ fn map_in_blocks(alloc: Global) -> Result<FlagMap, NoMemory> {
 
 /// The fixture of maps of dots in blocks.
 pub fn block_maps(alloc: Global, asked: OfStore) -> Option<StoreFixture<FlagMap>> {
-    stores(alloc, asked, map_in_blocks(alloc), map_at(alloc, OTHER, 41))
+    let (one, equal) = (map_in_blocks(alloc), map_in_blocks(alloc));
+    stores(alloc, asked, one, equal, map_at(alloc, OTHER, 41))
+}
+
+/// One dot at a key of the first of those blocks.
+fn replacement(alloc: Global) -> Result<FlagMap, NoMemory> {
+    DotMap::one(alloc, 5, DotFun::one(alloc, dot(OTHER, 1), Flag::Down)?)
+}
+
+/// The fixture of a map in blocks that absorbs another value at one key. If it is shared, a copy has the same entries.
+pub fn replacing(alloc: Global, is_shared: bool) -> Option<StoreFixture<FlagMap>> {
+    let one = map_in_blocks(alloc).ok()?;
+    let equal = if is_shared {
+        one.copy()
+    } else {
+        map_in_blocks(alloc)
+    };
+    let other = replacement(alloc);
+    let mut fixture = stores(alloc, OfStore::Absorb, Ok(one), equal, other)?;
+    fixture.other_heard.insert(dot(ME, 5)).ok()?;
+    Some(fixture)
 }
 
 /// A call that makes a value from plain arguments.

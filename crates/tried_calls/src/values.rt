@@ -11,6 +11,7 @@ use dac_lattice::{MapOf, Max};
 use dac_origins::Origin;
 use dac_origins::keys::insert_key;
 use std::alloc::Global;
+use std::mem::replace;
 
 /// A call of a configuration.
 #[derive(Clone, Copy, Debug, PartialEq, Eq)]
@@ -264,6 +265,7 @@ impl Fixture for WritingFixture {
 #[derive(Clone, Copy, Debug, PartialEq, Eq)]
 pub enum OfBuffer {
     Push,
+    Stage,
     PushAll,
     Interval,
     Warm,
@@ -331,10 +333,13 @@ fn deltas(alloc: Global, count: u64) -> Option<Buffer<Delta>> {
     Some(buffer)
 }
 
-/// The log of a call, with its blocks joined unless the call itself joins them. A push meets a full capacity. Of
-/// several pushes, only the second does.
+/// The log of a call, with its blocks joined unless the call itself joins them. A push meets a full capacity, also one
+/// in two steps. Of several pushes, only the second does.
 fn deltas_for(alloc: Global, asked: OfBuffer) -> Option<Buffer<Delta>> {
-    let count: u64 = if asked == OfBuffer::Push { 32 } else { 31 };
+    let count: u64 = match asked {
+        OfBuffer::Push | OfBuffer::Stage => 32,
+        _ => 31,
+    };
     let mut buffer = deltas(alloc, count)?;
     if asked != OfBuffer::Warm {
         buffer.warm().ok()?;
@@ -367,6 +372,27 @@ impl BufferFixture {
         }
     }
 
+    /// Stages a delta, and commits it. Without memory the log is the one handed back.
+    fn stage(&mut self) -> Said {
+        let Ok(delta) = MapOf::one(self.alloc, 99, Max::new(99)) else {
+            return Said::NoMemory;
+        };
+        if self.buffer.count() >= 1 << 62 {
+            return Said::Other;
+        }
+        let buffer = replace(&mut self.buffer, Buffer::new(self.alloc));
+        match buffer.stage(delta) {
+            Ok(staged) => {
+                self.buffer = staged.commit();
+                Said::Well(self.buffer.count())
+            }
+            Err(back) => {
+                self.buffer = back;
+                Said::NoMemory
+            }
+        }
+    }
+
     /// Joins the deltas after the third, or lists their blocks.
     fn join_from_third(&self) -> Said {
         if self.buffer.count() < 3 {
@@ -384,6 +410,7 @@ impl Fixture for BufferFixture {
     fn call(&mut self) -> Said {
         match self.asked {
             OfBuffer::Push => of_any(push(self.alloc, &mut self.buffer, 99)),
+            OfBuffer::Stage => self.stage(),
             OfBuffer::PushAll => self.push_three(),
             OfBuffer::Interval | OfBuffer::Blocks => self.join_from_third(),
             OfBuffer::Warm => of_any(self.buffer.warm()),
