@@ -1,5 +1,6 @@
 pub mod Joins
 pub mod EntryLaws
+pub mod Without
 pub mod PieceLaws
 pub mod Chains
 pub mod Flags

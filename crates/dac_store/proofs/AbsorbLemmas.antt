@@ -17,7 +17,7 @@ use Rattle.dac_origins.specs.Dots.{Dots}
 use Rattle.dac_origins.specs.declared.dot.Dot.{Dot}
 use Rattle.dac_lattice.specs.Entries.{Combine, keep}
 use Rattle.dac_lattice.specs.Search.{IsInOrder, without}
-use Rattle.dac_lattice.proofs.Removing.{find_without}
+use Rattle.dac_lattice.specs.laws.Without.{find_without}
 use Rattle.dac_lattice.specs.laws.Entries.{find_merge, sorted_merge}
 use Rattle.dac_lattice.specs.laws.EntryLaws.{each_key, greater, less}
 use Rattle.dac_store.specs.Absorbing.{AreOthersUnheard, IsOtherUnheard}

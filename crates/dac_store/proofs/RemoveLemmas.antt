@@ -13,7 +13,7 @@ use Rattle.std.proofs.lemmas.List.Elements.{All-set, filter-append}
 use Rattle.std.proofs.lemmas.Map.Lookups.{CmpEqualImpliesEq}
 use Rattle.dac_lattice.specs.Search.{IsInOrder, without}
 use Rattle.dac_lattice.specs.laws.EntryLaws.{first, second}
-use Rattle.dac_lattice.proofs.Removing.{above_stay, find_without, kept}
+use Rattle.dac_lattice.specs.laws.Without.{above_stay, find_without, kept}
 use Rattle.dac_store.specs.Appending.{is_above_entries}
 use Rattle.dac_store.specs.DotMaps.{IsKept, IsKeyed}
 use Rattle.dac_store.specs.Parts.{HaveEntries, IsCounted}

@@ -1,5 +1,5 @@
 use Rattle.std.proofs.Common.{◌∙◌, sym}
-use Rattle.dac_lattice.proofs.Removing.{none_there, removed_there}
+use Rattle.dac_lattice.specs.laws.Without.{none_there, removed_there}
 use Rattle.dac_lattice.proofs.merging.remove_entry.Goals as goal
 
 pub returns-in-Ok : goal.returns-in-Ok

@@ -1,4 +1,4 @@
--- A list of entries in key order, after the entry at the result of a search is removed.
+-- Lists of entries in key order without the entry at a key.
 use Rattle.std.specs.Prelude.{◌≡◌, ℕ, ◌<◌, true, false, cond, not, T, List, [], ◌∷◌, length, None, Some, Ok, refl}
 use Rattle.std.proofs.Common.{zero, suc, sym, ap, subst, ◌∙◌, arith, get_or}
 use Rattle.std.specs.declared.cmp.Ordering.{Ordering}
