@@ -407,8 +407,8 @@ fn copied(state: Option<&State>) -> Result<Option<State>, NoMemory>
 
 /// The join of a state, if there is one, with a delta.
 fn joined(state: Option<&State>, delta: &State) -> Result<Option<State>, NoMemory>
-    ensures { IfOk result
-        (λ joined. joined ≡ option_map (λ (s : StateValue). join s delta.now) (option_copied state.entry)) }
+    ensures { IfOk result (λ joined. joined
+        ≡ option_map (λ (s : StateValue). join s delta.now) (option_copied state.entry)) }
 {
     match state {
         None => Ok(None),
