@@ -62,12 +62,17 @@ fn first_causal(alloc: Global) -> Option<Causal<DotSet>> {
     Causal::new(DotSet::one(alloc, FIRST).ok()?, first_alone(alloc).ok()?).ok()
 }
 
+/// Joins another value into this one.
+fn absorb(causal: &mut Causal<DotSet>, other: &Causal<DotSet>) -> Result<(), NoMemory> {
+    let union: SharedContext = causal.shared_context().union(other.shared_context())?;
+    causal.absorb_with_context(other, union)
+}
+
 /// True if a value that absorbs an equal one stays the same.
 fn is_absorbed(alloc: Global) -> Option<bool> {
     let mut causal = first_causal(alloc)?;
     let other = first_causal(alloc)?;
-    let union: SharedContext = causal.shared_context().union(other.shared_context()).ok()?;
-    causal.absorb_with_context(&other, union).ok()?;
+    absorb(&mut causal, &other).ok()?;
     Some(causal.equal(&other))
 }
 
