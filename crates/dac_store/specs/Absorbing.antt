@@ -1,4 +1,4 @@
--- When a join changes one entry alone: the other side has one key, and its context has no dot of the stores at other keys.
+-- When a join changes one entry alone: the other side has at most this key, and its context no dot of the stores at others.
 use Rattle.std.specs.Prelude.{◌≡◌, Bool, List, Option, None, Some}
 use Rattle.std.specs.declared.cmp.Ordering.{Ordering}
 use Rattle.std.specs.declared.cmp.Ordering.TheVariants.{Equal}

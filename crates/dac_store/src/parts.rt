@@ -224,7 +224,7 @@ impl<K: MapKey, S: DotStore> Parts<K, S> {
         remove_from_block(&mut self.blocks[place], key)
     }
 
-    /// The first key whose store has a dot of the context, if any.
+    /// The first key whose store has a dot of the context, if any. Only the time of a join depends on it.
     pub(crate) fn first_heard(&self, heard: &FilteredContext<'_>) -> Option<K> {
         let (blocks, last) = self.pieces();
         for block in blocks {
