@@ -9,7 +9,6 @@ ghost use Rattle.dac_node.specs.Changes.{changed};
 ghost use Rattle.dac_core.specs.ByItself.{IsByItself};
 ghost use Rattle.dac_core.specs.Ready.{IsReadyAt};
 
-use crate::sharing::share_last;
 use dac_base::{NoMemory, NodeId};
 use dac_config::Config;
 use dac_events::{What, WorldEvent, WorldFault};
@@ -141,6 +140,7 @@ impl Cluster {
     }
 
     /// Prepares an event that needs no message or operation of the world, after the node has filled its caches for it.
+    #[inline(always)]
     fn happen_by_itself(
         &mut self,
         config: &Config,
@@ -246,7 +246,6 @@ impl Cluster {
         if notes_nothing(change) {
             return change_node(&mut self.nodes, node, change);
         }
-        share_last(self.messages.as_slice(), change);
         make_room(&mut self.operations, &mut self.messages, change)?;
         let noted = change.copy_reply()?;
         change_node(&mut self.nodes, node, change)?;
@@ -282,7 +281,6 @@ impl Cluster {
         if notes_nothing(&change) {
             return change_node(&mut self.nodes, node, &mut change);
         }
-        share_last(self.messages.as_slice(), &mut change);
         make_room(&mut self.operations, &mut self.messages, &change)?;
         change_node(&mut self.nodes, node, &mut change)?;
         note(
@@ -357,6 +355,7 @@ fn issued_count(change: &Change) -> usize
 }
 
 /// Reserves room for the operations and the message of a change.
+#[inline(always)]
 fn make_room(
     operations: &mut Vec<Op>,
     messages: &mut Vec<Message>,
@@ -375,6 +374,7 @@ fn make_room(
 }
 
 /// Appends the operations and the message of a reply to the lists, which have room for them.
+#[inline(always)]
 fn note(operations: &mut Vec<Op>, messages: &mut Vec<Message>, reply: Reply)
     requires operations_room { vec_len operations.old + length (issued_by reply)
         ≤ vec_capacity operations.old }

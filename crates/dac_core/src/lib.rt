@@ -46,5 +46,4 @@ pub use dac_node::{Node, Refusal};
 pub use world::World;
 
 mod cluster;
-mod sharing;
 mod world;

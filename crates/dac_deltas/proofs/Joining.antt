@@ -3,7 +3,7 @@ use Rattle.std.specs.Prelude.{◌≡◌, ℕ, ◌+◌, ◌-◌, ◌*◌, ◌%◌
 use Rattle.std.proofs.Common.{arith, sym, ap, subst, ◌∙◌, zero, suc, refl, true, false, inl, inr, ltb, append_assoc, take-take}
 use Rattle.std.proofs.Math.Nat.{pow-le-pow_right}
 use Rattle.std.proofs.lemmas.Bool.{ltb-true, ltb-false, cases_eq}
-use Rattle.std.proofs.lemmas.List.{take-append-le, take_all, drop_all, drop_at, drop-append-le, take-append-drop, get_or_push, get_or_read, get_or-set_same, get_or-set_other, drop-take, drop-drop, get_or_append_left, get_or-drop, length-append, length-set, length-map, length-drop, length-take, map-append, drop-map, take-map, get_or-take}
+use Rattle.std.proofs.lemmas.List.{take-append-le, take_all, drop_all, drop_at, take-append-drop, get_or_push, get_or_read, get_or-set_same, get_or-set_other, drop-take, drop-drop, get_or_append_left, get_or-drop, length-append, length-set, length-map, length-drop, length-take, map-append, drop-map}
 use Rattle.std.proofs.lemmas.Nat.{pow_pos, one_shl}
 use Rattle.std.proofs.lemmas.List.Sums.{fold-append}
 use Rattle.dac_lattice.specs.Lattices.{IsLattice}
@@ -88,13 +88,6 @@ module _ {L : Type 0} (is_value : L → Type 0) (join : L → L → L) where
       let same : drop n (take (n + (i + 1)) (deltas_of es)) ≡ take (i + 1) (deltas_of (drop n es)) = drop-take n (i + 1) (deltas_of es) ∙ ap (take (i + 1)) (drop-map (λ (x : L × List L). x.0) n es) in
       let had = has_same _ (take (n + (i + 1)) (deltas_of es)) _ (get_or (drop n es) i d) (ap (λ m. take m (deltas_of es)) (omega arith)) (sym (get_or-drop n es i d)) (h (n + i) d (omega arith)) in
       has_same _ _ _ _ same refl (has_less n _ _ had)
-
-  -- dropping the newest deltas
-  pub joined_take : (n : ℕ) (es : List (L × List L)) → AreJoined is_value join es → AreJoined is_value join (take n es)
-  joined_take n es h i d lt =
-      let left = length-take n es in
-      let same : take (i + 1) (deltas_of (take n es)) ≡ take (i + 1) (deltas_of es) = ap (take (i + 1)) (sym (take-map (λ (x : L × List L). x.0) n es)) ∙ take-take (i + 1) n (deltas_of es) (omega arith) in
-      has_same _ _ _ _ (sym same) (sym (get_or-take n es i d (omega arith))) (h i d (omega arith))
 
   -- the join made for a block is that of its deltas
   pub block_there : (begin level i : ℕ) (es : List (L × List L)) (e : L × List L) → AreJoined is_value join es → begin + 2 ^ level ≤ length es → begin + 2 ^ level ≡ i + 1 → e ≡ get_or es i e → level ≤ length e.1 → IsJoinOfDeltas is_value join (join_at e level) (take (2 ^ level) (drop begin (deltas_of es)))

@@ -1,12 +1,12 @@
 -- The contents of a buffer, after deltas are added and the oldest are dropped.
-use Rattle.std.proofs.Common.{◌≡◌, ◌+◌, ◌-◌, ◌≤◌, ℕ, List, [], ◌∷◌, ◌++◌, drop, fold, length, take, Option, refl, sym, ap, subst, ◌∙◌, arith, min}
-use Rattle.std.proofs.lemmas.List.{length-drop, length-append, length-map, length-take, drop-map, take-map, get_or-map, map-append}
+use Rattle.std.proofs.Common.{◌≡◌, ◌+◌, ◌-◌, ◌≤◌, ℕ, List, [], ◌∷◌, ◌++◌, drop, fold, length, refl, sym, ap, subst, ◌∙◌, arith, min}
+use Rattle.std.proofs.lemmas.List.{length-drop, length-append, length-map, length-take, drop-map, get_or-map, map-append}
 use Rattle.std.specs.List.{All}
 use Rattle.dac_base.specs.declared.limits.TheConstants.{MAX_COUNTER}
 use Rattle.dac_deltas.specs.KeptDeltas.{KeptDeltas, IsBuffer, newest, pushed, trimmed}
 use Rattle.dac_deltas.specs.laws.Logs.{same_kept, pushes_drop_together}
-use Rattle.dac_deltas.specs.BlockEnds.{AreJoined, IsKept, IsReady, IsHeld, deltas_of}
-use Rattle.dac_deltas.proofs.Joining.{joined_drop, joined_take}
+use Rattle.dac_deltas.specs.BlockEnds.{AreJoined, IsKept, deltas_of}
+use Rattle.dac_deltas.proofs.Joining.{joined_drop}
 use Rattle.dac_deltas.specs.declared.buffer.TheConstants.{MAX_DELTAS}
 
 module _ {L : Type 0} (is_value : L → Type 0) (join : L → L → L) where
@@ -105,16 +105,3 @@ module _ {L : Type 0} (is_value : L → Type 0) (join : L → L → L) where
     -- making joins changes nothing else
     pub kept_same : (new : List (L × List L)) → AreJoined is_value join new → deltas_of new ≡ deltas_of es → IsKept is_value join count new
     kept_same new joined same = record { buffer = subst (λ ds. IsBuffer is_value (newest count ds)) (sym same) h.buffer; joined = joined }
-
--- a buffer's contents are restored after added deltas and joins are removed
-module _ {L : Type 0} (is_value : L → Type 0) (join : L → L → L) (bottom : L) (count : ℕ) (es : List (L × List L)) (made : Option (ℕ × L)) (h : IsHeld is_value join bottom count es made) where
-  pub held_before : (mid new : List (L × List L)) → AreJoined is_value join mid → take (length es) (deltas_of mid) ≡ deltas_of es → new ≡ take (length es) mid
-      → IsHeld is_value join bottom count new made × (newest count (deltas_of new) ≡ newest count (deltas_of es))
-  held_before mid new joined before is =
-      let same : deltas_of new ≡ deltas_of es = ap deltas_of is ∙ (sym (take-map (λ (x : L × List L). x.0) (length es) mid) ∙ before) in (
-        record {
-          kept = kept_same is_value join count es h.kept new (subst (AreJoined is_value join) (sym is) (joined_take is_value join (length es) mid joined)) same;
-          ready = subst (λ ds. IsReady join bottom (newest count ds) made) (sym same) h.ready;
-        },
-        ap (newest count) same,
-      )

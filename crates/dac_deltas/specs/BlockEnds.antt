@@ -1,5 +1,5 @@
 -- A stored delta with the joins of blocks that end with it, as far as they are made. The pair is called an ending.
-use Rattle.std.specs.Prelude.{◌≡◌, ℕ, ◌+◌, ◌-◌, ◌≤◌, ◌<◌, ◌^◌, List, [], ◌∷◌, ◌++◌, length, map, fold, take, drop, slice_index_or, Option, Some, None}
+use Rattle.std.specs.Prelude.{◌≡◌, ℕ, ◌+◌, ◌-◌, ◌≤◌, ◌<◌, ◌^◌, List, ◌∷◌, length, map, fold, take, drop, slice_index_or, Option, Some, None}
 use Rattle.dac_base.specs.declared.limits.TheConstants.{MAX_COUNTER}
 use Rattle.dac_deltas.specs.KeptDeltas.{KeptDeltas, IsBuffer, newest, numbered_from}
 
@@ -50,9 +50,9 @@ pub record IsHeld {L : Type 0} (is_value : L → Type 0) (join : L → L → L) 
   pub kept : IsKept is_value join count es
   pub ready : IsReady join bottom (newest count (deltas_of es)) made
 
--- a buffer's contents, with the ending of a delta about to be pushed
+-- a buffer's contents, with a delta about to be pushed
 pub record IsStaged {L : Type 0} (is_value : L → Type 0) (join : L → L → L) (bottom : L) (count : ℕ)
-    (es : List (L × List L)) (made : Option (ℕ × L)) (end : L × List L) : Type 0 where
+    (es : List (L × List L)) (made : Option (ℕ × L)) (delta : L) : Type 0 where
   pub held : IsHeld is_value join bottom count es made
-  pub joined : AreJoined is_value join (es ++ end ∷ [])
+  pub value : is_value delta
   pub countable : count < MAX_COUNTER

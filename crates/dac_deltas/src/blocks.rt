@@ -68,21 +68,24 @@ fn doubled<L: Lattice>(
     Ok(Some(joined))
 }
 
-/// Makes the joins of the blocks that end with the stored delta at index `i`, as far as those of their first halves are
-/// made. The first stored delta has number `base`. After [`NoMemory`] some can be made.
+/// Makes the joins of the blocks that begin with a stored delta from index `begin` on and end with the one at index
+/// `i`, as far as those of their first halves are made. The first stored delta has number `base`. After [`NoMemory`]
+/// some can be made.
 fn make_joins<L: Lattice>(
     kept: &mut VecDeque<BlockEnd<L>>,
     base: u64,
+    begin: usize,
     i: usize,
 ) -> Result<(), NoMemory>
+    requires begun { begin ≤ i }
     requires there { i < length kept.old.items }
     requires room { base + length kept.old.items ≤ MAX_COUNTER }
     requires joined { AreJoined L.is_value L.join kept.old.items }
     ensures joined { AreJoined L.is_value L.join kept.new.items }
     ensures same { deltas_of kept.new.items ≡ deltas_of kept.old.items }
 {
-    let most = i as u64 + 1;
-    for level in kept[i].level()..level_at(base + most, most) {
+    let most = (i - begin) as u64 + 1;
+    for level in kept[i].level()..level_at(base + i as u64 + 1, most) {
         let Some(joined) = doubled(kept, i, level)? else {
             return Ok(());
         };
@@ -91,40 +94,24 @@ fn make_joins<L: Lattice>(
     Ok(())
 }
 
-/// Makes the joins of the blocks that end with a stored delta from index `from` on. The first stored delta has number
-/// `base`. After [`NoMemory`] some can be made.
+/// Makes the joins of the blocks that begin with a stored delta from index `begin` on and end with one from index
+/// `from` on. The first stored delta has number `base`. After [`NoMemory`] some can be made.
 pub(crate) fn make_all_joins<L: Lattice>(
     kept: &mut VecDeque<BlockEnd<L>>,
     base: u64,
+    begin: usize,
     from: usize,
 ) -> Result<(), NoMemory>
+    requires begun { begin ≤ from }
     requires room { base + length kept.old.items ≤ MAX_COUNTER }
     requires joined { AreJoined L.is_value L.join kept.old.items }
     ensures joined { AreJoined L.is_value L.join kept.new.items }
     ensures same { deltas_of kept.new.items ≡ deltas_of kept.old.items }
 {
     for i in from..kept.len() {
-        make_joins(kept, base, i)?;
+        make_joins(kept, base, begin, i)?;
     }
     Ok(())
-}
-
-/// Like [`make_all_joins`] if `makes_joins`; otherwise does nothing.
-pub(crate) fn join_from<L: Lattice>(
-    kept: &mut VecDeque<BlockEnd<L>>,
-    base: u64,
-    from: usize,
-    makes_joins: bool,
-) -> Result<(), NoMemory>
-    requires room { base + length kept.old.items ≤ MAX_COUNTER }
-    requires joined { AreJoined L.is_value L.join kept.old.items }
-    ensures joined { AreJoined L.is_value L.join kept.new.items }
-    ensures same { deltas_of kept.new.items ≡ deltas_of kept.old.items }
-{
-    if !makes_joins {
-        return Ok(());
-    }
-    make_all_joins(kept, base, from)
 }
 
 /// The longest block with a join, among those that begin with the stored delta at index `begin` and have at most 2^most
@@ -218,14 +205,27 @@ impl<L: Lattice> BlockEnd<L> {
     }
 }
 
-/// The next delta to store, with the joins of the blocks that end with it if `makes_joins`. The first stored delta has
-/// number `base`. Leaves the stored deltas, with room for one more. `None` for want of memory.
+/// Makes room for one more delta. If 256 are stored, for no more than that, because the oldest is dropped next. After
+/// [`NoMemory`] nothing has changed.
+pub(crate) fn make_place<L: Lattice>(kept: &mut VecDeque<BlockEnd<L>>) -> Result<(), NoMemory>
+    ensures same { kept.new.items ≡ kept.old.items }
+    ensures place { OnOk result (deque_len kept.new < deque_capacity kept.new) }
+{
+    if kept.len() < 1 << MOST_LEVEL {
+        kept.reserve(1)?;
+    } else {
+        kept.reserve_exact(1)?;
+    }
+    Ok(())
+}
+
+/// The next delta to store, with the joins of the blocks that end with it. The first stored delta has number `base`.
+/// Leaves the stored deltas, with room for one more. `None` for want of memory.
 pub(crate) fn next_end<L: Lattice>(
     alloc: Global,
     kept: &mut VecDeque<BlockEnd<L>>,
     base: u64,
     delta: L,
-    makes_joins: bool,
 ) -> Option<BlockEnd<L>>
     requires room { base + length kept.old.items < MAX_COUNTER }
     requires joined { AreJoined L.is_value L.join kept.old.items }
@@ -238,10 +238,9 @@ pub(crate) fn next_end<L: Lattice>(
 {
     delta.tells_invariant();
     let length = kept.len();
-    if kept.push_back(BlockEnd::new(alloc, delta)).is_err() {
-        return None;
-    }
-    let joined = join_from(kept, base, length, makes_joins);
+    make_place(kept).ok()?;
+    kept.push_back_reserved(BlockEnd::new(alloc, delta));
+    let joined = make_all_joins(kept, base, 0, length);
     let end = kept.pop_back();
     joined.ok()?;
     end
@@ -264,26 +263,4 @@ pub(crate) fn add_all<L: Lattice>(
         kept.push_back(BlockEnd::new(alloc, delta))?;
     }
     Ok(())
-}
-
-/// Appends deltas to the stored ones, of which the first has number `base`, and if `makes_joins` makes the joins of the
-/// blocks that end with them. After [`NoMemory`] some deltas can be there.
-pub(crate) fn add_joined<L: Lattice>(
-    alloc: Global,
-    kept: &mut VecDeque<BlockEnd<L>>,
-    base: u64,
-    deltas: Vec<L>,
-    makes_joins: bool,
-) -> Result<(), NoMemory>
-    requires room { base + length kept.old.items + length deltas.items ≤ MAX_COUNTER }
-    requires joined { AreJoined L.is_value L.join kept.old.items }
-    ensures joined { AreJoined L.is_value L.join kept.new.items }
-    ensures added { OnOk result
-        (deltas_of kept.new.items ≡ deltas_of kept.old.items ++ deltas.items) }
-    ensures before { take (length kept.old.items) (deltas_of kept.new.items)
-        ≡ deltas_of kept.old.items }
-{
-    let before = kept.len();
-    add_all(alloc, kept, deltas)?;
-    join_from(kept, base, before, makes_joins)
 }

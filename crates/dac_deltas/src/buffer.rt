@@ -6,7 +6,7 @@ ghost use Rattle.dac_deltas.specs.declared.blocks.TheConstants.{MOST_LEVEL};
 ghost use Rattle.dac_deltas.specs.declared.buffer.TheConstants.{MAX_DELTAS};
 
 use crate::blocks::{
-    BlockEnd, MOST_LEVEL, add_joined, level_at, longest_joined, make_all_joins, next_end,
+    BlockEnd, MOST_LEVEL, add_all, level_at, longest_joined, make_all_joins, next_end,
 };
 use dac_base::{MAX_COUNTER, NoMemory};
 use dac_lattice::{Bottom, Lattice};
@@ -20,18 +20,17 @@ pub const MAX_DELTAS: usize = 1 << MOST_LEVEL;
 /// The newest deltas of a log, at most 256, numbered from 0 in the order in which they are pushed. Contracts see the
 /// number of deltas ever pushed, the least number that is stored, and the stored deltas, the oldest first.
 ///
-/// A buffer also stores the joins of aligned blocks of 2 to 256 deltas, at most 255 of them. A push makes those of the
-/// blocks that end with it, so that an interval takes at most 16 joins. A lazy buffer, for an owner that might never
-/// request an interval, makes none until [`Buffer::warm`] makes all, and then behaves like any other. A buffer also
-/// caches one interval until the next delta, so that peers that receive the same interval share it.
+/// A buffer also stores the joins of aligned blocks of 2 to 256 deltas, at most 255 of them. [`Buffer::push`] makes
+/// those of the blocks that end with its delta, so that an interval takes at most 16 joins. [`Buffer::push_all`] and
+/// [`Buffer::stage`] make none, for owners that might never request an interval. [`Buffer::warm_from`] makes those that
+/// an interval needs, and caches the interval until the next delta, so that peers that receive the same interval share
+/// it.
 #[derive(Drop)]
 pub struct Buffer<L: Bottom> {
     pub(crate) alloc: Global,
     pub(crate) count: u64,
     pub(crate) kept: VecDeque<BlockEnd<L>>,
     pub(crate) ready: Option<(u64, L)>,
-    /// Whether a push makes the joins of its blocks: false for a lazy buffer.
-    pub(crate) makes_joins: bool,
 }
 
 impl<L: Bottom> Model for Buffer<L> {
@@ -92,26 +91,11 @@ impl<L: Bottom> Buffer<L> {
     pub fn new(alloc: Global) -> Self
         ensures { result ≡ empty }
     {
-        Self::without_deltas(alloc, true)
-    }
-
-    /// The empty lazy buffer, which makes no joins of blocks before [`Buffer::warm`].
-    pub fn lazy(alloc: Global) -> Self
-        ensures { result ≡ empty }
-    {
-        Self::without_deltas(alloc, false)
-    }
-
-    /// The empty buffer; with `makes_joins` false it is lazy.
-    fn without_deltas(alloc: Global, makes_joins: bool) -> Self
-        ensures { result ≡ empty }
-    {
         Buffer {
             alloc,
             count: 0,
             kept: VecDeque::new(alloc),
             ready: None,
-            makes_joins,
         }
     }
 
@@ -145,7 +129,7 @@ impl<L: Bottom> Buffer<L> {
         ensures err { OnErr result (self.new ≡ self.old) }
     {
         let base = self.base();
-        let Some(end) = next_end(self.alloc, &mut self.kept, base, delta, self.makes_joins) else {
+        let Some(end) = next_end(self.alloc, &mut self.kept, base, delta) else {
             return Err(NoMemory);
         };
         self.kept.push_back_reserved(end);
@@ -155,8 +139,8 @@ impl<L: Bottom> Buffer<L> {
         Ok(())
     }
 
-    /// Appends several deltas, one after another as [`Buffer::push`] does. Requires that the count with all of them is
-    /// at most 2^62. After [`NoMemory`] the buffer is unchanged.
+    /// Appends several deltas, one after another as [`Buffer::push`] does, but makes no joins of blocks. Requires that
+    /// the count with all of them is at most 2^62. After [`NoMemory`] the buffer is unchanged.
     pub fn push_all(&mut self, deltas: Vec<L>) -> Result<(), NoMemory>
         requires { self.old.count + length deltas.items ≤ MAX_COUNTER }
         ensures ok { OnOk result (self.new ≡ fold pushed self.old deltas.items) }
@@ -165,16 +149,9 @@ impl<L: Bottom> Buffer<L> {
         if deltas.is_empty() {
             return Ok(());
         }
-        let base = self.base();
         let before = self.kept.len();
         let added = deltas.len() as u64;
-        if let Err(refused) = add_joined(
-            self.alloc,
-            &mut self.kept,
-            base,
-            deltas,
-            self.makes_joins,
-        ) {
+        if let Err(refused) = add_all(self.alloc, &mut self.kept, deltas) {
             self.kept.truncate(before);
             return Err(refused);
         }
@@ -197,8 +174,8 @@ impl<L: Bottom> Buffer<L> {
     /// has been dropped. Requires that `a` is at most the count. Fails with [`NoMemory`] only if all deltas from `a` on
     /// are stored.
     ///
-    /// It joins the blocks that [`Buffer::blocks`] lists, in order. A lazy buffer joins shorter ones in place of a
-    /// block whose join isn't made. If the interval is cached, it returns a copy and joins nothing.
+    /// It joins the blocks that [`Buffer::blocks`] lists, in order, and shorter ones in place of a block whose join
+    /// isn't made. If [`Buffer::warm_from`] cached the interval, it returns a copy and joins nothing.
     pub fn interval(&self, a: u64) -> Result<Option<L>, NoMemory>
         requires { a ≤ self.now.count }
         ensures dropped { a < self.now.base → result ≡ Ok None }
@@ -245,27 +222,27 @@ impl<L: Bottom> Buffer<L> {
         Ok(or_bottom(self.alloc, joined))
     }
 
-    /// Caches the interval that begins at number `a` until the next delta, so that later calls of [`Buffer::interval`]
-    /// share it. Requires that `joined` is that interval. Contracts see no change.
-    pub fn remember(&mut self, a: u64, joined: L)
-        requires { interval_of L.bottom L.join self.old a ≡ Some joined }
+    /// Caches the interval that begins at number `a` until the next delta, if all its deltas are stored, so that later
+    /// calls of [`Buffer::interval`] share it. First makes the joins of its blocks that aren't made. Requires that `a`
+    /// is at most the count. Contracts see no change. After [`NoMemory`] some joins can be made.
+    pub fn warm_from(&mut self, a: u64) -> Result<(), NoMemory>
+        requires { a ≤ self.old.count }
         ensures { self.new ≡ self.old }
     {
-        self.ready = Some((a, joined));
-    }
-
-    /// Makes the missing joins of a lazy buffer, and from then on each push makes its own. Owners call it before the
-    /// first interval. Contracts see no change. After [`NoMemory`] the buffer is still lazy.
-    pub fn warm(&mut self) -> Result<(), NoMemory>
-        ensures { self.new ≡ self.old }
-    {
-        if self.makes_joins {
+        let base = self.base();
+        if a < base || self.is_ready(a) {
             return Ok(());
         }
-        let base = self.base();
-        make_all_joins(&mut self.kept, base, 0)?;
-        self.makes_joins = true;
+        let begin = (a - base) as usize;
+        make_all_joins(&mut self.kept, base, begin, begin)?;
+        let joined = self.computed_from(a)?;
+        self.ready = Some((a, joined));
         Ok(())
+    }
+
+    /// Returns whether the interval from number `a` on is cached.
+    fn is_ready(&self, a: u64) -> bool {
+        matches!(&self.ready, Some((from, _)) if *from == a)
     }
 
     /// The blocks that an interval joins, each as its first number and the one after its last. From `a` to the count
@@ -306,7 +283,6 @@ impl<L: Bottom> Buffer<L> {
             count: self.count,
             kept,
             ready: copy_ready(&self.ready)?,
-            makes_joins: self.makes_joins,
         })
     }
 }

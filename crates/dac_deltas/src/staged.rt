@@ -3,7 +3,7 @@ ghost use Rattle.std.specs.Prelude.{◌≡◌, ◌<◌, MatchResult};
 ghost use Rattle.dac_base.specs.declared.limits.TheConstants.{MAX_COUNTER};
 ghost use Rattle.dac_deltas.specs.KeptDeltas.{pushed};
 
-use crate::blocks::{BlockEnd, next_end};
+use crate::blocks::{BlockEnd, make_place};
 use crate::buffer::{Buffer, keep_newest};
 use dac_lattice::Bottom;
 use std::alloc::Global;
@@ -19,9 +19,7 @@ pub struct Staged<L: Bottom> {
     /// The stored deltas, with room for one more.
     kept: VecDeque<BlockEnd<L>>,
     ready: Option<(u64, L)>,
-    makes_joins: bool,
-    /// The delta, with the joins of the blocks that end with it.
-    end: BlockEnd<L>,
+    delta: L,
 }
 
 impl<L: Bottom> Model for Staged<L> {
@@ -32,37 +30,35 @@ impl<L: Bottom> Model for Staged<L> {
 
     ghost Value = { KeptDeltas L × L };
 
-    ghost view = { λ s. (newest s.count (deltas_of s.kept.items), s.end.0) };
+    ghost view = { λ s. (newest s.count (deltas_of s.kept.items), s.delta) };
 
-    ghost invariant = { λ s. IsStaged L.is_value L.join L.bottom s.count s.kept.items s.ready s.end
+    ghost invariant = { λ s. IsStaged L.is_value L.join L.bottom s.count s.kept.items s.ready s.delta
         × (deque_len s.kept < deque_capacity s.kept) };
 }
 
 impl<L: Bottom> Buffer<L> {
-    /// Prepares to append a delta as [`Buffer::push`] does. Requires a count below 2^62. For want of memory it hands
-    /// the buffer back unchanged.
+    /// Prepares to append a delta as [`Buffer::push`] does, but makes no joins of blocks. Requires a count below 2^62.
+    /// For want of memory it hands the buffer back unchanged.
     pub fn stage(mut self, delta: L) -> Result<Staged<L>, Self>
         requires { self.count < MAX_COUNTER }
         ensures { MatchResult result (λ staged. staged ≡ (self, delta)) (λ back. back ≡ self) }
     {
-        let base = self.base();
-        let Some(end) = next_end(self.alloc, &mut self.kept, base, delta, self.makes_joins) else {
+        delta.tells_invariant();
+        if make_place(&mut self.kept).is_err() {
             return Err(self);
-        };
+        }
         let Buffer {
             alloc,
             count,
             kept,
             ready,
-            makes_joins,
         } = self;
         Ok(Staged {
             alloc,
             count,
             kept,
             ready,
-            makes_joins,
-            end,
+            delta,
         })
     }
 }
@@ -77,17 +73,15 @@ impl<L: Bottom> Staged<L> {
             count,
             mut kept,
             ready: _ready,
-            makes_joins,
-            end,
+            delta,
         } = self;
-        kept.push_back_reserved(end);
+        kept.push_back_reserved(BlockEnd::new(alloc, delta));
         keep_newest(&mut kept);
         Buffer {
             alloc,
             count: count + 1,
             kept,
             ready: None,
-            makes_joins,
         }
     }
 
@@ -100,16 +94,14 @@ impl<L: Bottom> Staged<L> {
             count,
             kept,
             ready,
-            makes_joins,
-            end,
+            delta,
         } = self;
-        drop(end);
+        drop(delta);
         Buffer {
             alloc,
             count,
             kept,
             ready,
-            makes_joins,
         }
     }
 
@@ -117,6 +109,6 @@ impl<L: Bottom> Staged<L> {
     pub fn delta(&self) -> &L
         ensures { result.now ≡ self.now.1 }
     {
-        self.end.delta()
+        &self.delta
     }
 }

@@ -12,24 +12,20 @@ use Rattle.dac_peers.specs.Peers.{PeersValue, acked_by_all, heard_from}
 use Rattle.dac_messages.specs.Bodies.{content_of}
 use Rattle.dac_deltas.specs.KeptDeltas.{KeptDeltas, cut, pushed, trimmed}
 use Rattle.dac_decide.specs.declared.waits.Noted.{Noted}
-use Rattle.dac_decide.specs.declared.start_gate.Opening.{Opening}
-use Rattle.dac_decide.specs.declared.start_gate.Opening.TheVariants.{Shut, Opened, GiveUp}
 use Rattle.dac_messages.specs.declared.event.Event.{Event}
-use Rattle.dac_messages.specs.declared.event.Event.TheVariants.{Boot, Crash, Command as Commanded, Tick, Ship, Hear, HearOp}
 use Rattle.dac_messages.specs.declared.reply.Reply.{Reply}
-use Rattle.dac_messages.specs.declared.reply.Reply.TheVariants.{Heard}
 use Rattle.dac_messages.specs.declared.message.Message.{Message}
 use Rattle.dac_events.specs.declared.refusal.Refusal.TheVariants.{DotsUsedUp}
 use Rattle.dac_model_node.specs.dac_commands.laws.Written.{none_is}
 use Rattle.dac_model_node.specs.NodeValue.{RunningValue}
 use Rattle.dac_model_node.specs.EventRefusals.{refusal_by, refusal_to_hear_op, overflows}
-use Rattle.dac_model_node.specs.Transitions.{Transition, brings, transition_of, hears_message, opening_at, ticks_by}
+use Rattle.dac_model_node.specs.Transitions.{Transition, brings, transition_of, hears_message}
 use Rattle.dac_model_node.specs.Accepted.{AreNewest, running_by}
 use Rattle.dac_model_node.specs.laws.Numbers.{fits, room_to_hear}
 use Rattle.dac_node.specs.declared.change.After.{After}
 use Rattle.dac_node.specs.declared.change.After.TheVariants.{Off, Boots, GoesOn, Gains, Keeps}
 use Rattle.dac_node.specs.Knowing.{hearing, joining, knowledge_of, running_of}
-use Rattle.dac_node.specs.After.{running_after, after_by, after_from_base, from_base, gaining, gone_on, next_by, FitsIn, ShipsOwnIn}
+use Rattle.dac_node.specs.After.{running_after, after_by, after_from_base, from_base, gaining, gone_on, next_by, FitsIn}
 use Rattle.dac_node.specs.Changes.{ChangeValue, Effect, Fits, Prepared}
 
 -- an event that notes nothing, after which the running value is the transition's up to the base
@@ -101,21 +97,6 @@ effect_prepared t me last r e change none newest is f =
     let running = sym (run_from_base r change.after) ∙ (ap (λ after. running_after after (Some r)) f.after ∙ (run_from_base r (after_by r f.noted transition) ∙ run_after_by r f.noted transition)) in
     record { accepted = none; newest = newest; state = is; noted = f.noted; noting = f.noting; left = λ i. record { last = f.last i; running = running i }; reply = f.reply }
 
--- only a ship sends a message, which is the one that the node determines
-ships_own : (t : Table) (r : RunningValue) (noted : List (Option Noted)) (e : Event) → ShipsOwnIn (Some r) (transition_of t r noted e).reply
-ships_own t r noted (Boot now) = tt
-ships_own t r noted Crash = tt
-ships_own t r noted (Commanded c) = tt
-ships_own t r noted (Tick now) = by (opening_at t r now)
-  where
-    by : (o : Opening) → ShipsOwnIn (Some r) (ticks_by o t r noted now).reply
-    by Shut = tt
-    by GiveUp = tt
-    by Opened = tt
-ships_own t r noted (Ship to) = refl
-ships_own t r noted (Hear m) = tt
-ships_own t r noted (HearOp o) = tt
-
 -- numbers that are left after trimming to the base are left without it
 fits_from_base : (r : RunningValue) (after : After) → FitsIn (Some r) (after_from_base r after) → FitsIn (Some r) after
 fits_from_base r Off h = tt
@@ -128,7 +109,6 @@ fits_from_base r (Keeps peers trim) h = tt
 pub effect_fits : (t : Table) (last : ℕ) (r : RunningValue) (e : Event) (change : ChangeValue) → refusal_by t last (Some r) e ≡ None → r.kept.count ≤ MAX_COUNTER → Effect t last r e change → Fits (record { last = last; running = Some r }) change
 effect_fits t last r e change none countable f = record {
   numbers = fits_from_base r change.after (subst (FitsIn (Some r)) (sym f.after) (to_fits (after_by r f.noted (transition_of t r f.noted e)) (by (transition_of t r f.noted e).goes_off)));
-  ships = subst (ShipsOwnIn (Some r)) (sym f.reply) (ships_own t r f.noted e);
 }
   where
     to_fits : (after : After) → FitsIn (Some r) after → FitsIn (Some r) (after_from_base r after)
@@ -146,9 +126,8 @@ effect_fits t last r e change none countable f = record {
 heard_op_fits : (r : RunningValue) (o : Operation) → refusal_to_hear_op r o ≡ None → r.kept.count ≤ MAX_COUNTER → FitsIn (Some r) (GoesOn (hearing (knowledge_of r) (meaning_of (o ∷ [])) r.peers))
 heard_op_fits r o none countable = (room_to_hear r (meaning_of (o ∷ [])) countable (none_is ((overflows r (meaning_of (o ∷ [])), DotsUsedUp) ∷ []) none).0, λ nothing. ap (fold join r.state) nothing)
 
-pub hear_op_fits : (last : ℕ) (r : RunningValue) (o : Operation) (fresh : Bool) (change : ChangeValue) → refusal_to_hear_op r o ≡ None → r.kept.count ≤ MAX_COUNTER →
-    after_from_base r change.after ≡ GoesOn (from_base r (hearing (knowledge_of r) (meaning_of (o ∷ [])) r.peers)) → change.reply ≡ Heard fresh → Fits (record { last = last; running = Some r }) change
-hear_op_fits last r o fresh change none countable after reply = record {
+pub hear_op_fits : (last : ℕ) (r : RunningValue) (o : Operation) (change : ChangeValue) → refusal_to_hear_op r o ≡ None → r.kept.count ≤ MAX_COUNTER →
+    after_from_base r change.after ≡ GoesOn (from_base r (hearing (knowledge_of r) (meaning_of (o ∷ [])) r.peers)) → Fits (record { last = last; running = Some r }) change
+hear_op_fits last r o change none countable after = record {
   numbers = fits_from_base r change.after (subst (FitsIn (Some r)) (sym after) (heard_op_fits r o none countable));
-  ships = subst (ShipsOwnIn (Some r)) (sym reply) tt;
 }

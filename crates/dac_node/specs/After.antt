@@ -7,10 +7,8 @@ use Rattle.dac_meaning.specs.StateValue.{join}
 use Rattle.dac_meaning.specs.Meaning.{meaning_of}
 use Rattle.dac_deltas.specs.KeptDeltas.{pushed, trimmed}
 use Rattle.dac_decide.specs.declared.waits.Noted.{Noted}
-use Rattle.dac_messages.specs.declared.reply.Reply.{Reply}
-use Rattle.dac_messages.specs.declared.reply.Reply.TheVariants.{Shipped}
 use Rattle.dac_model_node.specs.NodeValue.{RunningValue}
-use Rattle.dac_model_node.specs.Transitions.{Transition, message_of}
+use Rattle.dac_model_node.specs.Transitions.{Transition}
 use Rattle.dac_node.specs.declared.gain.Gain.{Gain}
 use Rattle.dac_node.specs.declared.change.After.{After}
 use Rattle.dac_node.specs.declared.change.After.TheVariants.{Off, Boots, GoesOn, Gains, Keeps}
@@ -48,11 +46,6 @@ abbrev pub FitsIn : Option RunningValue → After → Type 0
 FitsIn (Some r) (GoesOn next) = (r.kept.count + length next.deltas ≤ MAX_COUNTER) × (next.deltas ≡ [] → next.knowledge.state ≡ r.state)
 FitsIn (Some r) (Gains g) = r.kept.count + 1 ≤ MAX_COUNTER
 FitsIn old after = Unit {0}
-
--- a message in the reply is the one that this running node ships
-abbrev pub ShipsOwnIn : Option RunningValue → Reply → Type 0
-ShipsOwnIn (Some r) (Shipped m) = m ≡ message_of r m.to
-ShipsOwnIn old reply = Unit {0}
 
 -- ---- the effect of a transition
 

@@ -12,7 +12,7 @@ use Rattle.dac_model_node.specs.Transitions.{transition_of}
 use Rattle.dac_model_node.specs.Step.{up}
 use Rattle.dac_model_node.specs.Accepted.{AcceptedAs, IsNoting, booted}
 use Rattle.dac_node.specs.declared.change.After.{After}
-use Rattle.dac_node.specs.After.{running_after, FitsIn, ShipsOwnIn, after_by, after_from_base}
+use Rattle.dac_node.specs.After.{running_after, FitsIn, after_by, after_from_base}
 
 -- the number of the last incarnation, the running value, and the reply, after an event
 pub record ChangeValue : Type 0 where
@@ -31,11 +31,9 @@ coded_change after reply =
 abbrev pub changed : NodeValue → ChangeValue → NodeValue
 changed v change = record { last = change.last; running = running_after change.after v.running }
 
--- If the node runs on, numbers are left for its new deltas. A message that it ships is the one determined by its old
--- value
+-- if the node runs on, numbers are left for its new deltas
 pub record Fits (v : NodeValue) (change : ChangeValue) : Type 0 where
   pub numbers : FitsIn v.running change.after
-  pub ships : ShipsOwnIn v.running change.reply
 
 -- the effect of a boot as this node at this moment, after the incarnation with this number
 pub record BootsBy (t : Table) (me : NodeId) (number : ℕ) (now : ℕ) (change : ChangeValue) : Type 0 where

@@ -1,6 +1,6 @@
 //! The effect of an accepted event, prepared before anything changes.
 
-ghost use Rattle.std.specs.Prelude.{◌≡◌, ◌<◌, ◌∷◌, [], not, IfOk, IfErr, MatchOption, None};
+ghost use Rattle.std.specs.Prelude.{◌≡◌, ◌<◌, ◌∷◌, [], IfOk, IfErr, MatchOption, None};
 ghost use Rattle.dac_base.specs.declared.limits.TheConstants.{MAX_INCARNATION};
 ghost use Rattle.dac_config.specs.Table.{Table};
 ghost use Rattle.dac_meaning.specs.Below.{is_below};
@@ -16,11 +16,10 @@ use crate::ticking::tick;
 use dac_base::{NoMemory, NodeId};
 use dac_config::Config;
 use dac_events::Command;
-use dac_lattice::Lattice;
-use dac_messages::{Body, Event, Message, Reply};
+use dac_messages::{Event, Message, Reply};
 use dac_origins::Origin;
 use dac_peers::Peers;
-use dac_state::{Op, State};
+use dac_state::Op;
 use std::alloc::Global;
 use std::marker::Model;
 
@@ -100,21 +99,13 @@ impl Change {
     }
 
     /// The reply to the event, after the change is applied.
+    #[inline(always)]
     pub fn into_reply(self) -> Reply
         ensures { result ≡ self.reply }
     {
         match self.outcome {
             None => Reply::Crashed,
             Some(outcome) => Box::into_inner(outcome).reply,
-        }
-    }
-
-    /// Lets an interval that the change ships share memory with this state, if the two are equal.
-    pub fn ship_copy_of(&mut self, other: &State)
-        ensures { self.new ≡ self.old }
-    {
-        if let Some(outcome) = &mut self.outcome {
-            outcome.share_with(other);
         }
     }
 
@@ -129,6 +120,7 @@ impl Change {
     }
 
     /// A change to this running value, with this reply.
+    #[inline(always)]
     pub(crate) fn new(
         alloc: Global,
         last: u64,
@@ -172,6 +164,7 @@ impl Change {
     }
 
     /// The effect of an accepted event at a running controller. A crash allocates nothing.
+    #[inline(always)]
     pub(crate) fn of(
         config: &Config,
         last: u64,
@@ -258,37 +251,10 @@ impl Change {
         ensures after { IfOk result (λ change. after_from_base running.now change.after
             ≡ After.GoesOn (from_base running.now (hearing (knowledge_of running.now)
             (meaning_of (operation.now ∷ [])) running.now.peers))) }
-        ensures reply { IfOk result (λ change. change.reply
-            ≡ Reply.Heard (not (is_below (meaning_of (operation.now ∷ [])) running.now.state))) }
     {
         let (after, fresh) = running.after_operation(operation, is_known)?;
         let alloc = running.knowledge.alloc;
         let change = Change::new(alloc, last, after, Reply::Heard(fresh))?;
         Ok(change)
-    }
-}
-
-impl Outcome {
-    /// Lets an interval that it ships share memory with this state, if the two are equal.
-    fn share_with(&mut self, other: &State)
-        ensures { self.new ≡ self.old }
-    {
-        if let Reply::Shipped(message) = &mut self.reply {
-            make_copy_of(&mut message.body, other);
-        }
-    }
-}
-
-/// Replaces an interval by a copy of a state that it equals.
-fn make_copy_of(body: &mut Body, other: &State)
-    ensures { body.new ≡ body.old }
-{
-    let Body::Interval(state) = body else {
-        return;
-    };
-    if state.equal(other) {
-        if let Ok(copied) = other.copy() {
-            *state = copied;
-        }
     }
 }

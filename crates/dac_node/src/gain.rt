@@ -63,7 +63,7 @@ fn stage(alloc: Global, buffer: &mut Buffer<State>, delta: State) -> Result<Stag
     ensures ok { IfOk result (λ staged. staged ≡ (buffer.old, delta)) }
     ensures err { OnErr result (buffer.new ≡ buffer.old) }
 {
-    match replace(buffer, Buffer::lazy(alloc)).stage(delta) {
+    match replace(buffer, Buffer::new(alloc)).stage(delta) {
         Ok(staged) => Ok(staged),
         Err(back) => {
             *buffer = back;

@@ -63,7 +63,7 @@ impl Node {
     ghost use Rattle.dac_model_node.specs.Shipping.{ShipsSo};
     ghost use Rattle.dac_node.specs.ByDots.{IsBelowByDots, IsBelowByDot};
     ghost use Rattle.dac_node.specs.Changes.{changed, Fits, Prepared};
-    ghost use Rattle.dac_node.specs.After.{running_after, FitsIn, ShipsOwnIn};
+    ghost use Rattle.dac_node.specs.After.{running_after, FitsIn};
     ghost use Rattle.dac_model_node.specs.Hearing.{HearsExactly};
     ghost use Rattle.dac_model_node.specs.Refused.{IsAnsweredBy, IsFree};
 
@@ -350,7 +350,6 @@ impl Node {
     /// Replaces the running value by the outcome's. The reply stays in the outcome.
     fn replace_running(&mut self, outcome: &mut Outcome) -> Result<(), NoMemory>
         requires numbers { FitsIn self.old.running outcome.old.after }
-        requires ships { ShipsOwnIn self.old.running outcome.old.reply }
         ensures new { OnOk result (self.new ≡ record {
           last = self.old.last;
           running = running_after outcome.old.after self.old.running;
@@ -365,7 +364,7 @@ impl Node {
             After::Boots(running) => self.come_up(running),
             After::GoesOn(next) => {
                 if let Some(running) = &mut self.running {
-                    running.go_on(next, &outcome.reply)?;
+                    running.go_on(next)?;
                 }
             }
             After::Gains(gain) => {
@@ -375,7 +374,7 @@ impl Node {
             }
             After::Keeps(peers, trim) => {
                 if let Some(running) = &mut self.running {
-                    running.keep(peers, trim, &outcome.reply);
+                    running.keep(peers, trim);
                 }
             }
         }

@@ -22,7 +22,7 @@ use dac_config::Config;
 use dac_deltas::Buffer;
 use dac_events::{Command, Refusal};
 use dac_lattice::{Bottom, Lattice};
-use dac_messages::{Event, Message, Reply};
+use dac_messages::{Event, Message};
 use dac_model_node::dac_commands::{operation_of, refusal_of};
 use dac_model_node::dac_ticks::KeptBoard;
 use dac_origins::Origin;
@@ -65,7 +65,7 @@ impl Model for Running {
 
 impl Running {
     ghost use Rattle.dac_model_node.specs.Accepted.{booted, AreNewest};
-    ghost use Rattle.dac_node.specs.After.{gone_on, keeping, gaining, gain_of, ShipsOwnIn};
+    ghost use Rattle.dac_node.specs.After.{gone_on, keeping, gaining, gain_of};
 
     /// Shows the invariant to proofs: the deltas kept are the newest, at most 2^62 were counted, and the state is well
     /// formed. Does nothing at run time.
@@ -115,7 +115,7 @@ impl Running {
         ensures operation { IfOk result (λ both. both.1 ≡ up origin) }
     {
         let (knowledge, operation, delta) = Knowledge::at_boot(alloc, config, origin, now)?;
-        let mut buffer = Buffer::lazy(alloc);
+        let mut buffer = Buffer::new(alloc);
         buffer.push(delta)?;
         let shown = Shown::new(alloc, config, &knowledge.state)?;
         let running = Running {
@@ -126,18 +126,13 @@ impl Running {
         Ok((running, operation))
     }
 
-    /// Goes on by an advance, and remembers an interval that the reply ships, to send it again. If the new deltas can't
-    /// be allocated, nothing changes.
-    pub(crate) fn go_on(&mut self, next: Advance, reply: &Reply) -> Result<(), NoMemory>
+    /// Goes on by an advance. If the new deltas can't be allocated, nothing changes.
+    pub(crate) fn go_on(&mut self, next: Advance) -> Result<(), NoMemory>
         requires numbers { self.old.kept.count + length next.deltas ≤ LAST_NUMBER }
         requires stays { next.deltas ≡ [] → next.knowledge.state ≡ self.old.state }
-        requires ships { ShipsOwnIn (Some self.old) reply.now }
         ensures ok { OnOk result (self.new ≡ gone_on next self.old) }
         ensures err { OnErr result (self.new ≡ self.old) }
     {
-        if let Reply::Shipped(message) = reply {
-            self.remember(message);
-        }
         let (knowledge, deltas, trim) = next.into_parts();
         let stays = deltas.is_empty();
         self.buffer.push_all(deltas)?;
@@ -185,14 +180,10 @@ impl Running {
         self.shown.board()
     }
 
-    /// Replaces the peer table, drops deltas below this number, and remembers an interval that the reply ships.
-    pub(crate) fn keep(&mut self, peers: Peers, trim: u64, reply: &Reply)
-        requires { ShipsOwnIn (Some self.old) reply.now }
+    /// Replaces the peer table, and drops deltas below this number.
+    pub(crate) fn keep(&mut self, peers: Peers, trim: u64)
         ensures { self.new ≡ gone_on (keeping self.old peers trim) self.old }
     {
-        if let Reply::Shipped(message) = reply {
-            self.remember(message);
-        }
         drop_below(&mut self.buffer, trim);
         self.knowledge.peers = peers;
         self.knowledge.peers.settle();
@@ -282,6 +273,7 @@ impl Running {
 
     /// The refusal of a message, if it is refused. A message is for this incarnation if it is for its node and isn't
     /// bound to another incarnation.
+    #[inline(always)]
     pub(crate) fn refusal_to_hear(&self, message: &Message) -> Option<Refusal>
         ensures { result ≡ refused_hear self.now message.now }
     {

@@ -18,7 +18,7 @@ use dac_config::Config;
 use dac_lattice::Lattice;
 use dac_messages::{Body, Message};
 use dac_peers::{Peers, Position};
-use dac_state::{Op, State};
+use dac_state::Op;
 
 impl Running {
     /// Returns whether nothing needs to be shipped to a node.
@@ -71,33 +71,21 @@ impl Running {
         })
     }
 
-    /// Makes the buffer's joined blocks if the next message to a node is an interval. If an allocation fails, making
-    /// the interval takes longer.
+    /// Makes the interval of the next message to a node, if it has one that takes joins, and caches it for that message
+    /// and for the next node that needs it. If an allocation fails, the message makes it again.
     pub(crate) fn warm(&mut self, to: NodeId)
         ensures { self.new ≡ self.old }
     {
-        let known = &self.knowledge;
         let base = self.buffer.base();
-        if known.peers.begins(&known.state, base, to).is_some() {
-            let _made = self.buffer.warm();
+        if self.buffer.count().saturating_sub(base) < 2 {
+            return;
         }
-    }
-
-    /// Caches the interval of an own message, for the next node that needs it. If an allocation fails, the interval is
-    /// made again.
-    pub(crate) fn remember(&mut self, message: &Message)
-        requires { message.now ≡ message_of self.old message.now.to }
-        ensures { self.new ≡ self.old }
-    {
-        let Body::Interval(state) = &message.body else {
+        let known = &self.knowledge;
+        let Some(position) = known.peers.begins(&known.state, base, to) else {
             return;
         };
-        let known = &self.knowledge;
-        let base = self.buffer.base();
-        if let Some(position) = known.peers.begins(&known.state, base, message.to) {
-            if let Ok(joined) = state.copy() {
-                self.buffer.remember(position.number, joined);
-            }
+        if position.number < self.buffer.count() {
+            let _made = self.buffer.warm_from(position.number);
         }
     }
 

@@ -101,26 +101,30 @@ fn several_are_pushed(rt: HostRuntime) {
     assert!(rt; has_three(rt.alloc(), 257, 8) == Ok(true));
 }
 
-/// The maximum of the numbers 1 to 9 after the first `asked`, while the interval after the first `from` is remembered,
-/// and then with 100 appended.
+/// Makes the interval from number `from` on ready, if there is one.
+fn warm<L: Bottom>(buffer: &mut Buffer<L>, from: u64) -> Result<(), NoMemory> {
+    if from <= buffer.count() {
+        buffer.warm_from(from)?;
+    }
+    Ok(())
+}
+
+/// The maximum of the numbers 1 to 9 after the first `asked`, while the interval after the first `from` is cached, and
+/// then with 100 appended.
 fn interval_beside(
     alloc: Global,
     from: u64,
     asked: u64,
 ) -> Result<(Option<u64>, Option<u64>), NoMemory> {
     let mut buffer = numbers_below(alloc, 10)?;
-    if from <= buffer.count() {
-        if let Some(joined) = buffer.interval(from)? {
-            buffer.remember(from, joined);
-        }
-    }
+    warm(&mut buffer, from)?;
     let before = greatest(&buffer, asked)?;
     push(&mut buffer, 100)?;
     Ok((before, greatest(&buffer, asked)?))
 }
 
 #[test]
-fn interval_is_remembered_until_a_delta_comes(rt: HostRuntime) {
+fn interval_is_cached_until_a_delta_comes(rt: HostRuntime) {
     assert!(rt; interval_beside(rt.alloc(), 3, 3) == Ok((Some(9), Some(100))));
     assert!(rt; interval_beside(rt.alloc(), 9, 3) == Ok((Some(9), Some(100))));
     assert!(rt; interval_beside(rt.alloc(), 3, 9) == Ok((Some(0), Some(100))));
@@ -140,6 +144,25 @@ fn with_tokens(mut buffer: Buffer<Token>, count: u64) -> Result<Buffer<Token>, N
         push_token(&mut buffer)?;
     }
     Ok(buffer)
+}
+
+/// A log to which `count` tokens are appended in one call, without joins of blocks.
+fn unjoined(alloc: Global, count: u64) -> Result<Buffer<Token>, NoMemory> {
+    let mut buffer = Buffer::new(alloc);
+    add_unjoined(alloc, &mut buffer, count)?;
+    Ok(buffer)
+}
+
+/// Appends `count` tokens in one call, which makes no joins of blocks, if the log isn't at its limit.
+fn add_unjoined(alloc: Global, buffer: &mut Buffer<Token>, count: u64) -> Result<(), NoMemory> {
+    let mut tokens = Vec::new(alloc);
+    for _ in 0..count {
+        tokens.push(Token::new())?;
+    }
+    if buffer.count() < 1 << 61 && tokens.len() < 1 << 61 {
+        buffer.push_all(tokens)?;
+    }
+    Ok(())
 }
 
 /// The number of joins that the interval after the first `from` deltas takes.
@@ -164,26 +187,22 @@ fn joins_and_next(
     Ok((before, joins(&buffer, from)?))
 }
 
-/// Nine tokens in a lazy log that remembers its interval after the first 3.
-fn remembering(alloc: Global) -> Result<Buffer<Token>, NoMemory> {
-    let mut buffer = with_tokens(Buffer::lazy(alloc), 9)?;
-    if 3 <= buffer.count() {
-        if let Some(joined) = buffer.interval(3)? {
-            buffer.remember(3, joined);
-        }
-    }
+/// Nine tokens in a log that caches its interval after the first 3, of blocks of 1, 4 and 1 deltas.
+fn caching(alloc: Global) -> Result<Buffer<Token>, NoMemory> {
+    let mut buffer = unjoined(alloc, 9)?;
+    warm(&mut buffer, 3)?;
     Ok(buffer)
 }
 
-/// The number of joins of an interval while that after the first 3 is remembered, and after one more delta.
-fn beside_remembered(alloc: Global, from: u64) -> Result<(Option<u64>, Option<u64>), NoMemory> {
-    joins_and_next(remembering(alloc)?, from)
+/// The number of joins of an interval while that after the first 3 is cached, and after one more delta.
+fn beside_cached(alloc: Global, from: u64) -> Result<(Option<u64>, Option<u64>), NoMemory> {
+    joins_and_next(caching(alloc)?, from)
 }
 
 #[test]
-fn remembered_interval_is_copied(rt: HostRuntime) {
-    assert!(rt; beside_remembered(rt.alloc(), 3) == Ok((Some(0), Some(6))));
-    assert!(rt; beside_remembered(rt.alloc(), 2) == Ok((Some(6), Some(7))));
+fn cached_interval_is_copied(rt: HostRuntime) {
+    assert!(rt; beside_cached(rt.alloc(), 3) == Ok((Some(0), Some(2))));
+    assert!(rt; beside_cached(rt.alloc(), 2) == Ok((Some(3), Some(3))));
 }
 
 /// Number of tokens, start of an interval, and its joins before and after one more delta. Only blocks are joined,
@@ -204,14 +223,14 @@ fn pushes_make_the_joins_of_blocks(rt: HostRuntime) {
     }
 }
 
-/// Number of tokens, start of an interval in a lazy log, and its joins before and after one more delta. Each delta is
-/// joined, because nothing was joined before.
-const LAZY: &[(u64, u64, u64, u64)] = &[(9, 0, 8, 9), (300, 45, 254, 255)];
+/// Number of tokens in one call, start of an interval, and its joins before and after one more push. Each delta is
+/// joined, because nothing was joined before, but for the block of the last two that the push joins.
+const UNJOINED: &[(u64, u64, u64, u64)] = &[(9, 0, 8, 8), (10, 0, 9, 10), (300, 45, 254, 255)];
 
 #[test]
-fn lazy_buffers_make_no_joins_of_blocks(rt: HostRuntime) {
-    for (count, from, before, after) in LAZY {
-        let answer = match with_tokens(Buffer::lazy(rt.alloc()), *count) {
+fn several_are_pushed_without_joins_of_blocks(rt: HostRuntime) {
+    for (count, from, before, after) in UNJOINED {
+        let answer = match unjoined(rt.alloc(), *count) {
             Ok(buffer) => joins_and_next(buffer, *from),
             Err(refused) => Err(refused),
         };
@@ -222,38 +241,71 @@ fn lazy_buffers_make_no_joins_of_blocks(rt: HostRuntime) {
     }
 }
 
-/// The joins of an interval in a lazy log that was warmed, and those after one more delta.
-fn warmed(alloc: Global, count: u64, from: u64) -> Result<(Option<u64>, Option<u64>), NoMemory> {
-    let mut buffer = with_tokens(Buffer::lazy(alloc), count)?;
-    buffer.warm()?;
-    joins_and_next(buffer, from)
+/// A log of tokens without joins that was warmed from number `warm_from` on, and again after one more delta if `again`:
+/// the joins that the interval after the first `from` takes before that delta and after it.
+fn warmed(
+    alloc: Global,
+    log: (u64, u64, u64),
+    again: bool,
+) -> Result<(Option<u64>, Option<u64>), NoMemory> {
+    let (count, warm_from, from) = log;
+    let mut buffer = unjoined(alloc, count)?;
+    warm(&mut buffer, warm_from)?;
+    let before = joins(&buffer, from)?;
+    add_unjoined(alloc, &mut buffer, 1)?;
+    if again {
+        warm(&mut buffer, warm_from)?;
+    }
+    Ok((before, joins(&buffer, from)?))
 }
 
+/// Number of tokens, a number from which on the log is warmed, start of an interval, and its joins then, after one more
+/// delta, and after a second warming. The interval that is warmed is cached. Only blocks that lie in it are joined.
+const WARMED: &[(u64, u64, u64, u64, u64, u64)] = &[
+    (9, 0, 0, 0, 2, 0),
+    (9, 4, 4, 0, 2, 0),
+    (9, 4, 3, 2, 3, 2),
+    (9, 4, 0, 5, 6, 5),
+    (9, 9, 0, 8, 9, 9),
+    (300, 45, 45, 0, 8, 0),
+    (300, 45, 46, 6, 7, 7),
+    (300, 43, 45, 254, 255, 255),
+    (7, 0, 0, 0, 3, 0),
+];
+
 #[test]
-fn pushes_make_joins_once_a_lazy_buffer_is_warm(rt: HostRuntime) {
-    for (count, from, before, after) in PUSHED {
-        let answer = warmed(rt.alloc(), *count, *from);
+fn a_warm_buffer_has_the_joins_that_an_interval_needs(rt: HostRuntime) {
+    for (count, warm_from, from, before, after, again) in WARMED {
+        let log = (*count, *warm_from, *from);
+        let once = warmed(rt.alloc(), log, false);
         assert!(rt;
-            answer == Ok((Some(*before), Some(*after))),
-            "{count}, {from}"
+            once == Ok((Some(*before), Some(*after))),
+            "{count}, {warm_from}, {from}"
+        );
+        let twice = warmed(rt.alloc(), log, true);
+        assert!(rt;
+            twice == Ok((Some(*before), Some(*again))),
+            "{count}, {warm_from}, {from}"
         );
     }
 }
 
-/// The maximum of all but the first `from` of eleven numbers in a lazy log that is trimmed. The log is warmed after the
+/// The maximum of all but the first `from` of eleven numbers in a log that is trimmed. The log is warmed after the
 /// ninth, or only after the trim.
 fn greatest_warmed(alloc: Global, to: u64, from: u64, late: bool) -> Result<Option<u64>, NoMemory> {
-    let mut buffer = Buffer::lazy(alloc);
+    let mut buffer = Buffer::new(alloc);
+    let mut numbers = Vec::new(alloc);
     for number in [5u64, 9, 2, 7, 1, 8, 3, 6, 4] {
-        push(&mut buffer, number)?;
+        numbers.push(Max::new(number))?;
     }
+    push_all(&mut buffer, numbers)?;
     if !late {
-        buffer.warm()?;
+        warm(&mut buffer, from)?;
     }
     push(&mut buffer, 2)?;
     push(&mut buffer, 5)?;
     buffer.trim(to);
-    buffer.warm()?;
+    warm(&mut buffer, from)?;
     greatest(&buffer, from)
 }
 
@@ -410,17 +462,9 @@ fn staged_joins(
 }
 
 #[test]
-fn a_committed_delta_makes_the_joins_of_blocks(rt: HostRuntime) {
-    for (count, from, before, after) in PUSHED {
-        let buffer = with_tokens(Buffer::new(rt.alloc()), count.saturating_sub(1));
-        let answer = staged_joins(buffer, *from, true);
-        assert!(rt;
-            answer == Some((Some(*before), Some(*after))),
-            "{count}, {from}"
-        );
-    }
-    for (count, from, before, after) in LAZY {
-        let buffer = with_tokens(Buffer::lazy(rt.alloc()), count.saturating_sub(1));
+fn a_committed_delta_makes_no_joins_of_blocks(rt: HostRuntime) {
+    for (count, from, before, after) in UNJOINED {
+        let buffer = unjoined(rt.alloc(), count.saturating_sub(1));
         let answer = staged_joins(buffer, *from, true);
         assert!(rt;
             answer == Some((Some(*before), Some(*after))),
@@ -430,11 +474,11 @@ fn a_committed_delta_makes_the_joins_of_blocks(rt: HostRuntime) {
 }
 
 #[test]
-fn a_remembered_interval_ends_with_a_commit_only(rt: HostRuntime) {
-    let cancelled = staged_joins(remembering(rt.alloc()), 3, false);
-    assert!(rt; cancelled == Some((Some(0), Some(6))));
-    let committed = staged_joins(remembering(rt.alloc()), 3, true);
-    assert!(rt; committed == Some((Some(6), Some(7))));
+fn a_cached_interval_ends_with_a_commit_only(rt: HostRuntime) {
+    let cancelled = staged_joins(caching(rt.alloc()), 3, false);
+    assert!(rt; cancelled == Some((Some(0), Some(2))));
+    let committed = staged_joins(caching(rt.alloc()), 3, true);
+    assert!(rt; committed == Some((Some(3), Some(4))));
 }
 
 /// The acknowledgement of an origin after two numbers.

@@ -1,4 +1,4 @@
-use Rattle.std.proofs.Common.{◌+◌, ◌-◌, ◌*◌, ◌%◌, ◌^◌, take, drop, sym, subst, arith}
+use Rattle.std.proofs.Common.{◌-◌, ◌^◌, take, drop, sym, subst, arith}
 use Rattle.dac_deltas.specs.BlockEnds.{IsJoinOfDeltas, deltas_of}
 use Rattle.dac_deltas.proofs.Joining.{shorter_fits, block_there}
 use Rattle.dac_deltas.proofs.blocks.longest_joined.Goals as goal

@@ -1,4 +1,4 @@
-use Rattle.std.specs.Prelude.{IfSome, slice_set, length}
+use Rattle.std.specs.Prelude.{IfSome, slice_set}
 use Rattle.std.proofs.Common.{List, ap, subst, ◌∙◌, arith}
 use Rattle.dac_deltas.specs.BlockEnds.{IsNextJoin}
 use Rattle.dac_deltas.proofs.Levels.{below_longest}

@@ -13,6 +13,3 @@ returns-clause-effect c = λ t.
 
 pub returns-clause-after : goal.returns-clause-after
 returns-clause-after c = ap (λ (x : ChangeValue). after_from_base c.args.running.now x.after) c.in_ok-change.ensures ∙ c.in_ok-after.ensures.after
-
-pub returns-clause-reply : goal.returns-clause-reply
-returns-clause-reply c = ap (λ (x : ChangeValue). x.reply) c.in_ok-change.ensures ∙ ap (λ b. Heard b) c.in_ok-after.ensures.fresh

@@ -1,4 +1,4 @@
-use Rattle.std.proofs.Common.{[], refl, ap}
+use Rattle.std.proofs.Common.{refl, ap}
 use Rattle.dac_messages.specs.declared.message.Message.{Message}
 use Rattle.dac_messages.specs.declared.event.Event.TheVariants.{Ship}
 use Rattle.dac_messages.specs.declared.reply.Reply.TheVariants.{Shipped}

@@ -21,7 +21,7 @@ returns-clause-fits c =
     let change = c.in_ok-hear_op.field-0 in
     let last = c.self.inside.last in
     subst (λ (v : NodeValue). Fits v change) c.self.view_is
-    (subst (λ running. Fits (record { last = last; running = running }) change) (sym c.in-Some.is) (hear_op_fits last c.in-Some.running c.args.operation.now _ change (sym c.in_default-refusal_to_hear_op.ensures) c.tells_invariant.ensures.countable c.in_ok-hear_op.ensures.after c.in_ok-hear_op.ensures.reply))
+    (subst (λ running. Fits (record { last = last; running = running }) change) (sym c.in-Some.is) (hear_op_fits last c.in-Some.running c.args.operation.now change (sym c.in_default-refusal_to_hear_op.ensures) c.tells_invariant.ensures.countable c.in_ok-hear_op.ensures.after))
 
 pub covers_by_dot-is_known-requires : goal.covers_by_dot-is_known-requires
 covers_by_dot-is_known-requires c =
