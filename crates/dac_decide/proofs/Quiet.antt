@@ -1,5 +1,5 @@
 -- A note changes nothing if no timer runs and no claim is lost in its state.
-use Rattle.std.proofs.Common.{◌≡◌, ℕ, zero, suc, add-one, ◌+◌, ◌<◌, true, false, Bool, not, List, [], ◌∷◌, ◌++◌, Option, Some, None, subst, refl, sym, ap, ◌∙◌, arith}
+use Rattle.std.proofs.Common.{◌≡◌, ℕ, zero, suc, add-one, ◌+◌, ◌<◌, true, false, Bool, not, List, [], ◌∷◌, ◌++◌, Option, Some, None, subst, refl, sym, ◌∙◌, arith}
 use Rattle.std.specs.Prelude.{nat_lt, is_some, option_map, if◌then◌else◌}
 use Rattle.std.specs.Option.{option_map_or, option_and_then}
 use Rattle.std.specs.FinMap as map
@@ -9,7 +9,6 @@ use Rattle.dac_base.specs.declared.NodeId.{NodeId}
 use Rattle.dac_config.specs.Table.{Table, app_count}
 use Rattle.dac_chains.specs.declared.claims.Claim.{Claim}
 use Rattle.dac_placement.specs.StateValue.{StateValue}
-use Rattle.dac_placement.specs.declared.standing.Standing.{Standing}
 use Rattle.dac_placement.specs.declared.standing.Standing.TheVariants.{Lost, Stopped, Barred, Upheld, Unclaimed}
 use Rattle.dac_placement.specs.Placement.{standing_at, standing_of, is_up, is_started_at, is_allowed_at, key_of}
 use Rattle.dac_board.specs.Boards.{is_lost_at}

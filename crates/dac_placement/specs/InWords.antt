@@ -11,7 +11,7 @@ use Rattle.dac_base.specs.declared.NodeId.{NodeId}
 use Rattle.dac_base.specs.declared.AppId.{AppId}
 use Rattle.dac_config.specs.Table.{Table, node_count, app_count, group_of, default_permission}
 use Rattle.dac_state.specs.StateValue.{StateValue, permissions_of}
-use Rattle.dac_placement.specs.Placement.{holder_of, key_at, key_of, IsUp, IsStartedAt, IsDrainedAt, IsEligible, is_eligible, EachEligible, IsEarlier, RunsAt, runs_at, runner_of, IsOneOf, AreDistinct, IsFirst, first_choice, IsStanding, standing_of, IsVerdict, verdict_of, candidate_of}
+use Rattle.dac_placement.specs.Placement.{holder_of, key_at, key_of, IsUp, IsPermittedAt, IsStartedAt, IsDrainedAt, IsEligible, is_eligible, EachEligible, IsEarlier, RunsAt, runs_at, runner_of, IsOneOf, AreDistinct, IsFirst, first_choice, IsStanding, standing_of, IsVerdict, verdict_of, candidate_of}
 
 -- eligibility
 abbrev pub EligibleInWords : Type 0
@@ -109,3 +109,17 @@ FewestRun = (table : Table) (s : StateValue) (app : AppId) (n m : NodeId) (here 
     → candidate_of (verdict_of table s app) ≡ Some n → m.0 < node_count table → IsEligible table s app m
     → group_of table app m ≡ group_of table app n → AreDistinct here → RunThere table s app n here
     → HaveAllThere table s app m there → length here ≤ length there
+
+-- At equal loads the lesser name wins: an eligible node of the candidate's group that runs no more other applications
+-- than the candidate doesn't precede it by name. All that run at the other node are at most as many as distinct ones
+-- that run at the candidate.
+abbrev pub LesserNameWins : Type 0
+LesserNameWins = (table : Table) (s : StateValue) (app : AppId) (n m : NodeId) (here there : List AppId)
+    → candidate_of (verdict_of table s app) ≡ Some n → m.0 < node_count table → IsEligible table s app m
+    → group_of table app m ≡ group_of table app n → AreDistinct here → RunThere table s app n here
+    → HaveAllThere table s app m there → length there ≤ length here → n.0 ≤ m.0
+
+-- An application runs only where it is permitted and was started.
+abbrev pub OnlyAllowedRun : Type 0
+OnlyAllowedRun = (table : Table) (s : StateValue) (app : AppId) (node : NodeId) (inc : ℕ) → IsLive s.lives node inc
+    → RunsAt table s app node → IsPermittedAt table s (key_at app node inc) × IsStartedAt s (key_at app node inc)

@@ -10,6 +10,7 @@ use dac_state::{Key, State};
 /// Whether a node is eligible for an application: the application's list names it, and it is live at an incarnation
 /// that isn't drained, and at which the application is permitted and started. After OTP's kernel manual, parameters
 /// `distributed` and `permissions`, and application(3), `permit` and `start`.
+#[inline(always)]
 pub fn eligible(config: &Config, state: &State, app: AppId, node: NodeId) -> bool
     requires { app.0 < app_count config.now }
     ensures value { result ≡ is_eligible config.now state.now app node }
@@ -36,6 +37,7 @@ fn is_wanted(config: &Config, state: &State, key: Key) -> bool
 }
 
 /// Whether the application is allowed at this incarnation: it is permitted there, and the incarnation isn't drained.
+#[inline(always)]
 pub fn is_allowed(config: &Config, state: &State, key: Key) -> bool
     requires { key.app.0 < app_count config.now }
     ensures value { result ≡ is_allowed_at config.now state.now key }

@@ -14,7 +14,7 @@ use Rattle.dac_state.specs.PermissionsValue.{IsPermitted, NoneStands, SomePermit
 use Rattle.dac_origins.specs.declared.dot.Origin.{Origin}
 use Rattle.dac_placement.specs.declared.verdicts.Verdict.TheVariants.{Takeover}
 use Rattle.dac_placement.specs.Placement.{key_at, IsAllowedAt, IsEligible, IsVerdict, verdict_of}
-use Rattle.dac_placement.specs.InWords.{FileCounts, NoneBefore, FromLater, FewestRun}
+use Rattle.dac_placement.specs.InWords.{FileCounts, NoneBefore, FromLater, FewestRun, LesserNameWins}
 use Rattle.dac_placement.specs.laws.Judged.{verdict_in_words}
 use Rattle.dac_placement.specs.laws.Rests.{candidate_is}
 use Rattle.dac_placement.specs.laws.Loads.{no_longer}
@@ -80,3 +80,20 @@ fewest_run table s app n m here there claims lt may level distinct run all =
 
     fits : (a b c d x y : ℕ) → a ≤ b → c ≤ d → x ≡ b → y ≡ c → x ≤ y → a ≤ d
     fits a b c d x y p q r t u = omega arith
+
+pub lesser_name_wins : LesserNameWins
+lesser_name_wins table s app n m here there claims lt may level distinct run all short =
+    let prefers = (candidate_is table s app n claims).preferred m lt may level in
+    let mine = no_longer here prefers.of_n.apps distinct (λ b i. (prefers.of_n.each b).1 (run b i)) in
+    let yours = no_longer prefers.of_m.apps there prefers.of_m.distinct (λ b i. let r = (prefers.of_m.each b).0 i in all b r.0 r.1 r.2) in
+    by_name prefers.load prefers.other n.0 m.0 prefers.less (at_most (length here) (length prefers.of_n.apps) (length prefers.of_m.apps) (length there) prefers.load prefers.other mine yours prefers.of_n.count prefers.of_m.count short)
+  where
+    at_most : (a b c d x y : ℕ) → a ≤ b → c ≤ d → x ≡ b → y ≡ c → d ≤ a → y ≤ x
+    at_most a b c d x y p q r t u = omega arith
+
+    never : (x y : ℕ) → x < y → y ≤ x → ⊥
+    never x y p q = omega arith
+
+    by_name : (x y k l : ℕ) → (x < y) ⊎ ((x ≡ y) × (k ≤ l)) → y ≤ x → k ≤ l
+    by_name x y k l (inl less) most = absurd (never x y less most)
+    by_name x y k l (inr same) most = same.1

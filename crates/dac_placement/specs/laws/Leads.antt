@@ -1,5 +1,5 @@
 -- A node that leads alone is the first choice, whatever the loads are.
-use Rattle.std.proofs.Common.{◌≡◌, ℕ, ◌+◌, ◌<◌, ◌≤◌, Bool, true, false, cond, Option, Some, None, refl, sym, ap, subst, ◌∙◌, arith, inl, inr, below_more}
+use Rattle.std.proofs.Common.{◌≡◌, ℕ, ◌+◌, ◌<◌, ◌≤◌, Bool, true, false, cond, Option, Some, None, refl, sym, ap, subst, ◌∙◌, arith, inr, below_more}
 use Rattle.std.specs.Prelude.{◌==◌, nat_lt, is_some}
 use Rattle.std.proofs.lemmas.Bool.{true≢false, false≢true, eqb-true, eq-eqb, ltb-true, ltb-false}
 use Rattle.dac_base.specs.declared.NodeId.{NodeId}
@@ -7,7 +7,7 @@ use Rattle.dac_base.specs.declared.AppId.{AppId}
 use Rattle.dac_config.specs.Table.{Table, node_count, group_of}
 use Rattle.dac_state.specs.StateValue.{StateValue}
 use Rattle.dac_placement.specs.declared.leading.Lead.{Lead}
-use Rattle.dac_placement.specs.Placement.{IsEligible, is_eligible, load_of, IsPreferred, IsFirst, first_choice}
+use Rattle.dac_placement.specs.Placement.{IsEligible, is_eligible, IsPreferred, IsFirst, first_choice}
 use Rattle.dac_placement.specs.Leads.{IsLead, Leads, group_if, beside, lead_with}
 use Rattle.dac_placement.specs.laws.Tests.{eligible_is}
 use Rattle.dac_placement.specs.laws.Loads.{preferred_is}

@@ -12,7 +12,7 @@ use Rattle.dac_state.specs.StateValue.{StateValue}
 use Rattle.dac_placement.specs.declared.standing.Standing.{Standing}
 use Rattle.dac_placement.specs.declared.standing.Standing.TheVariants.{Unclaimed, Lost, Stopped, Barred, Upheld}
 use Rattle.dac_placement.specs.declared.verdicts.Verdict.TheVariants.{Takeover, Kept}
-use Rattle.dac_placement.specs.Placement.{IsDrainedAt, RunsAt, is_earlier, IsFirst, first_choice, standing_of, verdict_by, verdict_of, candidate_of}
+use Rattle.dac_placement.specs.Placement.{IsPermittedAt, IsStartedAt, key_at, IsDrainedAt, RunsAt, is_earlier, IsFirst, first_choice, standing_of, verdict_by, verdict_of, candidate_of}
 use Rattle.dac_placement.specs.InWords.{Rests}
 use Rattle.dac_placement.specs.laws.FirstChoice.{first_is}
 use Rattle.dac_placement.specs.laws.Judged.{IsChoice, earlier_if, none_earlier}
@@ -87,3 +87,10 @@ module _ (table : Table) (s : StateValue) (app : AppId) where
   drained_runs_nothing n inc live drained r =
       let same = same_inc inc r.eligible.inc _ ((live_is s.lives n inc).1 live) ((live_is s.lives n r.eligible.inc).1 r.eligible.live) in
       r.eligible.allowed.1 (subst (λ i. IsDrainedAt s n i) same drained)
+
+  -- ---- only allowed applications run
+
+  pub only_allowed_run : (n : NodeId) (inc : ℕ) → IsLive s.lives n inc → RunsAt table s app n → IsPermittedAt table s (key_at app n inc) × IsStartedAt s (key_at app n inc)
+  only_allowed_run n inc live r =
+      let same = same_inc r.eligible.inc inc _ ((live_is s.lives n r.eligible.inc).1 r.eligible.live) ((live_is s.lives n inc).1 live) in
+      (subst (λ i. IsPermittedAt table s (key_at app n i)) same r.eligible.allowed.0, subst (λ i. IsStartedAt s (key_at app n i)) same r.eligible.started)

@@ -4,7 +4,7 @@ use Rattle.dac_decide.specs.laws.Due.{due_to_words}
 use Rattle.dac_decide.specs.laws.AllUp.{opening_is}
 use Rattle.dac_decide.specs.laws.Kept.{length_waits, kept_is}
 use Rattle.dac_decide.specs.laws.FailsOver.{lost_fails_over}
-use Rattle.dac_decide.specs.laws.Early.{not_without_mandatory, not_before}
+use Rattle.dac_decide.specs.laws.Early.{not_without_mandatory, not_before, begins_anew, returns_at_once, gives_up_late}
 use Rattle.dac_decide.proofs.laws.waits_in_words.Goals as goal
 
 pub returns-clause-lost : goal.returns-clause-lost
@@ -30,3 +30,12 @@ returns-clause-missing c = not_without_mandatory
 
 pub returns-clause-not_before : goal.returns-clause-not_before
 returns-clause-not_before c = not_before
+
+pub returns-clause-anew : goal.returns-clause-anew
+returns-clause-anew c = begins_anew
+
+pub returns-clause-returns : goal.returns-clause-returns
+returns-clause-returns c = returns_at_once
+
+pub returns-clause-gives_up : goal.returns-clause-gives_up
+returns-clause-gives_up c = gives_up_late

@@ -2,9 +2,9 @@ use Rattle.dac_placement.specs.laws.Tests.{eligible_is, runs_is, runner_is}
 use Rattle.dac_placement.specs.laws.Standing.{standing_is}
 use Rattle.dac_placement.specs.laws.FirstChoice.{first_is}
 use Rattle.dac_placement.specs.laws.Judged.{verdict_in_words}
-use Rattle.dac_placement.specs.laws.Rests.{candidate_is, rests_is, drained_runs_nothing}
+use Rattle.dac_placement.specs.laws.Rests.{candidate_is, rests_is, drained_runs_nothing, only_allowed_run}
 use Rattle.dac_placement.specs.laws.Stopped.{stopped_stays}
-use Rattle.dac_placement.specs.laws.ByFile.{file_counts, none_before, from_later, fewest_run}
+use Rattle.dac_placement.specs.laws.ByFile.{file_counts, none_before, from_later, fewest_run, lesser_name_wins}
 use Rattle.dac_placement.proofs.laws.placement_in_words.Goals as goal
 
 pub returns-clause-eligible : goal.returns-clause-eligible
@@ -48,3 +48,9 @@ returns-clause-from_later c = from_later
 
 pub returns-clause-fewest : goal.returns-clause-fewest
 returns-clause-fewest c = fewest_run
+
+pub returns-clause-ties : goal.returns-clause-ties
+returns-clause-ties c = lesser_name_wins
+
+pub returns-clause-allowed : goal.returns-clause-allowed
+returns-clause-allowed c = only_allowed_run

@@ -1,4 +1,4 @@
-use Rattle.std.proofs.Common.{sym, ◌∙◌}
+use Rattle.std.proofs.Common.{sym}
 use Rattle.dac_placement.specs.laws.Leads.{alone_decides, nobody_leads}
 use Rattle.dac_placement.proofs.ranking.first_choice.Goals as goal
 
