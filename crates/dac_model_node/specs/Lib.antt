@@ -7,6 +7,7 @@ pub mod Accepted
 pub mod Shipping
 pub mod Hearing
 pub mod Refused
+pub mod RefusedInOrder
 pub mod Writing
 pub mod Keeping
 pub mod Dropping

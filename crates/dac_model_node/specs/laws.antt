@@ -4,6 +4,7 @@ pub mod Heard
 pub mod Tests
 pub mod Positions
 pub mod Refused
+pub mod RefusedInOrder
 pub mod Counters
 pub mod Numbers
 pub mod Writing

@@ -1,5 +1,6 @@
 //! The laws of refusals, ticks, ships and dropped deltas, each as a clause of a function that does nothing.
 ghost use Rattle.dac_model_node.specs.Refused.{RefusesForTheLeast, RefusesNoOther, NeverRefusesForMemory};
+ghost use Rattle.dac_model_node.specs.RefusedInOrder.{OffComesFirst, StrangersAreNamed, OwnIsOnSelf, OthersAreNotForMe, TimeRuns};
 ghost use Rattle.dac_model_node.specs.Again.{SecondTickClaimsNothing};
 ghost use Rattle.dac_model_node.specs.Shipping.{ShipsInWords};
 ghost use Rattle.dac_model_node.specs.Dropping.{DropsInWords};
@@ -13,6 +14,16 @@ pub fn refusals_in_words()
     ensures least { RefusesForTheLeast }
     ensures free { RefusesNoOther }
     ensures memory { NeverRefusesForMemory }
+    // Which refusal an event gets, said again without the table: first whether the node is off, or was declared down.
+    ensures off { OffComesFirst }
+    // Then whether the configuration, the application's list and the state have what a command or a ship names.
+    ensures strangers { StrangersAreNamed }
+    // Messages of the node's own are refused as such, in whatever life and for whomever.
+    ensures own { OwnIsOnSelf }
+    // Messages of others are refused exactly if they are for another receiver.
+    ensures addressed { OthersAreNotForMe }
+    // Ticks are refused if their moments are earlier, and not if they are equal.
+    ensures moments { TimeRuns }
 {}
 
 /// After a node's pass over its applications, a second tick at the same moment claims nothing.

@@ -106,20 +106,20 @@ module _ (H : Refusal → Type 0) where
 
 -- ---- each test in words
 
-at_least : (a b : ℕ) → (nat_le a b ≡ true) ↔ (a ≤ b)
+pub at_least : (a b : ℕ) → (nat_le a b ≡ true) ↔ (a ≤ b)
 at_least a b = (leb-true a b, le-leb a b)
 
-less : (a b : ℕ) → (nat_lt a b ≡ true) ↔ (a < b)
+pub less : (a b : ℕ) → (nat_lt a b ≡ true) ↔ (a < b)
 less a b = (ltb-true a b, lt-ltb a b)
 
 fails : {X : Type 0} (b : Bool) → ((b ≡ true) ↔ X) → (not b ≡ true) ↔ (¬ X)
 fails true e = (λ no. absurd (false≢true no), λ no. absurd (no (e.0 refl)))
 fails false e = (λ _ x. false≢true (e.1 x), λ _. refl)
 
-same_node : (m n : NodeId) → (nat_eq m.0 n.0 ≡ true) ↔ (m ≡ n)
+pub same_node : (m n : NodeId) → (nat_eq m.0 n.0 ≡ true) ↔ (m ≡ n)
 same_node m n = (λ e. let number = eqb-true m.0 n.0 e in λ i. record { 0 = number i }, λ e. eq-eqb m.0 n.0 (ap (λ (x : NodeId). x.0) e))
 
-is_for_is : (own : Origin) (m : Message) → (is_for own m ≡ true) ↔ IsFor own m
+pub is_for_is : (own : Origin) (m : Message) → (is_for own m ≡ true) ↔ IsFor own m
 is_for_is own m = (
   λ e. let both = and_parts (nat_eq m.to.0 own.node.0) (for_all m.only) e in ((same_node m.to own.node).0 both.0, only_if m.only both.1),
   λ is. and_both ((same_node m.to own.node).1 is.0) (if_only m.only is.1),
@@ -163,11 +163,11 @@ one_list [] true b why = refl
 one_list [] false b why = refl
 one_list (c ∷ cs) a b why = one_more_cause c.0 c.1 (first (cs ++ (a, why) ∷ [])) (first (cs ++ (a || b, why) ∷ [])) (first ((b, why) ∷ [])) (one_list cs a b why)
 
-is_missing : {X : Type 0} (o : Option X) → (not (is_some o) ≡ true) ↔ (o ≡ None)
+pub is_missing : {X : Type 0} (o : Option X) → (not (is_some o) ≡ true) ↔ (o ≡ None)
 is_missing None = (λ _. refl, λ _. refl)
 is_missing (Some x) = (λ e. absurd (false≢true e), λ e. absurd (true≢false (ap is_some e)))
 
-not_live_is : (s : StateValue) (node : NodeId) → (not_live s node ≡ true) ↔ ((inc : ℕ) → ¬ IsLive s.lives node inc)
+pub not_live_is : (s : StateValue) (node : NodeId) → (not_live s node ≡ true) ↔ ((inc : ℕ) → ¬ IsLive s.lives node inc)
 not_live_is s node = (
   λ e inc up. false≢true (sym (ap is_some ((is_missing (live_at s.lives node)).0 e)) ∙ ap is_some ((live_is s.lives node inc).1 up)),
   λ none. by_live (live_at s.lives node) refl none,
@@ -177,7 +177,7 @@ not_live_is s node = (
     by_live None e none = refl
     by_live (Some inc) e none = absurd (none inc ((live_is s.lives node inc).0 e))
 
-declared_down_is : (own : Origin) (s : StateValue) → (declared_down own s ≡ true) ↔ (¬ IsLive s.lives own.node own.inc)
+pub declared_down_is : (own : Origin) (s : StateValue) → (declared_down own s ≡ true) ↔ (¬ IsLive s.lives own.node own.inc)
 declared_down_is own s = fails (is_up s own) (up_is s own)
 
 is_on : {X : Type 0} (x : X) → (false ≡ true) ↔ (◌≡◌ {A = Option X} (Some x) None)
