@@ -4,6 +4,7 @@ use Rattle.dac_script.specs.Words.{words_of}
 use Rattle.dac_script.specs.Forms.{HasWords, Spells}
 use Rattle.dac_script.specs.LineFaults.{HasFault}
 use Rattle.dac_script.specs.Script.{IsAcceptedInWords, IsExact}
+use Rattle.dac_script.specs.OwnWords.{OnlyCommentsAreSkipped}
 
 -- the words of a line are separated by its spaces
 abbrev pub WordsInWords : Type 0
@@ -16,3 +17,7 @@ LinesInWords = IsExact Spells HasFault
 -- a line is read as a value exactly if it spells it
 abbrev pub AcceptedInWords : Type 0
 AcceptedInWords = IsAcceptedInWords Spells HasFault
+
+-- which lines are skipped
+abbrev pub CommentsInWords : Type 0
+CommentsInWords = OnlyCommentsAreSkipped Spells HasFault

@@ -12,6 +12,7 @@ pub mod Failures
 pub mod Inputs
 pub mod Limits
 pub mod Forms
+pub mod OwnWords
 pub mod InWords
 pub mod LiveCallers
 pub mod LiveFaults

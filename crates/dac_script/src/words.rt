@@ -63,6 +63,7 @@ fn quoted_name(word: &[u8]) -> Option<&[u8]>
 }
 
 /// The name of an atom, bare or quoted, in Erlang's syntax.
+#[inline(always)]
 pub fn name_in(word: &[u8]) -> Option<&[u8]>
     ensures { option_map (λ name. name.now) result ≡ name_in word.now }
 {

@@ -2,11 +2,13 @@
 use Rattle.std.proofs.Common.{◌≡◌, ◌≢◌, ℕ, ◌<◌, Bool, false, not, List, [], ◌∷◌, ◌++◌, length, filter, All, ◌==◌, refl, sym, ap, subst, ◌∙◌, arith, inl, inr, append_assoc, append-nil}
 use Rattle.std.specs.List.{slice_split}
 use Rattle.std.proofs.lemmas.Bool.{cases_eq, cond-true, eq-eqb, ne_eqb, not_from_false}
-use Rattle.std.proofs.lemmas.List.Elements.{All-cons, All-head, All-nil, All-push, All-tail, All-weaker}
+use Rattle.std.proofs.lemmas.List.Elements.{All-cons, All-head, All-nil, All-push, All-tail, All-weaker, filter-append}
 use Rattle.std.proofs.lemmas.List.Splits.{slice_split-cons_yes, slice_split_at, slice_split_none}
 use Rattle.dac_script.specs.Words.{words_of}
 use Rattle.dac_script.specs.Forms.{AreSpaces, IsWord, EndsWord, HasWords}
 use Rattle.dac_script.specs.InWords.{WordsInWords}
+use Rattle.dac_script.specs.OwnWords.{OnlySpacesSeparate}
+use Rattle.dac_script.specs.laws.Splits.{split_append}
 
 abbrev is_space : ℕ → Bool
 is_space b = b == 32
@@ -87,3 +89,14 @@ words_in_words words line = (
   λ same. subst (λ (ws : List (List ℕ)). HasWords ws line) same (stand [] line (All-nil (λ b. b ≢ 32))),
   words_read words line,
 )
+
+-- ---- only spaces separate words
+
+pub only_spaces : OnlySpacesSeparate
+only_spaces = record {
+  none = refl;
+  one = λ line some none. ap (filter is_filled) (slice_split_none is_space line (no_splits line none)) ∙ kept line [] some;
+  more = λ before after.
+      ap (filter is_filled) (split_append is_space before 32 after refl)
+      ∙ filter-append is_filled (slice_split is_space before) (slice_split is_space after);
+}
