@@ -7,3 +7,5 @@ mod Heads
 mod Transitions
 mod Runs
 mod ReadAgain
+mod WorkedState
+mod WorkedRun

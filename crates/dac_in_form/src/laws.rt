@@ -3,6 +3,8 @@ ghost use Rattle.dac_in_form.specs.HeldForm.{HeldAreInForm};
 ghost use Rattle.dac_in_form.specs.InForm.{MeaningsAreInForm};
 ghost use Rattle.dac_in_form.specs.Issued.{RunIsInForm};
 ghost use Rattle.dac_in_form.specs.ReadAgain.{EachRunIsRead};
+ghost use Rattle.dac_in_form.specs.WorkedRun.{RunsCanFit};
+ghost use Rattle.dac_in_form.specs.WorkedState.{StatesCanFit};
 ghost use Rattle.dac_model_world.specs.ModelWorld.{InEachRun};
 
 use dac_config::Config;
@@ -48,3 +50,11 @@ pub fn runs_are_read(config: &Config)
     parts_have_one_spelling(config);
     states_have_one_spelling(config);
 }
+
+/// The premises about counts can be met, so that the laws above aren't vacuous.
+pub fn states_can_fit()
+    // Two nodes are up, an application is started and forbidden at one of them, and the other one is drained.
+    ensures set { StatesCanFit }
+    // In a run from the start a node boots, and ships its whole state to another.
+    ensures run { RunsCanFit }
+{}
