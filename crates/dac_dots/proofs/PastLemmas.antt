@@ -1,14 +1,15 @@
 -- The counters of the spans that begin above a number, index by index.
-use Rattle.std.proofs.Common.{◌≡◌, ℕ, zero, suc, ◌+◌, ◌-◌, ◌<◌, ◌≤◌, Bool, true, false, cond, ◌||◌, ◌&&◌, nat_lt, nat_eq, List, [], ◌∷◌, ◌++◌, length, drop, get_or, Some, refl, sym, ap, ◌∙◌, arith, add-one}
+use Rattle.std.proofs.Common.{◌≡◌, ℕ, zero, suc, ◌+◌, ◌-◌, ◌<◌, ◌≤◌, Bool, true, false, cond, if◌then◌else◌, ◌||◌, ◌&&◌, nat_lt, nat_eq, List, [], ◌∷◌, ◌++◌, length, drop, get_or, Option, Some, None, refl, sym, ap, ◌∙◌, arith, add-one}
 use Rattle.std.specs.Ordering.{nat_cmp, eq_by_cmp}
 use Rattle.std.specs.List.{slice_get}
-use Rattle.std.proofs.lemmas.Bool.{and_from, ltb-true}
+use Rattle.std.proofs.lemmas.Bool.{and_from, ltb-true, lt-ltb, le-ltb}
 use Rattle.std.proofs.lemmas.List.Folds.{list_any-append}
 use Rattle.dac_origins.specs.Keys.{is_below_all, IsRising, has_key}
 use Rattle.dac_dots.specs.Rows.{further_of, reach_of}
-use Rattle.dac_dots.specs.Spans.{from_on, counters_of_span, counters_in, span_has, any_above, are_apart, past}
+use Rattle.dac_dots.specs.Spans.{from_on, counters_of_span, counters_in, span_has, any_above, are_apart, past, rest_of}
+use Rattle.dac_dots.specs.Walking.{counters_along, counters_left}
 use Rattle.dac_dots.specs.declared.spans.Span.{Span}
-use Rattle.dac_dots.proofs.SpanLemmas.{has_span, below_append, below_span, rising_after, apart_first, further_is, zero_alone}
+use Rattle.dac_dots.proofs.SpanLemmas.{has_span, below_append, below_span, rising_after, apart_first, apart_from, not_less, upto_first, upto_later, further_is, zero_alone}
 
 -- ---- index by index
 
@@ -164,3 +165,60 @@ behind_zero spans h now view has i j e =
 
 pub without_zero : (spans : List Span) → are_apart 0 spans ≡ true → (now : List ℕ) → counters_in spans ≡ now → has_key nat_cmp now 0 ≡ false → (i : ℕ) → slice_get (further_of (reach_of now) now) i ≡ slice_get (past (reach_of now) spans) i
 without_zero spans h now view none i = ap (λ ns. slice_get ns i) (sym (further_parts spans h now view)) ∙ ap (λ b. slice_get (zero_if b ++ past (reach_of now) spans) i) none
+
+-- ---- the spans that an iterator goes along
+
+past_all : (u low : ℕ) (spans : List Span) → u < low → are_apart low spans ≡ true → past u spans ≡ counters_along spans
+unfolding counters_of_span
+past_all u low [] p h = refl
+past_all u low (span ∷ spans) p h =
+    let is = apart_first low span spans h in
+    let begins = is.0 in
+    let ends = is.1.0 in
+    let long : span.last + 1 - span.first ≡ suc (span.last - span.first) = omega arith in
+    ap (λ b. cond b (counters_of_span span) [] ++ past u spans) (lt-ltb u span.first (omega arith))
+    ∙ (λ i. from_on span.first (long i) ++ past_all u (span.last + 2) spans (omega arith) is.1.1 i)
+
+-- by the first span
+pub past_first : (first : Span) (rest : List Span) → are_apart 0 (first ∷ rest) ≡ true → (now : List ℕ) → counters_in (first ∷ rest) ≡ now → first.first ≤ 1 → past (reach_of now) (first ∷ rest) ≡ counters_along rest
+past_first first rest h now view low =
+    let is = apart_first 0 first rest h in
+    ap (λ u. past u (first ∷ rest)) (sym (upto_first (first ∷ rest) h now view first (omega arith) refl low))
+    ∙ ap (λ b. cond b (counters_of_span first) [] ++ past first.last rest) (le-ltb first.last first.first is.1.0)
+    ∙ past_all first.last (first.last + 2) rest (omega arith) is.1.1
+
+pub past_later : (first : Span) (rest : List Span) → are_apart 0 (first ∷ rest) ≡ true → (now : List ℕ) → counters_in (first ∷ rest) ≡ now → 1 < first.first → past (reach_of now) (first ∷ rest) ≡ counters_along (first ∷ rest)
+past_later first rest h now view high =
+    let is = apart_first 0 first rest h in
+    ap (λ u. past u (first ∷ rest)) (sym (upto_later (first ∷ rest) h now view first (omega arith) refl high))
+    ∙ past_all 0 first.first (first ∷ rest) (omega arith) (apart_from first.first first rest (omega arith) is.1.0 is.1.1)
+
+pub past_none : (u : ℕ) (spans : List Span) → length spans ≡ 0 → past u spans ≡ counters_along spans
+past_none u [] e = refl
+past_none u (span ∷ spans) e = absurd (omega arith)
+
+pub begins_with_zero : (has : Bool) (spans : List Span) → has ≡ true → counters_left (Some (record { first = 0; last = 0 })) spans ≡ zero_if has ++ counters_along spans
+unfolding from_on
+begins_with_zero has spans e = ap (λ b. zero_if b ++ counters_along spans) (sym e)
+
+pub begins_later : (has : Bool) (spans : List Span) → has ≡ false → counters_left None spans ≡ zero_if has ++ counters_along spans
+begins_later has spans e = ap (λ b. zero_if b ++ counters_along spans) (sym e)
+
+pub walk_is : (spans : List Span) → are_apart 0 spans ≡ true → (now : List ℕ) → counters_in spans ≡ now → (begun : Option Span) (rest : List Span) → past (reach_of now) spans ≡ counters_along rest
+    → counters_left begun rest ≡ zero_if (has_key nat_cmp now 0) ++ counters_along rest → counters_left begun rest ≡ further_of (reach_of now) now
+walk_is spans h now view begun rest along begins = begins ∙ ap (λ l. zero_if (has_key nat_cmp now 0) ++ l) (sym along) ∙ further_parts spans h now view
+
+-- the first counter of a span, and those that remain after it
+pub after_first : (span : Span) (spans : List Span) → counters_along (span ∷ spans) ≡ span.first ∷ counters_left (rest_of span) spans
+unfolding from_on
+after_first span spans = ap (λ ns. span.first ∷ ns) (elim (nat_lt span.first span.last) as (λ b. nat_lt span.first span.last ≡ b → from_on (suc span.first) (span.last - span.first) ++ counters_along spans ≡ counters_left (if b then Some (record { first = span.first + 1; last = span.last }) else None) spans) [
+  | true ↦ λ e.
+      let more = ltb-true span.first span.last e in
+      let next : suc span.first ≡ span.first + 1 = omega arith in
+      let left : span.last - span.first ≡ suc (span.last - (span.first + 1)) = omega (arith, more) in
+      (λ i. from_on (next i) (left i) ++ counters_along spans)
+  | false ↦ λ e.
+      let last : span.last ≤ span.first = not_less e in
+      let none : span.last - span.first ≡ 0 = omega (arith, last) in
+      ap (λ k. from_on (suc span.first) k ++ counters_along spans) none
+] refl)

@@ -228,7 +228,7 @@ get_or_same [] i d e p = absurd (omega arith)
 get_or_same (span ∷ spans) zero d e p = refl
 get_or_same (span ∷ spans) (suc i) d e p = get_or_same spans i d e (omega arith)
 
-not_less : {a b : ℕ} → nat_lt a b ≡ false → b ≤ a
+pub not_less : {a b : ℕ} → nat_lt a b ≡ false → b ≤ a
 not_less {a} {b} e = grind (arith, nat_tests)
 
 less_from : (a b c : ℕ) → a ≤ b → nat_lt b c ≡ true → nat_lt a c ≡ true

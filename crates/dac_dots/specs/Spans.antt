@@ -1,5 +1,5 @@
 -- Spans of consecutive counters.
-use Rattle.std.specs.Prelude.{◌≡◌, ℕ, zero, suc, ◌+◌, ◌-◌, ◌≤◌, min, max, nat_le, nat_lt, ◌&&◌, Bool, true, false, cond, List, [], ◌∷◌, ◌++◌, length}
+use Rattle.std.specs.Prelude.{◌≡◌, ℕ, zero, suc, ◌+◌, ◌-◌, ◌≤◌, min, max, nat_le, nat_lt, ◌&&◌, Bool, true, false, cond, if◌then◌else◌, Option, Some, None, List, [], ◌∷◌, ◌++◌, length}
 use Rattle.std.specs.List.{flat_map, list_any, AllByRecursion, AllWithin}
 use Rattle.dac_dots.specs.declared.spans.Span.{Span}
 use Rattle.dac_dots.specs.declared.spans.Spans.{Spans}
@@ -59,6 +59,10 @@ HaveEnded spans place n = AllWithin (λ (span : Span). nat_lt span.last n ≡ tr
 -- the least span that contains both
 abbrev pub hull : Span → Span → Span
 hull a b = record { first = min a.first b.first; last = max a.last b.last }
+
+-- the span without its first counter, unless that is the only one
+abbrev pub rest_of : Span → Option Span
+rest_of span = if nat_lt span.first span.last then Some (record { first = span.first + 1; last = span.last }) else None
 
 -- the span joined with the spans after it that it reaches, followed by the others
 abbrev pub absorbed : Span → List Span → List Span

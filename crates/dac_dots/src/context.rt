@@ -44,6 +44,7 @@ enum Kept {
 
 /// Explicit, so that a proof treats each drop as one call.
 impl Drop for Context {
+    #[inline(always)]
     fn drop(self) {
         let Context {
             alloc: _alloc,
@@ -116,6 +117,7 @@ impl Context {
     }
 
     /// Inserts a dot. A dot that is in the set changes nothing and allocates nothing.
+    #[inline(always)]
     pub fn insert(&mut self, dot: Dot) -> Result<(), NoMemory>
         ensures ok { OnOk result (self.new ≡ set.insert self.old dot) }
         ensures err { OnErr result (self.new ≡ self.old) }
@@ -133,6 +135,7 @@ impl Context {
     }
 
     /// The union of both sets.
+    #[inline(always)]
     pub fn union(&self, other: &Self) -> Result<Self, NoMemory>
         ensures { IfOk result (λ both. both ≡ set.union self.now other.now) }
     {
@@ -185,6 +188,7 @@ impl Context {
     }
 
     /// Whether this set is a subset of the other one.
+    #[inline(always)]
     pub fn is_subset(&self, other: &Self) -> bool
         ensures { IsTrue result ↔ IsSubset self.now other.now }
     {
@@ -219,6 +223,7 @@ impl Context {
 
     /// The dot of the origin's next operation: one above its greatest counter in the set, or 1 if it has none. `None`
     /// if that counter has reached 2^62, the greatest that is issued.
+    #[inline(always)]
     pub fn next(&self, origin: Origin) -> Option<Dot>
         ensures { MatchOption result (IsUsedUp self.now origin) (IsNext self.now origin) }
     {
@@ -252,6 +257,7 @@ impl Context {
     }
 
     /// Whether the set has at most `most` dots. Its time grows with `most`, not with the number of origins.
+    #[inline(always)]
     pub fn has_at_most(&self, most: usize) -> bool
         ensures { IsTrue result ↔ (set.len self.now ≤ most) }
     {

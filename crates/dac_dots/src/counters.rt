@@ -8,6 +8,7 @@ ghost use Rattle.dac_dots.specs.DotFilters.{may_have};
 ghost use Rattle.dac_dots.specs.Rows.{IsGreatest, further_of, reach_of};
 ghost use Rattle.dac_dots.specs.Spans.{AreSpans, HaveEnded, any_above, any_span, are_apart, counters_in, past, span_has};
 ghost use Rattle.std.specs.List.{slice_get};
+ghost use Rattle.dac_dots.specs.Walking.{counters_left};
 
 use crate::filter::DotFilter;
 use crate::spans::{Span, Spans};
@@ -193,6 +194,7 @@ impl Counters {
     }
 
     /// An equal set. With a gap it reserves room for one more span; without one it allocates nothing.
+    #[inline(always)]
     pub(crate) fn copy(&self, alloc: Global) -> Result<Self, NoMemory>
         ensures { IfOk result (λ copied. copied ≡ self.now) }
     {
@@ -228,6 +230,7 @@ impl Counters {
     }
 
     /// Inserts the counters of a span. Allocates nothing if all are there.
+    #[inline(always)]
     fn put(&mut self, span: Span) -> Result<(), NoMemory>
         requires { span.first ≤ span.last }
         ensures rising { IsRising nat_cmp self.new }
@@ -379,6 +382,22 @@ impl Counters {
             left -= 1;
         }
         counter_above(spans, self.upto(), left)
+    }
+
+    /// The spans of the counters outside 1 to `upto`: that of 0 if the set contains it, and those after the first gap.
+    pub(crate) fn further_spans(&self) -> (Option<Span>, &[Span])
+        ensures { counters_left result.0 result.1.now ≡ further_of (reach_of self.now) self.now }
+    {
+        let zero = if self.contains(0) {
+            Some(Span { first: 0, last: 0 })
+        } else {
+            None
+        };
+        let spans = self.spans();
+        match spans.split_first() {
+            Some((first, rest)) if first.first <= 1 => (zero, rest),
+            _ => (zero, spans),
+        }
     }
 
     /// Sets the slot of each dot of the origin whose counter is in the set.

@@ -38,6 +38,7 @@ impl<'a> Model for FilteredContext<'a> {
 
 impl<'a> FilteredContext<'a> {
     /// This context, for about `asked` membership tests. The number affects only the time of the tests.
+    #[inline(always)]
     pub fn of(context: &'a Context, asked: usize) -> Self
         ensures { result ≡ context.now }
     {
@@ -60,6 +61,7 @@ impl<'a> FilteredContext<'a> {
     }
 
     /// Whether the context contains the dot.
+    #[inline(always)]
     pub fn contains(&self, dot: Dot) -> bool
         ensures { result ≡ set.contains self.now dot }
     {

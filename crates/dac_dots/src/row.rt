@@ -11,6 +11,7 @@ ghost use Rattle.dac_origins.specs.Keys.{IsRising, has_key};
 
 use crate::counters::Counters;
 use crate::filter::DotFilter;
+use crate::spans::Span;
 use dac_base::NoMemory;
 use dac_origins::{Dot, Origin};
 use std::alloc::Global;
@@ -72,17 +73,12 @@ impl<'a> Further<'a> {
         self.counters.further_at(place as u128)
     }
 
-    /// Iterates over the counters in ascending order. The time of each step grows with the number of gaps before its
-    /// counter.
+    /// Iterates over the counters in ascending order. Each step takes the same time, however many gaps there are.
     pub fn iter(&self) -> FurtherIter<'a>
         ensures { left_of result ≡ self.now }
     {
-        FurtherIter {
-            further: Further {
-                counters: self.counters,
-            },
-            place: 0,
-        }
+        let (span, spans) = self.counters.further_spans();
+        FurtherIter { span, spans }
     }
 
     /// The number of counters.
@@ -103,8 +99,10 @@ impl<'a> Further<'a> {
 /// An iterator over the further counters of an origin, in ascending order.
 #[derive(Debug, Drop)]
 pub struct FurtherIter<'a> {
-    further: Further<'a>,
-    place: u128,
+    /// The rest of the span that was begun.
+    span: Option<Span>,
+    /// The spans after it.
+    spans: &'a [Span],
 }
 
 impl<'a> Iterator for FurtherIter<'a> {
@@ -118,12 +116,16 @@ impl<'a> Iterator for FurtherIter<'a> {
     ghost remaining = { item_count left_of };
 
     fn next(&mut self) -> Option<u64> {
-        if self.place >= self.further.len() {
-            return None;
-        }
-        let counter = self.further.counters.further_at(self.place)?;
-        self.place += 1;
-        Some(counter)
+        let span = match self.span {
+            Some(span) => span,
+            None => {
+                let (first, spans) = self.spans.split_first()?;
+                self.spans = spans;
+                *first
+            }
+        };
+        self.span = span.rest();
+        Some(span.first)
     }
 }
 
@@ -158,6 +160,7 @@ impl OriginRow {
     }
 
     /// An equal row, which shares nothing.
+    #[inline(always)]
     pub(crate) fn copy(&self, alloc: Global) -> Result<Self, NoMemory>
         ensures { IfOk result (λ copied. copied ≡ self.now) }
     {
@@ -301,6 +304,7 @@ pub(crate) fn place_of(rows: &[OriginRow], origin: Origin) -> Result<usize, usiz
 }
 
 /// The index of the row of an origin, or of its insertion point. The search tries index `place` first.
+#[inline(always)]
 pub(crate) fn place_near(rows: &[OriginRow], place: usize, origin: Origin) -> Result<usize, usize>
     requires { IsRising origin_cmp (origins rows.now) }
     ensures { IsPlaceOf rows.now origin result }

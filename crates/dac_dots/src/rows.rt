@@ -76,6 +76,7 @@ impl OriginRows {
     }
 
     /// Equal rows, which share nothing.
+    #[inline(always)]
     pub(crate) fn copy(&self) -> Result<Self, NoMemory>
         ensures { IfOk result (λ copied. copied ≡ self.now) }
     {
@@ -88,6 +89,7 @@ impl OriginRows {
     }
 
     /// Whether the set contains the dot.
+    #[inline(always)]
     pub(crate) fn contains(&self, dot: Dot) -> bool
         ensures { result ≡ set.contains self.now dot }
     {
@@ -118,6 +120,7 @@ impl OriginRows {
 
     /// Inserts the dots of a row. The search for the origin tries index `near` first. After [`NoMemory`] some can be
     /// there.
+    #[inline(always)]
     pub(crate) fn unite_row(&mut self, near: usize, row: &OriginRow) -> Result<(), NoMemory>
         requires kept { IsKept row.now }
         requires some { HasSome row.now }
@@ -151,6 +154,7 @@ impl OriginRows {
     }
 
     /// The union of both sets.
+    #[inline(always)]
     pub(crate) fn union(&self, other: &Self) -> Result<Self, NoMemory>
         ensures { IfOk result (λ both. both ≡ set.union self.now other.now) }
     {
@@ -164,6 +168,7 @@ impl OriginRows {
     }
 
     /// Whether the set contains each dot of a row. The search for the origin tries index `near` first.
+    #[inline(always)]
     pub(crate) fn has_row(&self, near: usize, row: &OriginRow) -> bool
         ensures { IsTrue result ↔ IsRowIn row.now self.now }
     {
@@ -190,6 +195,7 @@ impl OriginRows {
 
     /// The dot of the origin's next operation: one above its greatest counter in the set, or 1 if it has none. `None`
     /// if that counter has reached 2^62, the greatest that is issued.
+    #[inline(always)]
     pub(crate) fn next(&self, origin: Origin) -> Option<Dot>
         ensures { MatchOption result (IsUsedUp self.now origin) (IsNext self.now origin) }
     {

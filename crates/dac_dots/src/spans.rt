@@ -1,6 +1,6 @@
 //! Spans of consecutive counters.
 ghost use Rattle.std.specs.Prelude.{◌≡◌, ◌+◌, ◌-◌, ◌^◌, ◌<◌, ◌≤◌, ◌⊎◌, ◌||◌, ◌∷◌, [], false, true, length, nat_le, nat_lt, take, drop, vec_capacity, IfOk, OnErr, OnOk};
-ghost use Rattle.dac_dots.specs.Spans.{IsPlaceFor, absorbed, any_span, are_apart, hull, span_has, spans_of};
+ghost use Rattle.dac_dots.specs.Spans.{IsPlaceFor, absorbed, any_span, are_apart, hull, rest_of, span_has, spans_of};
 
 use dac_base::NoMemory;
 use std::alloc::Global;
@@ -44,6 +44,19 @@ impl Span {
         ensures { result ≡ self.first + place }
     {
         self.first + place as u64
+    }
+
+    /// The span without its first counter, unless that is the only one.
+    pub(crate) fn rest(self) -> Option<Span>
+        ensures { result ≡ rest_of self }
+    {
+        if self.first >= self.last {
+            return None;
+        }
+        Some(Span {
+            first: self.first + 1,
+            last: self.last,
+        })
     }
 
     /// The least span that contains both.

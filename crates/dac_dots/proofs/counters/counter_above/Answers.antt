@@ -1,7 +1,5 @@
-use Rattle.std.proofs.Common.{◌≡◌, ◌+◌, ◌-◌, ◌<◌, ◌∙◌, ℕ, Some, sym, ap, subst, arith, add-one, drop}
-use Rattle.std.specs.List.{slice_get}
+use Rattle.std.proofs.Common.{◌-◌, ◌∙◌, Some, sym, ap, arith}
 use Rattle.std.proofs.lemmas.Bool.{lt-ltb, le-ltb}
-use Rattle.dac_dots.specs.Spans.{past}
 use Rattle.dac_dots.specs.declared.spans.Span.{Span}
 use Rattle.dac_dots.proofs.PastLemmas.{in_span, behind_span, skipped_span}
 use Rattle.dac_dots.proofs.counters.counter_above.Goals as goal

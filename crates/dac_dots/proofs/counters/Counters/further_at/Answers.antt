@@ -1,4 +1,4 @@
-use Rattle.std.proofs.Common.{◌≡◌, ◌+◌, ◌-◌, ◌∙◌, ℕ, Some, sym, ap, arith}
+use Rattle.std.proofs.Common.{◌-◌, ◌∙◌, sym, ap, arith}
 use Rattle.std.specs.List.{slice_get}
 use Rattle.dac_dots.specs.Rows.{further_of, reach_of}
 use Rattle.dac_dots.specs.Spans.{past}
