@@ -1,5 +1,6 @@
 -- The nodes of a list, group by group.
-use Rattle.std.proofs.Common.{◌≡◌, ℕ, Bool, true, false, ◌+◌, ◌-◌, ◌<◌, ◌≤◌, ◌==◌, List, [], ◌++◌, Option, Some, None, get_or, cond, refl, sym, ap, ap₂, ◌∙◌, arith}
+use Rattle.std.proofs.Common.{◌≡◌, ℕ, Bool, true, false, ◌+◌, ◌-◌, ◌<◌, ◌≤◌, ◌==◌, List, [], ◌++◌, Option, Some, None, get_or, cond, refl, sym, ap, ap₂, ◌∙◌, arith, append-nil}
+use Rattle.std.proofs.lemmas.Bool.{eq-eqb}
 use Rattle.std.proofs.lemmas.Map.Views.{exact_unsigned_eq}
 use Rattle.dac_base.specs.declared.limits.TheConstants.{MAX_NODES}
 use Rattle.dac_base.specs.declared.NodeId.{NodeId}
@@ -7,8 +8,9 @@ use Rattle.dac_base.specs.declared.AppId.{AppId}
 use Rattle.dac_config.specs.Table.{Table, group_of, node_count}
 use Rattle.dac_status.specs.declared.marks.Mark.{Mark}
 use Rattle.dac_status.specs.Texts.{mark_text, mark_in, label_text, labels_of, member_in, member_text, group_in, group_text, groups_of}
+use Rattle.dac_status.specs.Chains.{IsNext}
 use Rattle.dac_status.proofs.Places.{node_numbered, placed_at, listed_at}
-use Rattle.dac_status.proofs.Lines.{texts, texts_end, same_texts}
+use Rattle.dac_status.proofs.Lines.{texts, put_more, texts_end, same_texts}
 
 member_none : (label : List ℕ) (found : Option ℕ) (marks : List Mark) (group : ℕ) (node : NodeId) → (found ≡ Some group → ⊥) → member_in label found marks group node ≡ []
 member_none label None marks group node other = refl
@@ -18,13 +20,35 @@ member_none label (Some found) marks group node other = by (found == group) refl
     by true e = absurd (other (ap (λ n. Some n) (exact_unsigned_eq found group e)))
     by false e = refl
 
+member_there : (label : List ℕ) (found : Option ℕ) (marks : List Mark) (group : ℕ) (node : NodeId) → found ≡ Some group → member_in label found marks group node ≡ label ++ mark_text (mark_in marks node)
+member_there label found marks group node at =
+    ap (λ other. member_in label other marks group node) at ∙ ap (λ b. cond b (label ++ mark_text (mark_in marks node)) []) (eq-eqb group group refl)
+
+module _ (labels : List (List ℕ)) (groups : List (Option ℕ)) (marks : List Mark) (group : ℕ) where
+  abbrev member : NodeId → List ℕ
+  member node = member_in (get_or labels node.0 []) (get_or groups node.0 None) marks group node
+
+  -- nodes that aren't in the group have no text
+  pub members_end : (from to : ℕ) → from ≤ to → ((n : ℕ) → from ≤ n → n < to → get_or groups n None ≡ Some group → ⊥) → texts node_numbered member to ≡ texts node_numbered member from
+  members_end from to le none =
+      let all : to ≡ from + (to - from) = omega (arith, le) in
+      ap (texts node_numbered member) all
+      ∙ texts_end node_numbered member from (to - from) (λ n low high. member_none (get_or labels n []) (get_or groups n None) marks group (node_numbered n) (none n low (omega (arith, low, high))))
+
+  -- a node of the group is appended, and the nodes up to the next one have no text
+  pub members_more : (count number next : ℕ) → get_or groups number None ≡ Some group → IsNext groups count group (number + 1) next → (start old new : List ℕ) → old ≡ start ++ texts node_numbered member number
+      → new ≡ old ++ (get_or labels number [] ++ mark_text (mark_in marks (node_numbered number))) → new ≡ start ++ texts node_numbered member next
+  members_more count number next at is start old new so_far one =
+      one ∙ ap (λ text. old ++ text) (sym (member_there (get_or labels number []) (get_or groups number None) marks group (node_numbered number) at))
+      ∙ put_more node_numbered member number start old so_far
+      ∙ ap (λ text. start ++ text) (sym (members_end (number + 1) next is.past is.none))
+
+  pub members_begin : (count next : ℕ) → IsNext groups count group 0 next → (start : List ℕ) → start ≡ start ++ texts node_numbered member next
+  members_begin count next is start = sym (ap (λ text. start ++ text) (members_end 0 next is.past is.none) ∙ append-nil start)
+
 -- a group that has no node has no text
 group_none : (t : Table) (labels : List (List ℕ)) (groups : List (Option ℕ)) (marks : List Mark) (group : ℕ) → ((n : ℕ) → n < node_count t → get_or groups n None ≡ Some group → ⊥) → group_in t labels groups marks group ≡ []
-group_none t labels groups marks group none =
-    let f : NodeId → List ℕ = λ node. member_in (get_or labels node.0 []) (get_or groups node.0 None) marks group node in
-    let all : node_count t ≡ 0 + node_count t = omega arith in
-    ap (texts node_numbered f) all
-    ∙ texts_end node_numbered f 0 (node_count t) (λ n le lt. member_none (get_or labels n []) (get_or groups n None) marks group (node_numbered n) (none n (omega (arith, lt))))
+group_none t labels groups marks group none = members_end labels groups marks group 0 (node_count t) (omega arith) (λ n low high. none n high)
 
 group_is : (t : Table) (app : AppId) (marks : List Mark) (group : ℕ) → group_in t (labels_of t) (groups_of t app) marks group ≡ group_text t app marks group
 group_is t app marks group =

@@ -2,3 +2,4 @@ pub mod Summaries
 pub mod Kept
 pub mod Walks
 pub mod Texts
+pub mod Chains

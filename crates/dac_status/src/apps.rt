@@ -1,10 +1,11 @@
 //! The lines of applications.
 
 ghost use Rattle.std.specs.Prelude.{◌≡◌, ◌<◌, ◌≤◌, ◌++◌, ◌==◌, ℕ, false, [], Some, None, length, slice_index_or, OnOk};
-ghost use Rattle.std.specs.Option.{option_map_or};
 ghost use Rattle.dac_config.specs.Table.{app_count, node_count};
-ghost use Rattle.dac_status.specs.Texts.{node_text, how_text, from_text, claim_text, holder_text, verdict_text, standing_text, mark_text, labels_of, groups_of, member_in, group_in, list_text, summary_text, app_lines};
+ghost use Rattle.dac_status.specs.Texts.{node_text, how_text, from_text, claim_text, holder_text, verdict_text, standing_text, mark_text, labels_of, groups_of, group_in, list_text, summary_text, app_lines};
+ghost use Rattle.dac_status.specs.Chains.{AreChains};
 
+use crate::chains::{Chains, MAX_GROUPS, chains_of};
 use crate::labels::Labels;
 use crate::marks::Mark;
 use crate::nodes::put_node;
@@ -15,9 +16,6 @@ use dac_chains::{Claim, How};
 use dac_config::{Config, put_printed_name};
 use dac_placement::Verdict;
 use std::alloc::Global;
-
-/// The greatest number of groups in a list, because each group has a node of its own.
-const MAX_GROUPS: u16 = MAX_NODES as u16;
 
 /// How an application came to the node that claims it, after a space.
 pub fn how_text(how: How) -> &'static str
@@ -209,56 +207,27 @@ fn group_count(config: &Config, groups: &[Option<u16>; MAX_NODES]) -> u16
     count
 }
 
-/// Whether a node is in this group, given the group of each node.
-fn is_member(groups: &[Option<u16>; MAX_NODES], group: u16, node: NodeId) -> bool
-    requires { node.0 < MAX_NODES }
-    ensures { result
-        ≡ option_map_or (λ other. other == group) (slice_index_or groups.now node.0 None) false }
-{
-    match groups[node.0 as usize] {
-        Some(other) => other == group,
-        None => false,
-    }
-}
-
-/// Appends a node's label and mark, if it is in this group, given the group of each node.
-fn put_member(
-    text: &mut Vec<u8>,
-    labels: &Labels,
-    groups: &[Option<u16>; MAX_NODES],
-    marks: &[Mark; MAX_NODES],
-    group: u16,
-    node: NodeId,
-) -> Result<(), NoMemory>
-    requires label { node.0 < length labels.now }
-    requires place { node.0 < MAX_NODES }
-    ensures { OnOk result (text.new.items
-        ≡ text.old.items
-        ++ member_in (slice_index_or labels.now node.0 [])
-        (slice_index_or groups.now node.0 None) marks.now group node) }
-{
-    if !is_member(groups, group, node) {
-        return Ok(());
-    }
-    let mark = marks[node.0 as usize];
-    put_marked(text, labels.at(node), mark)
-}
-
-/// Appends the nodes of a group with their marks, given the group of each node.
+/// Appends the nodes of a group with their marks, given the group of each node and the chains of the groups.
 fn put_group(
     text: &mut Vec<u8>,
     config: &Config,
     labels: &Labels,
     groups: &[Option<u16>; MAX_NODES],
+    chains: &Chains,
     marks: &[Mark; MAX_NODES],
     group: u16,
 ) -> Result<(), NoMemory>
-    requires { labels.now ≡ labels_of config.now }
+    requires labels { labels.now ≡ labels_of config.now }
+    requires place { group < MAX_NODES }
+    requires chains { AreChains groups.now (node_count config.now) 0 chains.now.first chains.now.next }
     ensures { OnOk result (text.new.items
         ≡ text.old.items ++ group_in config.now labels.now groups.now marks.now group) }
 {
-    for number in 0..config.nodes() {
-        put_member(text, labels, groups, marks, group, NodeId(number))?;
+    let _groups = groups;
+    let mut number = chains.first[group as usize];
+    while number < config.nodes() {
+        put_marked(text, labels.at(NodeId(number)), marks[number as usize])?;
+        number = chains.next[number as usize];
     }
     Ok(())
 }
@@ -277,8 +246,9 @@ fn put_list(
 {
     text.extend_from_slice(b"list")?;
     let groups = groups_of(config, app);
+    let chains = chains_of(config, &groups);
     for group in 0..group_count(config, &groups) {
-        put_group(text, config, labels, &groups, marks, group)?;
+        put_group(text, config, labels, &groups, &chains, marks, group)?;
     }
     text.push(b'\n')?;
     Ok(())

@@ -8,6 +8,7 @@
 #![tactic(auto)]
 
 mod apps;
+mod chains;
 mod kept;
 mod labels;
 mod marks;

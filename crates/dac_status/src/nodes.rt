@@ -11,6 +11,7 @@ use dac_lattice::Flag;
 use std::alloc::Global;
 
 /// Appends a node by its name, or by its number if the configuration lacks it, which occurs only in forged states.
+#[inline(always)]
 pub fn put_node(
     alloc: Global,
     text: &mut Vec<u8>,

@@ -6,6 +6,7 @@ ghost use Rattle.std.specs.Fmt.{decimal};
 use dac_base::NoMemory;
 
 /// Appends a number in decimal digits.
+#[inline(always)]
 pub fn put_number(text: &mut Vec<u8>, number: u64) -> Result<(), NoMemory>
     ensures { OnOk result (text.new.items ≡ text.old.items ++ decimal number) }
 {
