@@ -391,7 +391,10 @@ fn is_shown(alloc: Global, why: Refusal, number: u8, name: &str) -> Option<bool>
 const SHOWN: &[(Refusal, u8, &str)] = &[
     (Refusal::MomentBack, 8, "MomentBack"),
     (Refusal::NotForMe, 15, "NotForMe"),
+    (Refusal::TooManyDots, 17, "TooManyDots"),
     (Refusal::TermsUsedUp, 18, "TermsUsedUp"),
+    (Refusal::DotsUsedUp, 19, "DotsUsedUp"),
+    (Refusal::IncarnationsUsedUp, 20, "IncarnationsUsedUp"),
 ];
 
 #[test]

@@ -51,6 +51,7 @@ impl ByteWriter {
     }
 
     /// Appends these bytes unchanged.
+    #[inline(always)]
     pub fn write_bytes(mut self, bytes: &[u8]) -> Result<Self, NoMemory>
         ensures { IfOk result (λ written. written ≡ self ++ bytes.now) }
     {

@@ -1,5 +1,5 @@
 -- A map with one entry is below another map exactly if its value isn't greater than the other's at the key.
-use Rattle.std.proofs.Common.{◌≡◌, true, false, cond, Option, Some, None, ◌↔◌, refl, sym, ap, ◌∙◌, subst}
+use Rattle.std.proofs.Common.{◌≡◌, true, false, cond, Some, None, ◌↔◌, refl, sym, ap, ◌∙◌, subst}
 use Rattle.std.specs.declared.cmp.Ordering.{Ordering}
 use Rattle.std.specs.Ordering.{eq_by_cmp, is_eq}
 use Rattle.std.specs.Cmp.{IsTotalOrder, Equal-is}

@@ -99,6 +99,7 @@ impl Claims {
     }
 
     /// The greatest claim of an application, if it was claimed.
+    #[inline(always)]
     pub fn greatest(&self, app: AppId) -> Option<Claim>
         ensures { result ≡ map.get self.now app }
     {

@@ -66,6 +66,7 @@ fn put_quoted_name(text: &mut Vec<u8>, name: &[u8]) -> Result<(), NoMemory>
 
 /// Appends a name as the program prints it: bare if that is an atom, otherwise between quotes. A call that fails can
 /// have appended a part of it.
+#[inline(always)]
 pub fn put_printed_name(text: &mut Vec<u8>, name: &[u8]) -> Result<(), NoMemory>
     ensures { OnOk result (text.new.items ≡ text.old.items ++ name_text name.now) }
 {

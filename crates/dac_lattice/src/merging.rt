@@ -110,6 +110,7 @@ pub fn merge<K: MapKey, X: Drop, C: Combine<K, X>>(
 }
 
 /// The index of a key, or of its insertion point.
+#[inline(always)]
 fn place_of<K: MapKey, X>(entries: &[(K, X)], key: K) -> Result<usize, usize>
     requires { IsInOrder K.cmp entries.now }
     ensures bound { IsSearchInRange result (length entries.now) }

@@ -8,7 +8,6 @@ use Rattle.dac_messages.specs.declared.reply.Reply.{Reply}
 use Rattle.dac_events.specs.declared.refusal.Refusal.{Refusal}
 use Rattle.dac_events.specs.declared.refusal.Refusal.TheVariants.{NoMemory}
 use Rattle.dac_journal.specs.NodeValue.{NodeValue, off}
-use Rattle.dac_journal.specs.ModelNode.{shown}
 use Rattle.dac_journal.specs.Histories.{off_after}
 use Rattle.dac_journal.specs.Step.{Steps}
 use Rattle.dac_journal.specs.laws.Going.{goes_on}

@@ -1,5 +1,5 @@
 -- The callers' lines of a script, in each phase.
-use Rattle.std.proofs.Common.{◌≡◌, ℕ, ◌<◌, ◌≤◌, List, [], ◌∷◌, map, subst, arith}
+use Rattle.std.proofs.Common.{ℕ, List, [], ◌∷◌, map, subst, arith}
 use Rattle.std.specs.Prelude.{All}
 use Rattle.std.specs.List.{onto_first}
 use Rattle.std.proofs.lemmas.List.{length-map, get_or-map}

@@ -1,5 +1,5 @@
 -- The part of an operation that each piece of a state depends on.
-use Rattle.std.specs.Prelude.{not, List, [], filter, if◌then◌else◌}
+use Rattle.std.specs.Prelude.{not, List, filter, if◌then◌else◌}
 use Rattle.dac_origins.specs.declared.dot.Dot.{Dot}
 use Rattle.dac_wishes.specs.declared.wish_act.WishAct.{WishAct}
 use Rattle.dac_wishes.specs.declared.wish_act.WishAct.TheVariants.{Start as SeenStart, Other as NoWish}

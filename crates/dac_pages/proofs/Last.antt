@@ -1,5 +1,5 @@
 -- The page that was prepared last.
-use Rattle.std.proofs.Common.{◌≡◌, List, [], ◌∷◌, ◌++◌, fold, Option, None, Some, Result, Ok, Err, IsOk, MatchResult, refl, sym, ap, ◌∙◌}
+use Rattle.std.proofs.Common.{◌≡◌, List, [], ◌∷◌, ◌++◌, fold, None, Some, Result, Ok, Err, IsOk, MatchResult, refl, ap}
 use Rattle.dac_pages.specs.declared.page.Page.{Page}
 use Rattle.dac_pages.specs.Published.{last_of}
 

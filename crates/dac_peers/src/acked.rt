@@ -90,6 +90,7 @@ impl Acked {
     }
 
     /// The greatest number that an origin acknowledged, if any.
+    #[inline(always)]
     pub(crate) fn get(&self, origin: Origin) -> Option<u64>
         ensures { result ≡ map.get self.now origin }
     {

@@ -140,6 +140,7 @@ impl Peers {
     }
 
     /// The table after a change.
+    #[inline(always)]
     fn with(&self, change: Pending) -> Result<Self, NoMemory>
         ensures { IfOk result (λ peers. peers ≡ done self.now change) }
     {
@@ -188,6 +189,7 @@ impl Peers {
     }
 
     /// How many deltas a node acknowledged as its present incarnation, that of its greatest life.
+    #[inline(always)]
     fn acked_at(&self, state: &State, node: NodeId) -> Option<Position>
         ensures { result ≡ acked_at self.now state.now node }
     {

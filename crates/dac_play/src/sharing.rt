@@ -50,6 +50,7 @@ fn was_accepted(answer: &Result<(), WorldFault>) -> Result<bool, NoMemory>
 }
 
 /// Runs one event and returns whether it was accepted. A refused event doesn't change the world.
+#[inline(always)]
 fn accepts(config: &Config, world: &mut World, event: &WorldEvent) -> Result<bool, NoMemory>
     ensures count { length world.new.nodes ≡ length world.old.nodes }
     ensures answers { IfOk result

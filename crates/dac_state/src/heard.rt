@@ -67,6 +67,7 @@ impl Heard {
 
     /// The dots known on either side, and those heard on either side. Mostly both unions are equal, and then only one
     /// is made.
+    #[inline(always)]
     pub(crate) fn join(
         &self,
         known: &Context,

@@ -172,6 +172,7 @@ impl<S: DotStore> Causal<S> {
 
     /// Whether this side's store is empty and its context is known to contain no dot of the other's store, so that a
     /// join doesn't change that store.
+    #[inline(always)]
     fn leaves(&self, other: &Self) -> bool
         ensures nothing { result ≡ true → self.now.store ≡ S.nothing }
         ensures unheard { result ≡ true → IsUnheard (S.has other.now.store) self.now.context }
@@ -198,6 +199,7 @@ impl<S: DotStore> Causal<S> {
     }
 
     /// The store of the join. Joins into the longer store, because the result shares most memory with that one.
+    #[inline(always)]
     fn join_stores(&self, other: &Self) -> Result<S, NoMemory>
         ensures { IfOk result (λ joined. joined
             ≡ S.join self.now.store self.now.context other.now.store other.now.context) }

@@ -121,6 +121,7 @@ impl<K: MapKey, S: DotStore> Counted<K, S> {
     }
 
     /// The store at a key, if any.
+    #[inline(always)]
     pub(crate) fn get(&self, key: K) -> Option<&S>
         ensures { option_copied result ≡ find K.cmp key self.now }
     {

@@ -112,6 +112,7 @@ impl<V: Lattice> Combine<Dot, V> for JoinHeard<'_> {
     ghost combined = { λ h x. join_at V.join (set.contains h.mine.now x)
         (set.contains h.theirs.now x) };
 
+    #[inline(always)]
     fn left(&self, dot: Dot, mine: &V) -> Result<Option<V>, NoMemory> {
         if self.theirs.contains(dot) {
             return Ok(None);

@@ -332,6 +332,7 @@ impl<K: MapKey, S: DotStore> DotStore for DotMap<K, S> {
         are_within(last, context)
     }
 
+    #[inline(always)]
     fn is_unheard(&self, heard: &FilteredContext<'_>) -> bool {
         let (blocks, last) = self.pieces();
         for block in blocks {

@@ -263,6 +263,7 @@ impl DotStore for DotSet {
         true
     }
 
+    #[inline(always)]
     fn is_unheard(&self, heard: &FilteredContext<'_>) -> bool {
         // Most sets have a single dot.
         if let FewDots::One(dot) = &self.few {

@@ -111,6 +111,7 @@ impl<V: Lattice> FewEntries<V> {
     }
 
     /// Appends a dot with its value. After [`NoMemory`] the entries are unchanged.
+    #[inline(always)]
     pub(crate) fn push(&mut self, alloc: Global, dot: Dot, value: V) -> Result<(), NoMemory>
         ensures ok { OnOk result (entries_of self.new ≡ entries_of self.old ++ (dot, value) ∷ []) }
         ensures err { OnErr result (entries_of self.new ≡ entries_of self.old) }

@@ -49,6 +49,7 @@ impl<K: MapKey, S: DotStore> Combine<K, S> for JoinStores<'_> {
         )?))
     }
 
+    #[inline(always)]
     fn right(&self, _key: K, theirs: &S) -> Result<Option<S>, NoMemory> {
         if theirs.is_unheard(self.mine) {
             theirs.tells_invariant();
@@ -172,6 +173,7 @@ pub(crate) fn join_at<S: DotStore>(
 }
 
 /// Whether the join is known to leave a store unchanged, given the other side's store at its key, if any.
+#[inline(always)]
 fn surely_stays<S: DotStore>(how: &JoinStores<'_>, mine: &S, theirs: Option<&S>) -> bool
     ensures { result ≡ true → IsLeft S.nothing S.is_empty S.join how.now.mine.now
         how.now.theirs.now mine.now (option_copied theirs.entry) }

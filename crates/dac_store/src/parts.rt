@@ -126,6 +126,7 @@ impl<K: MapKey, S: DotStore> Parts<K, S> {
     }
 
     /// The store at a key, if any. Requires entries in key order.
+    #[inline(always)]
     pub(crate) fn get(&self, key: K) -> Option<&S>
         requires { IsInOrder K.cmp self.now }
         ensures { option_copied result ≡ find K.cmp key self.now }
@@ -147,6 +148,7 @@ impl<K: MapKey, S: DotStore> Parts<K, S> {
     }
 
     /// Appends an entry. After [`NoMemory`] nothing has changed.
+    #[inline(always)]
     pub(crate) fn push(&mut self, key: K, store: S) -> Result<(), NoMemory>
         ensures ok { OnOk result (self.new ≡ self.old ++ (key, store) ∷ []) }
         ensures err { OnErr result (self.new ≡ self.old) }

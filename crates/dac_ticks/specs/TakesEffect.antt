@@ -1,7 +1,6 @@
 -- The effect of an accepted command, in the state that its operation leaves.
 use Rattle.std.specs.Prelude.{◌≡◌, ◌↔◌, ℕ, true, [], ◌∷◌, None}
 use Rattle.dac_base.specs.declared.NodeId.{NodeId}
-use Rattle.dac_base.specs.declared.AppId.{AppId}
 use Rattle.dac_origins.specs.declared.dot.Origin.{Origin}
 use Rattle.dac_chains.specs.Lives.{IsLive}
 use Rattle.dac_meaning.specs.StateValue.{StateValue, IsState, join}

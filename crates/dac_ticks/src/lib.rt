@@ -5,9 +5,9 @@
 //! own claims, and the load that they bring. The sweep holds the operations to issue, the applications that were passed
 //! over, and the state after the claims. The caller carries it out; nothing here changes a state.
 //!
-//! A tick computes a verdict for each application for which its node is eligible, or reads all verdicts from a board of
-//! the state. A controller can maintain one from tick to tick, as a [`KeptBoard`]. A claim costs one delta and one
-//! join, and a tick without claims copies no state.
+//! A tick computes a verdict for each application for which its node is eligible, or up to its first claim reads the
+//! verdicts from a board of the state. A controller can maintain one from tick to tick, as a [`KeptBoard`]. A claim
+//! costs one delta and one join, and a tick without claims copies no state.
 //!
 //! Functions that don't return `Result<_, NoMemory>` allocate nothing. `NoMemory` is the only error, and leaves a
 //! public function's arguments unchanged.

@@ -21,7 +21,7 @@ use Rattle.dac_wishes.specs.Replacing.{named_by, replaces}
 use Rattle.dac_wishes.specs.laws.Replacing.{contains-named_by}
 use Rattle.dac_wishes.specs.StoredWishes.{StoredDots, wishes_of}
 use Rattle.dac_wishes.specs.laws.StartsByKey.{contains-writes_of}
-use Rattle.dac_wishes.specs.WishMeaning.{wish_delta, wishes}
+use Rattle.dac_wishes.specs.WishMeaning.{wish_delta}
 use Rattle.dac_wishes.specs.laws.WishMeaning.{contains-delta}
 use Rattle.dac_wishes.specs.WishMeaning as wish
 use Rattle.dac_wishes.specs.StoredDeltas.{stored_start}

@@ -89,6 +89,7 @@ impl Drains {
     }
 
     /// The dots of the incarnation's standing drains, with their values, in ascending order.
+    #[inline(always)]
     pub fn dots(&self, node: NodeId, inc: u64) -> &[(Dot, Flag)]
         ensures { result.now ≡ drains_at (origin node inc) self.now.standing }
     {
@@ -110,6 +111,7 @@ impl Drains {
     }
 
     /// The join with the other value. It shares `union`, the union of the known dots of both.
+    #[inline(always)]
     pub fn join_with_context(&self, other: &Self, union: &SharedContext) -> Result<Self, NoMemory>
         requires { union.now ≡ set.union self.now.known other.now.known }
         ensures { IfOk result (λ joined. joined ≡ join_drains self.now other.now) }

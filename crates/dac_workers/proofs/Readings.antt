@@ -1,5 +1,5 @@
 -- The least place after a receipt is learned, as one number.
-use Rattle.std.proofs.Common.{◌≡◌, ℕ, Option, None, Some, max, sym}
+use Rattle.std.proofs.Common.{◌≡◌, ℕ, Option, None, Some, max}
 use Rattle.std.specs.Option.{IfSome, IfNone}
 use Rattle.dac_sites.specs.declared.receipt.Receipt.{Receipt}
 use Rattle.dac_sites.specs.Receipts.{note_of}

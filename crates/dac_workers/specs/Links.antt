@@ -1,5 +1,5 @@
 -- The effects of a link's two threads.
-use Rattle.std.specs.Prelude.{◌≡◌, ⊤, ℕ, zero, suc, List, [], ◌∷◌, ◌++◌, map, All, Option, Some, None, Result, Ok, Err}
+use Rattle.std.specs.Prelude.{◌≡◌, ⊤, ℕ, zero, suc, List, [], ◌∷◌, ◌++◌, map, All, Some, None, Result, Ok, Err}
 use Rattle.dac_base.specs.declared.NodeId.{NodeId}
 use Rattle.dac_config.specs.Table.{Table}
 use Rattle.dac_messages.specs.declared.event.Event.{Event}

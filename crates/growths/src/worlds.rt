@@ -21,7 +21,6 @@ pub enum OfWorld {
     Tick,
     Ship,
     ShipInterval,
-    ShipEqual,
     Deliver,
     Hand,
     Pass,
@@ -114,16 +113,13 @@ fn wish(events: &mut Vec<WorldEvent>, at: NodeId, number: u64) -> Option<()> {
     tell(events, ME, OTHER, number)
 }
 
-/// The events before two nodes ship equal intervals. The first node commands a start twice and ships to the second each
-/// time, so that both have two more deltas with the same join. Then it ships that join to the third. Before an interval
-/// for which blocks are joined, it commands one more start.
-fn shipped_once(alloc: Global, asked: OfWorld) -> Option<Vec<WorldEvent>> {
+/// The events before two nodes ship equal intervals. The first node commands a start three times and ships to the second
+/// each time, so that both have three more deltas with the same join. Then it ships that join to the third.
+fn shipped_once(alloc: Global) -> Option<Vec<WorldEvent>> {
     let mut events = acknowledged(alloc)?;
     wish(&mut events, ME, 13)?;
     wish(&mut events, OTHER, 14)?;
-    if asked == OfWorld::ShipInterval {
-        wish(&mut events, THIRD, 15)?;
-    }
+    wish(&mut events, THIRD, 15)?;
     let what = What::Ship { to: THIRD };
     events.push(WorldEvent { node: ME, what }).ok()?;
     Some(events)
@@ -132,7 +128,7 @@ fn shipped_once(alloc: Global, asked: OfWorld) -> Option<Vec<WorldEvent>> {
 /// The events before the call.
 fn events_before(alloc: Global, asked: OfWorld) -> Option<Vec<WorldEvent>> {
     match asked {
-        OfWorld::ShipInterval | OfWorld::ShipEqual => shipped_once(alloc, asked),
+        OfWorld::ShipInterval => shipped_once(alloc),
         _ => events(alloc),
     }
 }
@@ -165,7 +161,7 @@ fn next(asked: OfWorld) -> WorldEvent {
             }),
         ),
         OfWorld::Ship | OfWorld::Pass => (ME, What::Ship { to: THIRD }),
-        OfWorld::ShipInterval | OfWorld::ShipEqual => (OTHER, What::Ship { to: THIRD }),
+        OfWorld::ShipInterval => (OTHER, What::Ship { to: THIRD }),
         OfWorld::Deliver => (OTHER, What::Deliver(1)),
         OfWorld::Hand => (OTHER, What::Hand(1)),
         _ => (ME, What::Tick { now: 9 }),

@@ -80,3 +80,36 @@ fn a_full_journal_of_the_first_node_is_told_before_a_lost_link(
     assert_eq!(rt; all_say_full(&rt, rt.alloc(), 0, 3), Some(true));
     Ok(())
 }
+
+/// One node, so that only its caller fills the journal.
+const ONE: &[u8] = b"[{kernel,[{distributed,[{a,[a@h]}]}]}].";
+
+/// The result of a run in which a caller boots its node and ticks `ticks` times.
+fn fault_of_caller<R: Threads + Wait + Sync>(
+    rt: &R,
+    alloc: Global,
+    ticks: u64,
+) -> Option<Result<usize, RunFault>> {
+    let mut lines = Vec::new(alloc);
+    lines.push(line(0, boot(0))).ok()?;
+    for _time in 0..ticks {
+        lines.push(line(0, tick(0))).ok()?;
+    }
+    let mut phases = Vec::new(alloc);
+    phases.push(Phase { lines }).ok()?;
+    match ran(rt, alloc, ONE, phases.as_slice(), &Open)? {
+        Ok(report) => Some(Ok(report.closed.as_slice().len())),
+        Err(fault) => Some(Err(fault)),
+    }
+}
+
+#[test]
+fn a_caller_fills_a_journal(rt: HostRuntime) -> Result<(), Fail> {
+    let full = RunFault::Site {
+        node: NodeId(0),
+        why: LiveFault::JournalFull,
+    };
+    assert!(rt; matches!(fault_of_caller(&rt, rt.alloc(), 65_535), Some(Ok(1))));
+    assert!(rt; fault_of_caller(&rt, rt.alloc(), 65_536) == Some(Err(full)));
+    Ok(())
+}

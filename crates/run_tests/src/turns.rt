@@ -235,6 +235,14 @@ fn is_tick(one: &Record, caller: u16) -> bool {
     }
 }
 
+/// What interleaves with the ticks of caller 1.
+#[derive(Clone, Copy, PartialEq, Eq)]
+enum Other {
+    Caller,
+    Hearing,
+    Ship,
+}
+
 fn is_hearing(one: &Record) -> bool {
     match &one.event {
         Event::Hear(_) => true,
@@ -242,46 +250,77 @@ fn is_hearing(one: &Record) -> bool {
     }
 }
 
-/// Whether caller 1 ticks both before and after a tick of caller 2, or a hearing.
-fn are_mixed(records: &[Record], hearing: bool) -> bool {
+fn is_shipping(one: &Record) -> bool {
+    match &one.event {
+        Event::Ship { to: _ } => true,
+        _ => false,
+    }
+}
+
+fn is_other(one: &Record, other: Other) -> bool {
+    match other {
+        Other::Caller => is_tick(one, 2),
+        Other::Hearing => is_hearing(one),
+        Other::Ship => is_shipping(one),
+    }
+}
+
+/// Whether caller 1 ticks both before and after a record of the other kind.
+fn are_mixed(records: &[Record], other: Other) -> bool {
     let mut began = false;
-    let mut other = false;
+    let mut between = false;
     for one in records {
         if is_tick(one, 1) {
-            if other {
+            if between {
                 return true;
             }
             began = true;
         }
-        if began
-            && (if hearing {
-                is_hearing(one)
-            } else {
-                is_tick(one, 2)
-            })
-        {
-            other = true;
+        if began && is_other(one, other) {
+            between = true;
         }
     }
     false
 }
 
-/// Whether some journal is mixed.
-fn some_are_mixed(closed: &[Closed], hearing: bool) -> bool {
-    closed.iter().any(|one| are_mixed(one.records(), hearing))
+/// What was seen at one node.
+#[derive(Clone, Copy)]
+struct Beside {
+    callers: bool,
+    hearings: bool,
+    ships: bool,
 }
 
-/// Whether callers interleave in one of `times` runs, and a caller and a link in one.
+impl Beside {
+    fn or(self, records: &[Record]) -> Self {
+        Beside {
+            callers: self.callers || are_mixed(records, Other::Caller),
+            hearings: self.hearings || are_mixed(records, Other::Hearing),
+            ships: self.ships || are_mixed(records, Other::Ship),
+        }
+    }
+
+    fn is_all(self) -> bool {
+        self.callers && self.hearings && self.ships
+    }
+}
+
+/// Whether at each of two nodes, in some of `times` runs, callers interleave, a caller with a hearing, and a caller with
+/// a ship.
 fn run_beside<R: Threads + Wait + Sync>(rt: &R, alloc: Global, times: u32) -> Option<bool> {
     let phases = ticking(alloc)?;
-    let mut callers = false;
-    let mut links = false;
+    let none = Beside {
+        callers: false,
+        hearings: false,
+        ships: false,
+    };
+    let mut seen = [none, none];
     for _time in 0..times {
         let report = ran(rt, alloc, TWO, phases.as_slice(), &Open)?.ok()?;
-        let closed = report.closed.as_slice();
-        callers = callers || some_are_mixed(closed, false);
-        links = links || some_are_mixed(closed, true);
-        if callers && links {
+        for (one, beside) in report.closed.as_slice().iter().zip(seen.iter_mut()) {
+            *beside = beside.or(one.records());
+        }
+        if seen[0].is_all() && seen[1].is_all() {
             return Some(true);
         }
     }
@@ -290,6 +329,6 @@ fn run_beside<R: Threads + Wait + Sync>(rt: &R, alloc: Global, times: u32) -> Op
 
 #[test]
 fn callers_and_links_run_beside_each_other(rt: HostRuntime) -> Result<(), Fail> {
-    assert_eq!(rt; run_beside(&rt, rt.alloc(), 100), Some(true));
+    assert_eq!(rt; run_beside(&rt, rt.alloc(), 300), Some(true));
     Ok(())
 }

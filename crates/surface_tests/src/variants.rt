@@ -376,6 +376,49 @@ fn faults_have_their_numbers(rt: HostRuntime) {
     for kind in WIRE_FAULT_KINDS {
         assert!(rt; place_of_wire_fault_kind(kind) == kind.number());
     }
+    // The rows print the names of the others.
+    assert!(rt; WireFaultKind::TooLong.name() == "TooLong");
+}
+
+/// A fault of a run of each kind.
+const RUN_FAULTS: [RunFault; 8] = [
+    RunFault::TooManyNodes,
+    RunFault::NoThread,
+    RunFault::LinkLost {
+        from: NodeId(0),
+        to: NodeId(1),
+    },
+    RunFault::Open(OpenFault::NoReader),
+    RunFault::Site {
+        node: NodeId(0),
+        why: LiveFault::JournalFull,
+    },
+    RunFault::Close {
+        node: NodeId(0),
+        why: CloseFault::SeatMissing,
+    },
+    RunFault::NoPage { node: NodeId(0) },
+    RunFault::NoMemory,
+];
+
+/// Their names, in the order of their numbers.
+const RUN_FAULT_NAMES: [&str; 8] = [
+    "TooManyNodes",
+    "NoThread",
+    "LinkLost",
+    "Open",
+    "Site",
+    "Close",
+    "NoPage",
+    "NoMemory",
+];
+
+#[test]
+fn run_faults_have_their_numbers_and_names(rt: HostRuntime) {
+    for (fault, name) in RUN_FAULTS.iter().zip(RUN_FAULT_NAMES.iter()) {
+        assert!(rt; place_of_run_fault(fault) == fault.number());
+        assert!(rt; fault.name() == *name);
+    }
 }
 
 #[test]

@@ -333,18 +333,28 @@ fn deltas(alloc: Global, count: u64) -> Option<Buffer<Delta>> {
     Some(buffer)
 }
 
+/// A log of 31 deltas, without joins of blocks.
+fn unjoined(alloc: Global) -> Option<Buffer<Delta>> {
+    let mut all = Vec::new(alloc);
+    for number in 0..31u64 {
+        all.push(MapOf::one(alloc, number, Max::new(number)).ok()?)
+            .ok()?;
+    }
+    let mut buffer = Buffer::new(alloc);
+    if all.len() < 1 << 61 {
+        buffer.push_all(all).ok()?;
+    }
+    Some(buffer)
+}
+
 /// The log of a call, with its blocks joined unless the call itself joins them. A push meets a full capacity, also one
 /// in two steps. Of several pushes, only the second does.
 fn deltas_for(alloc: Global, asked: OfBuffer) -> Option<Buffer<Delta>> {
-    let count: u64 = match asked {
-        OfBuffer::Push | OfBuffer::Stage => 32,
-        _ => 31,
-    };
-    let mut buffer = deltas(alloc, count)?;
-    if asked != OfBuffer::Warm {
-        buffer.warm().ok()?;
+    match asked {
+        OfBuffer::Push | OfBuffer::Stage => deltas(alloc, 32),
+        OfBuffer::Warm => unjoined(alloc),
+        _ => deltas(alloc, 31),
     }
-    Some(buffer)
 }
 
 /// The fixture of delta logs.
@@ -393,6 +403,14 @@ impl BufferFixture {
         }
     }
 
+    /// Makes the interval of the deltas after the third ready.
+    fn warm_from_third(&mut self) -> Said {
+        if self.buffer.count() < 3 {
+            return Said::Other;
+        }
+        of_any(self.buffer.warm_from(3))
+    }
+
     /// Joins the deltas after the third, or lists their blocks.
     fn join_from_third(&self) -> Said {
         if self.buffer.count() < 3 {
@@ -413,7 +431,7 @@ impl Fixture for BufferFixture {
             OfBuffer::Stage => self.stage(),
             OfBuffer::PushAll => self.push_three(),
             OfBuffer::Interval | OfBuffer::Blocks => self.join_from_third(),
-            OfBuffer::Warm => of_any(self.buffer.warm()),
+            OfBuffer::Warm => self.warm_from_third(),
             OfBuffer::Copy => of_any(self.buffer.copy()),
             OfBuffer::Raise => of_any(self.acks.raise(origin(OTHER), 4)),
             OfBuffer::CopyAcks => of_any(self.acks.copy()),

@@ -1,5 +1,5 @@
 -- A start gate that has opened stays open.
-use Rattle.std.proofs.Common.{◌≡◌, true, false, cond, nat_eq, List, [], ◌∷◌, ◌++◌, Option, Some, None, Result, Ok, Err, inl, inr, refl, sym, ap, subst, append-nil, eq-eqb}
+use Rattle.std.proofs.Common.{◌≡◌, true, false, cond, nat_eq, List, [], ◌∷◌, Result, Ok, Err, inl, inr, refl, sym, ap, subst, append-nil, eq-eqb}
 use Rattle.std.specs.Prelude.{nat_lt}
 use Rattle.std.proofs.lemmas.Map.Views.{exact_unsigned_eq}
 use Rattle.dac_base.specs.declared.NodeId.{NodeId}

@@ -23,7 +23,7 @@ use Rattle.dac_wishes.specs.laws.KeyedWrites.{same_dot_itself}
 use Rattle.dac_wishes.specs.Votes.{Votes, VotesValue, AreVotes, joined_vote, join_votes}
 use Rattle.dac_wishes.specs.laws.Votes.{standing-join_votes}
 use Rattle.dac_operations.specs.declared.act.Act.{Act}
-use Rattle.dac_operations.specs.Operations.{Operation, over_list}
+use Rattle.dac_operations.specs.Operations.{over_list}
 use Rattle.dac_meaning.specs.StateValue.{StateValue}
 use Rattle.dac_meaning.specs.Meaning.{meaning_of, is_same, flag_written, vote_says, vote_at}
 use Rattle.dac_meaning.specs.laws.Readers.{known-meaning}

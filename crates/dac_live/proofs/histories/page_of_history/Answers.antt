@@ -1,4 +1,4 @@
-use Rattle.std.proofs.Common.{◌≡◌, List, length, take, sym, ap, ◌∙◌, subst, take_all, arith}
+use Rattle.std.proofs.Common.{◌≡◌, List, length, take, ◌∙◌, subst, take_all, arith}
 use Rattle.std.proofs.lemmas.List.Elements.{AllWithin-none}
 use Rattle.dac_crews.specs.Record.{Record}
 use Rattle.dac_crews.specs.Journals.{beginning_of, EndsAt}

@@ -1,4 +1,4 @@
-use Rattle.std.proofs.Common.{◌≤◌, length, take, map}
+use Rattle.std.proofs.Common.{◌≤◌, length, take}
 use Rattle.std.specs.List.{AllWithin}
 use Rattle.dac_crews.specs.Journals.{beginning_of, EndsAt}
 use Rattle.dac_live.specs.Reads.{IsPageOf}

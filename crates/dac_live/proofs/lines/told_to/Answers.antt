@@ -1,4 +1,4 @@
-use Rattle.std.proofs.Common.{◌≡◌, ◌++◌, List, length, zip, flat_map, sym, ap, ◌∙◌, arith}
+use Rattle.std.proofs.Common.{◌++◌, List, length, zip, flat_map, sym, ap, ◌∙◌, arith}
 use Rattle.std.proofs.lemmas.Slice.Zip.{AllZip-long}
 use Rattle.dac_crews.specs.declared.phases.Line.{Line}
 use Rattle.dac_crews.specs.declared.phases.Phase.{Phase}

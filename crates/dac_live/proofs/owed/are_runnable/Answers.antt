@@ -1,6 +1,5 @@
 use Rattle.std.proofs.Common.{List, All, subst, take_all}
 use Rattle.std.proofs.lemmas.List.Elements.{All-more}
-use Rattle.dac_crews.specs.declared.phases.Phase.{Phase}
 use Rattle.dac_live.specs.Lines.{HasLines}
 use Rattle.dac_live.proofs.owed.are_runnable.Goals as goal
 

@@ -1,4 +1,4 @@
-use Rattle.std.proofs.Common.{◌≡◌, ◌+◌, ◌++◌, ◌∷◌, [], ◌<◌, length, get_or, take, map, zip, Option, Some, None, Bor, sym, ap, ◌∙◌, arith, append-nil}
+use Rattle.std.proofs.Common.{◌+◌, ◌++◌, ◌∷◌, [], ◌<◌, length, get_or, take, map, zip, Option, Some, None, Bor, sym, ap, ◌∙◌, arith, append-nil}
 use Rattle.std.proofs.lemmas.List.{map_push, get_or_default}
 use Rattle.dac_pages.specs.declared.page.Page.{Page}
 use Rattle.dac_crews.specs.Compared.{found}

@@ -1,6 +1,5 @@
-use Rattle.std.proofs.Common.{◌≡◌, ◌++◌, ◌∷◌, [], take, sym, ap, ◌∙◌, subst, take_all}
-use Rattle.dac_crews.specs.Journals.{calls_of}
-use Rattle.dac_live.specs.Reads.{receipt_after, receipt_by}
+use Rattle.std.proofs.Common.{◌++◌, ◌∷◌, [], sym, ap, ◌∙◌}
+use Rattle.dac_live.specs.Reads.{receipt_after}
 use Rattle.dac_live.specs.Following.{receipts_from}
 use Rattle.dac_live.proofs.Followed.{calls_other, last_mine, all_mine}
 use Rattle.dac_live.proofs.receipts.receipts_of.Goals as goal

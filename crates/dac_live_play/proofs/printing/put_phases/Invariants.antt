@@ -1,5 +1,4 @@
-use Rattle.std.proofs.Common.{◌≡◌, ℕ, ◌+◌, List, ◌++◌, map}
-use Rattle.dac_script.specs.declared.live_line.LiveLine.{LiveLine}
+use Rattle.std.proofs.Common.{◌≡◌, ◌+◌, ◌++◌, map}
 use Rattle.dac_live_play.specs.Texts.{phase_text, phases_text}
 use Rattle.dac_live_play.proofs.Placing.{left}
 use Rattle.dac_live_play.proofs.printing.put_phases.Given as goal

@@ -1,4 +1,4 @@
-use Rattle.std.proofs.Common.{◌≡◌, ◌+◌, ◌++◌, ◌∷◌, [], take, map, Option, Some, None, Bor, sym, ap, ◌∙◌, append-nil}
+use Rattle.std.proofs.Common.{◌+◌, ◌++◌, ◌∷◌, [], take, map, Some, None, Bor, sym, ap, ◌∙◌, append-nil}
 use Rattle.std.proofs.lemmas.List.{map_push}
 use Rattle.dac_messages.specs.declared.event.Event.{Event}
 use Rattle.dac_crews.specs.Compared.{found}

@@ -1,4 +1,4 @@
-use Rattle.std.proofs.Common.{◌≡◌, ◌*◌, ap, ◌∙◌, arith}
+use Rattle.std.proofs.Common.{◌≡◌, ◌*◌, arith}
 use Rattle.std.proofs.lemmas.Bool.{false≢true}
 use Rattle.dac_phases.specs.Pairs.{shipper_seat, worker_seat}
 use Rattle.dac_phases.proofs.Shipped.{linked, heard_of, ships_of}

@@ -1,4 +1,4 @@
-use Rattle.std.proofs.Common.{◌≡◌, ◌+◌, ap, ◌∙◌}
+use Rattle.std.proofs.Common.{◌+◌, ap, ◌∙◌}
 use Rattle.dac_phases.proofs.Parted.{pushed, parted_more, parted_whole}
 use Rattle.dac_phases.proofs.phases.parted.Goals as goal
 

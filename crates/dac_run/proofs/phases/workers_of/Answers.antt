@@ -1,4 +1,4 @@
-use Rattle.std.proofs.Common.{◌≡◌, ◌∷◌, Ok, Err, ap, ◌∙◌}
+use Rattle.std.proofs.Common.{◌∷◌, Ok, Err, ap, ◌∙◌}
 use Rattle.std.specs.Vec.Iter.{into_iter_items}
 use Rattle.dac_run.proofs.Telling.{a_worker, a_fault, one_more}
 use Rattle.dac_run.proofs.phases.workers_of.Goals as goal

@@ -1,4 +1,4 @@
-use Rattle.std.proofs.Common.{◌≡◌, ◌++◌, ◌∷◌, [], List, Option, Some, refl, sym, ap, ◌∙◌}
+use Rattle.std.proofs.Common.{◌++◌, ◌∷◌, [], refl, sym, ap, ◌∙◌}
 use Rattle.crossbeam_channel.specs.Claims.{view}
 use Rattle.dac_wire.specs.Decoding.{packet_at}
 use Rattle.dac_workers.proofs.Shipping.{hears_none, hears_more}

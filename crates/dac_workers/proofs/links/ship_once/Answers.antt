@@ -1,4 +1,4 @@
-use Rattle.std.proofs.Common.{subst, sym, Ok}
+use Rattle.std.proofs.Common.{subst, Ok}
 use Rattle.std.proofs.lemmas.Result.{on_ok_weaker}
 use Rattle.dac_messages.specs.declared.event.Event.TheVariants.{Ship}
 use Rattle.dac_sites.specs.Added.{CallAdded}

@@ -2,7 +2,7 @@ use Rattle.std.proofs.Common.{◌≡◌, ◌<◌, ◌+◌, ◌++◌, ◌∷◌, 
 use Rattle.dac_model_world.specs.NodeValue.{NodeValue}
 use Rattle.dac_journal.specs.declared.record.Record.{Record}
 use Rattle.dac_journal.specs.Journals.{JournalValue, EndsAt, beginning_of}
-use Rattle.dac_journal.specs.Going.{FitsBy, GoesOnBy, node_by}
+use Rattle.dac_journal.specs.Going.{GoesOnBy, node_by}
 use Rattle.dac_journal.specs.laws.Going.{is_history}
 use Rattle.dac_journal.proofs.journal.Journal.commit.Goals as goal
 

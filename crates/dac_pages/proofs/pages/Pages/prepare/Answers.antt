@@ -1,5 +1,4 @@
-use Rattle.std.proofs.Common.{◌≡◌, None, Some, List, [], ◌∷◌, ◌++◌, drop, refl, sym, ap, ◌∙◌}
-use Rattle.dac_pages.specs.declared.page.Page.{Page}
+use Rattle.std.proofs.Common.{◌≡◌, Some, drop, sym, ap, ◌∙◌}
 use Rattle.dac_pages.specs.Published.{PagesValue, published_by, last_of}
 use Rattle.dac_pages.proofs.Last.{last_of-push}
 use Rattle.dac_pages.proofs.pages.Pages.prepare.Goals as goal

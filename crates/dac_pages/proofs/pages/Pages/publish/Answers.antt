@@ -1,6 +1,6 @@
-use Rattle.std.proofs.Common.{◌≡◌, None, Some, List, [], ◌∷◌, ◌++◌, drop, refl, sym, ap, ◌∙◌, subst, arith}
+use Rattle.std.proofs.Common.{◌≡◌, None, Some, drop, sym, ap, ◌∙◌, arith}
 use Rattle.dac_pages.specs.declared.page.Page.{Page}
-use Rattle.dac_pages.specs.Published.{PagesValue, published_by, last_of, IsWriterReady}
+use Rattle.dac_pages.specs.Published.{PagesValue, published_by, last_of}
 use Rattle.dac_pages.proofs.Last.{taken_in, last_of-none, if_ok}
 use Rattle.dac_pages.proofs.Places.{rises}
 use Rattle.dac_pages.proofs.pages.Pages.publish.Goals as goal
