@@ -13,6 +13,8 @@ from collections.abc import Callable
 from dataclasses import dataclass, field
 from functools import cached_property
 
+from streams import run_model
+
 MOST_BYTES, MOST_INPUT = 65_536, 2_097_152
 MOST_NODES, MOST_APPS = 64, 64
 MOST_NAME, MOST_TIMEOUT, MOST_DEPTH = 255, 4_294_967_295, 64
@@ -512,9 +514,7 @@ def check(text: bytes) -> tuple[bytes, int]:
 
 def main() -> int:
     """Checks standard input."""
-    output, status = check(sys.stdin.buffer.read())
-    sys.stdout.buffer.write(output)
-    return status
+    return run_model("check.py", check)
 
 
 if __name__ == "__main__":

@@ -2,14 +2,15 @@
 """Runs the program and the models on the same random inputs, and prints the first difference whole.
 
 Usage: python3 compare.py PROGRAM [--seed S] [--count N] [--scripts M] [--live L] [--racing R] [--recorded D] [--packets P]
-       [--still T] [--reboots B] [--keys K] [--jobs J]
+       [--still T] [--reboots B] [--keys K] [--jobs J] [--only KIND..]
 
 PROGRAM can be a command of several words in one argument, such as a loader with its arguments. The word `check`, `sim`,
 `live` or `record` is appended. A live run that hasn't ended after some minutes is also a difference. Packets are fed to
 `sim`, 500 per script. The output of racing live scripts depends on the order of the threads, so only properties of
 every run are checked: see racing.py. These scripts and those with one outcome are also recorded: see recorded.py. Long
 scripts have many ticks that change nothing, many reboots, or maps of many keys: see random_long.py. All inputs that
-checks/fuzz found are played too: see found.py. The last line counts, and says whether PROGRAM is the proved program. A
+checks/fuzz found are played too: see found.py. With --only the kinds not named there, as in `--only count live`, have
+no inputs. The last line counts, and says whether PROGRAM is the proved program. A
 program elsewhere, such as a copy, counts as not proved.
 """
 
@@ -39,6 +40,7 @@ import random_scripts
 import random_texts
 import simulator
 from arguments import at_least
+from streams import printed
 
 Answer = Tuple[bytes, int]
 Model = Callable[[bytes], Answer]
@@ -48,6 +50,18 @@ BATCH = 50
 # The lines counted in long scripts, by their first words.
 COUNTED = {"still": (b"tick ",), "reboots": (b"crash ",), "keys": (b"permit ", b"start ")}
 MOST_SECONDS = 300
+# The default count of each kind's inputs, and what they are.
+COUNTS = {
+    "count": (20_000, "texts for `check`"),
+    "scripts": (2_000, "scripts for `sim`"),
+    "live": (500, "scripts for `live`"),
+    "racing": (300, "scripts for `live` whose output depends on the threads"),
+    "recorded": (200, "scripts of either kind for `record`"),
+    "packets": (20_000, "packets for `feed`, at least"),
+    "still": (20, "scripts for `sim` of ticks that change nothing"),
+    "reboots": (3, "scripts for `sim` of hundreds or thousands of reboots"),
+    "keys": (20, "scripts for `sim` of 1 to 1,088 keys"),
+}
 
 
 @dataclass(frozen=True)
@@ -105,6 +119,11 @@ def by_recording(judge: recorded.Judge) -> Judge:
     return lambda source, said: recorded.fault_of_record(judge, source, *said)
 
 
+def judge_of(command: str) -> Judge:
+    """Judges a command by its model, or a recorded run that no order of threads changes by its properties."""
+    return by_model(found.MODELS[command]) if command in found.MODELS else by_recording(recorded.by_outcome)
+
+
 KINDS = {
     "check": Kind("check", random_texts.random_text, by_model(check.check)),
     "sim": Kind("sim", random_scripts.random_script, by_model(simulator.simulate)),
@@ -115,7 +134,7 @@ KINDS = {
     "packets": Kind("sim", random_scripts.random_packets, by_model(simulator.simulate)),
     **{kind: Kind("sim", partial(random_long.random_long, kind), by_model(simulator.simulate)) for kind in COUNTED},
     **{
-        f"found {command}": Kind(word, partial(found.source, command), by_model(found.MODELS[command]))
+        f"found {command}": Kind(word, partial(found.source, command), judge_of(command))
         for command, word in found.WORDS.items()
     },
 }
@@ -181,18 +200,14 @@ def arguments() -> argparse.Namespace:
     """The command line's arguments."""
     parser = argparse.ArgumentParser(description="Compares the program with the models on random inputs.")
     parser.add_argument("--seed", type=int, default=1)
-    parser.add_argument("--count", type=at_least(0), default=20_000, help="how many texts for `check`")
-    parser.add_argument("--scripts", type=at_least(0), default=2_000, help="how many scripts for `sim`")
-    parser.add_argument("--live", type=at_least(0), default=500, help="how many scripts for `live`")
-    parser.add_argument("--racing", type=at_least(0), default=300, help="how many scripts for `live` whose answers hang on the threads")
-    parser.add_argument("--recorded", type=at_least(0), default=200, help="how many scripts of either kind for `record`")
-    parser.add_argument("--packets", type=at_least(0), default=20_000, help="how many packets for `feed`, at least")
-    parser.add_argument("--still", type=at_least(0), default=20, help="how many scripts for `sim` of ticks at which nothing changes")
-    parser.add_argument("--reboots", type=at_least(0), default=3, help="how many scripts for `sim` of hundreds or thousands of reboots")
-    parser.add_argument("--keys", type=at_least(0), default=20, help="how many scripts for `sim` of 1 to 1,088 keys")
+    for kind, (count, what) in COUNTS.items():
+        parser.add_argument(f"--{kind}", type=at_least(0), default=count, metavar="N", help=what)
+    parser.add_argument("--only", nargs="+", choices=list(COUNTS), metavar="KIND", help="give the other kinds no inputs")
     parser.add_argument("--jobs", type=at_least(1), default=2)
     parser.add_argument("program", type=shlex.split, help="the program, or a command of several words")
-    return parser.parse_args()
+    words = parser.parse_args()
+    vars(words).update({kind: 0 for kind in COUNTS if words.only and kind not in words.only})
+    return words
 
 
 def of_long(lines: Counter[str]) -> str:
@@ -220,4 +235,4 @@ def main() -> int:
 
 
 if __name__ == "__main__":
-    sys.exit(main())
+    sys.exit(printed("compare.py", main))

@@ -1,8 +1,8 @@
 """Inputs that checks/fuzz found, in the folder `found`. Each reaches code of the program that no seed reaches.
 
 Each command has a file with one input per line, as hexadecimal bytes, the shortest first. Those of `feed` are the bytes
-of packets, which a script feeds under the configuration of models/seeds.py. An input of `live` is kept only if its
-output is the same in every order of its threads.
+of packets, which a script feeds under the configuration of models/seeds.py. An input of `live` or `record` is kept only if
+its pages are the same in every order of its threads.
 """
 
 from __future__ import annotations
@@ -19,10 +19,11 @@ import simulator
 
 FOLDER = Path(__file__).resolve().parent / "found"
 # The program's word for each command tried.
-WORDS = {"check": "check", "sim": "sim", "live": "live", "feed": "sim"}
+WORDS = {"check": "check", "sim": "sim", "live": "live", "feed": "sim", "record": "record"}
 FEEDS = seeds.PACKETS_UNDER + seeds.PARTED + b"feed "
 
 Answer = Tuple[bytes, int]
+# (the lines of `record` depend on the threads: recorded.py judges them)
 MODELS: dict[str, Callable[[bytes], Answer]] = {
     "check": check.check,
     "sim": simulator.simulate,

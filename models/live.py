@@ -17,6 +17,7 @@ from typing import Callable, List
 
 from check import Config, ConfigFault
 from simulator import ACTOR, COMMANDS, SHAPES, VERB, InputFault, Line, LineReader, Printer, ScriptFault, Value, read_input
+from streams import run_model
 from wire import WireFault, read_packet
 from world import Refused, World
 
@@ -238,9 +239,7 @@ def run_live(source: bytes, choose: Choose = first) -> tuple[bytes, int]:
 
 def main() -> int:
     """Runs standard input."""
-    output, status = run_live(sys.stdin.buffer.read())
-    sys.stdout.buffer.write(output)
-    return status
+    return run_model("live.py", run_live)
 
 
 if __name__ == "__main__":

@@ -1,11 +1,12 @@
 #!/usr/bin/env python3
-"""Changes the model of `distac sim` in one place at a time, and lists the changes that no row detects.
+"""Changes the models of `distac sim` and `distac live` in one place at a time, and lists the changes that no row detects.
 
 Usage: python3 mutated.py [--rows FOLDER] [--jobs J] [--list]
 
-A mutant is one change of world.py, placement.py, meaning.py or simulator.py (see mutations.py): a wrong definition, as
-an operator would see it. It falls if it changes the output of a row of examples/rows or of an example (see
-row_files.py), fails, or takes more than some seconds. The texts of configurations (check.py) and the bytes (wire.py)
+A mutant is one change of world.py, placement.py, meaning.py, simulator.py or live.py (see mutations.py): a wrong
+definition, as an operator would see it. It falls if it changes the output of a row of examples/rows or of an example (see
+row_files.py), fails, or takes more than some seconds. Those of live.py are played on the rows of `distac live` alone, in
+two orders of the threads, the others on all rows. The texts of configurations (check.py) and the bytes (wire.py)
 aren't changed, because they have rows and tests of their own; nor is command-line code.
 
 unseen.txt lists the mutants that no row detects, each with a reason. Equivalent ones change no output. Those that a
@@ -20,6 +21,7 @@ from __future__ import annotations
 
 import argparse
 import importlib
+import operator
 import signal
 import sys
 import types
@@ -33,15 +35,16 @@ from pathlib import Path
 from typing import Optional
 
 from arguments import at_least
+from kinds import Kinds
 from mutations import Mutation, mutations_of
-from row_files import TOP, Row, all_rows
+from row_files import LIVE, SIM, TOP, Row, all_rows
 
 MODELS = Path(__file__).resolve().parent
 REASONS = MODELS / "unseen.txt"
 # Each module after those that it imports.
-MODULES = ("check", "meaning", "wire", "placement", "world", "simulator")
-CHANGED = ("world", "placement", "meaning", "simulator")
-MOST_SECONDS = 10.0
+MODULES = ("check", "meaning", "wire", "placement", "world", "simulator", "live")
+CHANGED = ("world", "placement", "meaning", "simulator", "live")
+MOST_SECONDS = 4.0
 BATCH = 20
 EQUIVALENT, LEFT, TESTED = "equivalent", "left", "tested by "
 
@@ -85,12 +88,13 @@ def code_of(module: str) -> types.CodeType:
 
 def all_mutations() -> list[Mutation]:
     """All mutants."""
-    return [mutation for module in CHANGED for mutation in mutations_of(f"{module}.py", source_of(module))]
+    kinds = Kinds({module: source_of(module) for module in MODULES})
+    return [mutation for module in CHANGED for mutation in mutations_of(f"{module}.py", source_of(module), kinds)]
 
 
 @contextmanager
-def loaded(mutation: Mutation) -> Iterator[types.ModuleType]:
-    """The model with a change. In its context the changed module and those that depend on it replace the original
+def loaded(mutation: Mutation) -> Iterator[None]:
+    """The models with a change. In its context the changed module and those that depend on it replace the original
     ones."""
     first = [f"{name}.py" for name in MODULES].index(mutation.file)
     kept = {name: importlib.import_module(name) for name in MODULES}
@@ -100,7 +104,7 @@ def loaded(mutation: Mutation) -> Iterator[types.ModuleType]:
             code = compile(mutation.applied(source_of(name)), f"{name}.py", "exec") if is_changed else code_of(name)
             sys.modules[name] = module = types.ModuleType(name)
             exec(code, module.__dict__)
-        yield sys.modules["simulator"]
+        yield
     finally:
         sys.modules.update(kept)
 
@@ -122,14 +126,23 @@ def limited(seconds: float) -> Iterator[None]:
         signal.signal(signal.SIGVTALRM, before)
 
 
+def differs(row: Row) -> bool:
+    """Whether the models don't print a row. The threads of a live script take turns from the first and from the last."""
+    wanted = row.output, row.status
+    if row.command == SIM:
+        return bool(sys.modules["simulator"].simulate(row.source) != wanted)
+    run = sys.modules["live"].run_live
+    return bool(run(row.source) != wanted or run(row.source, operator.itemgetter(-1)) != wanted)
+
+
 def seen_by(mutation: Mutation, rows: list[Row]) -> Optional[str]:
     """The first row whose output changes, or the mutant's failure, or None if nothing detects it."""
     name = "nothing yet"
     try:
-        with limited(MOST_SECONDS), loaded(mutation) as model:
+        with limited(MOST_SECONDS), loaded(mutation):
             for row in rows:
                 name = row.name
-                if model.simulate(row.source) != (row.output, row.status):
+                if differs(row):
                     return name
     except (Exception, TooSlow) as fault:
         return f"{name}, by {type(fault).__name__}"
@@ -137,8 +150,9 @@ def seen_by(mutation: Mutation, rows: list[Row]) -> Optional[str]:
 
 
 def seen_in(mutations: list[Mutation], rows: list[Row]) -> list[Optional[str]]:
-    """The detection of each of some mutants."""
-    return [seen_by(mutation, rows) for mutation in mutations]
+    """The detection of each of some mutants, those of live.py by the rows of `distac live` alone."""
+    of_live = [row for row in rows if row.command == LIVE]
+    return [seen_by(mutation, of_live if mutation.file == "live.py" else rows) for mutation in mutations]
 
 
 def survivors_of(mutations: list[Mutation], rows: list[Row], jobs: int) -> list[Mutation]:
@@ -216,7 +230,7 @@ def report(mutations: list[Mutation], survivors: list[Mutation], reasons: dict[s
 
 def arguments() -> argparse.Namespace:
     """The command line's arguments."""
-    parser = argparse.ArgumentParser(description="Lists the changes of the model of `distac sim` that no row sees.")
+    parser = argparse.ArgumentParser(description="Lists the changes of the models of `distac sim` and `distac live` that no row sees.")
     parser.add_argument("--rows", type=Path, default=TOP, help="the clone whose rows and examples are played, this one if not given")
     parser.add_argument("--jobs", type=at_least(1), default=2)
     parser.add_argument("--list", action="store_true", help="list all mutants, and play none")

@@ -1,7 +1,10 @@
-"""Changes of a Python text: one operator, comparison, constant, boolean, case or statement at a time.
+"""Changes of a Python text: one operator, comparison, constant, boolean, case, name, attribute or statement at a time.
 
 A text is changed at the position of a part of its syntax tree, so that each change can be shown and the rest keeps its
 place. Types, decorators, comments and command-line code stay as they are.
+
+A name becomes another one of its kind that is bound at its place, an attribute another one of its kind in its class (see
+scopes.py), and a constant another one of its table.
 """
 
 from __future__ import annotations
@@ -11,7 +14,10 @@ import re
 from collections import Counter
 from collections.abc import Iterator
 from dataclasses import dataclass, replace
-from typing import Dict, Optional, Tuple, Type
+from typing import Dict, Optional, Tuple, Type, Union
+
+from kinds import INT, Kinds, index_of
+from scopes import Places, Scopes
 
 # How a comparison is written, and its replacements.
 COMPARISONS: Dict[Type[ast.cmpop], Tuple[str, Tuple[str, ...]]] = {
@@ -40,6 +46,10 @@ OTHER_CALLS = {"max": "min", "min": "max", "any": "all", "all": "any", "sorted":
 CLAIMS = ("NORMAL", "FAILOVER", "TAKEOVER")
 VERDICTS = ("START", "FAILOVER", "MOVE", "TAKEOVER", "KEPT", "HALTED", "NOBODY")
 BODIES = ("WHOLE", "INTERVAL", "NOTHING")
+ACTS = ("Up", "Down", "Permit", "Start", "Stop", "ClaimAct", "Drain")
+WORDS = ("VERB", "ACTOR", "NODE", "APP", "NUMBER", "TRUTH", "HEX", "CALLER")
+LIVE_WORDS = ("READ", "FEED", "PHASE")
+TABLES = (BODIES, ACTS, WORDS, LIVE_WORDS)
 # The module with the verdicts' names.
 PLACEMENT = "placement"
 
@@ -82,11 +92,12 @@ class Mutation:
         return text[: self.edit.start] + self.edit.put + text[self.edit.end :]
 
 
-def mutations_of(file: str, text: str) -> list[Mutation]:
-    """All changes of a file, from top to bottom. Later ones that look alike in a function are numbered."""
+def mutations_of(file: str, text: str, kinds: Optional[Kinds] = None) -> list[Mutation]:
+    """All changes of a file, from top to bottom, given the kinds of names in its and other modules. Later ones that look
+    alike in a function are numbered."""
     found: list[Mutation] = []
     seen: Counter[str] = Counter()
-    for mutation in Walk(file, text).mutations():
+    for mutation in Walk(file, text, kinds or Kinds({file[: -len(".py")]: text})).mutations():
         seen[str(mutation)] += 1
         number = seen[str(mutation)]
         found.append(mutation if number == 1 else replace(mutation, new=f"{mutation.new} ({number})"))
@@ -105,7 +116,7 @@ def is_skipped(node: ast.AST) -> bool:
     if isinstance(node, ast.If) and isinstance(node.test, ast.Compare):
         return isinstance(node.test.left, ast.Name) and node.test.left.id == "__name__"
     if isinstance(node, ast.Assign) and isinstance(node.value, ast.Subscript):
-        return isinstance(node.value.value, ast.Name) and node.value.value.id == "Union"
+        return isinstance(node.value.value, ast.Name) and node.value.value.id in ("Union", "Callable")
     is_untouched = isinstance(node, ast.FunctionDef) and node.name in UNTOUCHED_FUNCTIONS
     return is_untouched or isinstance(node, (ast.Import, ast.ImportFrom, ast.Global))
 
@@ -117,24 +128,17 @@ def is_guard(node: ast.AST) -> bool:
     return isinstance(node, ast.Expr) and isinstance(node.value, ast.Call)
 
 
-def numbers_in(function: ast.FunctionDef) -> frozenset[str]:
-    """The numeric names of a function: parameters of a numeric type, and loop counters."""
-    parameters = {one.arg for one in function.args.args if isinstance(one.annotation, ast.Name) and one.annotation.id == "int"}
-    loops = (node.target for node in ast.walk(function) if isinstance(node, (ast.For, ast.comprehension)))
-    return frozenset(parameters | {target.id for target in loops if isinstance(target, ast.Name)})
-
-
 class Walk:
     """Finds the changes of a text."""
 
-    def __init__(self, file: str, text: str) -> None:
+    def __init__(self, file: str, text: str, kinds: Kinds) -> None:
         self.file = file
         self.text = text
-        self.lines = [0]
-        for line in text.splitlines(keepends=True):
-            self.lines.append(self.lines[-1] + len(line))
+        self.places = Places(text)
+        self.span = self.places.span
+        self.words = frozenset(re.findall(r"\w+", text))
+        self.scopes = Scopes(file[: -len(".py")], self.places, kinds)
         self.function = "module"
-        self.numbers: frozenset[str] = frozenset()
 
     def mutations(self) -> Iterator[Mutation]:
         """All changes."""
@@ -156,17 +160,15 @@ class Walk:
         """The changes of a part, possibly inside a larger expression, with their functions."""
         if is_skipped(node):
             return
-        outer, numbers = self.function, self.numbers
+        outer = self.function
         if isinstance(node, (ast.FunctionDef, ast.ClassDef)):
             self.function = node.name if outer == "module" else f"{outer}.{node.name}"
-        if isinstance(node, ast.FunctionDef):
-            self.numbers = numbers_in(node)
         for edit in self.edits(node, around):
             yield self.function, edit
         inner = node if isinstance(node, ast.expr) and not isinstance(node, ast.Slice) else around
         for part in self.parts(node):
             yield from self.walk(part, inner)
-        self.function, self.numbers = outer, numbers
+        self.function = outer
 
     def parts(self, node: ast.AST) -> Iterator[ast.AST]:
         """The parts of a part that can be changed. A text with values in it has none."""
@@ -176,11 +178,6 @@ class Walk:
                 yield from (part for part in (value if isinstance(value, list) else [value]) if isinstance(part, ast.AST))
 
     # Places
-
-    def span(self, node: ast.AST) -> Tuple[int, int]:
-        """The extent of a part."""
-        start = self.lines[getattr(node, "lineno") - 1] + getattr(node, "col_offset")
-        return start, self.lines[getattr(node, "end_lineno") - 1] + getattr(node, "end_col_offset")
 
     def said(self, node: ast.AST) -> str:
         """The text of a part, in brackets if it needs them."""
@@ -249,14 +246,17 @@ class Walk:
             yield self.other(node, self.said(node)[:-1] + '!"', around)
         elif isinstance(node, ast.Constant):
             yield from self.of_constant(node, around)
-        elif isinstance(getattr(node, "ctx"), ast.Load):
-            name = node.id if isinstance(node, ast.Name) else getattr(node, "attr")
-            is_verdict = self.file.startswith(PLACEMENT) or self.said(node).startswith(f"{PLACEMENT}.")
-            for family in (VERDICTS if is_verdict else CLAIMS, BODIES):
-                others = [other for other in family if other != name and name in family]
-                yield from (self.other(node, self.said(node)[: -len(name)] + other, around) for other in others)
-            if self.is_number(node):
-                yield from (self.other(node, other, around) for other in sorted(self.numbers - {name}))
+        elif isinstance(node, (ast.Name, ast.Attribute)) and isinstance(node.ctx, ast.Load):
+            yield from self.of_name(node, around)
+
+    def of_name(self, node: Union[ast.Name, ast.Attribute], around: ast.expr) -> Iterator[Edit]:
+        """Another name of its table or of its kind."""
+        name = node.id if isinstance(node, ast.Name) else node.attr
+        is_verdict = self.file.startswith(PLACEMENT) or self.said(node).startswith(f"{PLACEMENT}.")
+        tables = (VERDICTS if is_verdict else CLAIMS, *(tuple(self.words.intersection(table)) for table in TABLES))
+        others = [other for table in tables if name in table for other in sorted(table)]
+        others += self.scopes.others(node)
+        yield from (self.other(node, self.said(node)[: -len(name)] + other, around) for other in others if other != name)
 
     def of_constant(self, node: ast.Constant, around: ast.expr) -> Iterator[Edit]:
         """The other truth value, a number one up or down, or a text with a mark after one of its words."""
@@ -331,14 +331,13 @@ class Walk:
 
     def is_number(self, node: ast.expr) -> bool:
         """Whether a part is a numeric name."""
-        return isinstance(node, ast.Name) and node.id in self.numbers
+        return isinstance(node, ast.Name) and self.scopes.reading.of(node) == INT
 
     def of_container(self, node: ast.AST, around: Optional[ast.expr]) -> Iterator[Edit]:
         """The first item instead of an indexed one, an interval without a bound, a table without a row, an order
         reversed."""
         if isinstance(node, ast.Subscript):
-            # (Python 3.8 wraps the index in a part of its own)
-            index = getattr(node.slice, "value") if type(node.slice).__name__ == "Index" else node.slice
+            index = index_of(node)
             if isinstance(index, (ast.Name, ast.Attribute)) and isinstance(node.ctx, ast.Load):
                 yield self.other(index, "0", node)
         elif isinstance(node, ast.Slice):

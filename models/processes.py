@@ -20,6 +20,8 @@ from pathlib import Path
 from types import FrameType
 from typing import NoReturn, Union
 
+from streams import printed
+
 Word = Union[str, Path]
 # The running processes. Each leads a session, which contains everything that it starts.
 RUNNING: set[subprocess.Popen[bytes]] = set()
@@ -144,4 +146,4 @@ def work_until_ended(work: Callable[[], int]) -> int:
     """Does a script's work and returns its status. A signal ends the work and all that it started."""
     handle_signals(end)
     with ThreadPoolExecutor(1) as pool:
-        return pool.submit(work).result()
+        return pool.submit(printed, Path(sys.argv[0]).name, work).result()

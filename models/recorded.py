@@ -23,10 +23,10 @@ from typing import Callable, Dict, List, Optional, Tuple
 
 import live
 import racing
-from check import Config
+from check import Config, Fault
 from live import READ, Asked, LiveReader, Phase, Run, phases_of
 from racing import OK, Broken, demand
-from simulator import Line, LineReader, Player, Value, parted, read_input
+from simulator import InputFault, Line, LineReader, Player, ScriptFault, Value, parted, read_input
 
 SHIP, HEAR, PAGE = b"ship", b"hear", b"page"
 SHIPS_OF_PHASE = 5
@@ -116,7 +116,10 @@ def demand_all(source: bytes, output: bytes, judge: Judge) -> None:
     """Demands all properties."""
     config, asked = read_input(source, LiveReader)
     phases = phases_of(asked)
-    found, lines = read_input(output, LineReader)
+    try:
+        found, lines = read_input(output, LineReader)
+    except (Fault, InputFault, ScriptFault) as fault:
+        raise Broken(f"the output is no script: {fault!r}") from fault
     parts = parted(output)
     demand(found == config and parts is not None and parts[0] == config.canonical_text, "the configuration is another one")
     printed = printed_in(parts[1] if parts else b"")

@@ -87,6 +87,7 @@ SOURCES: dict[str, Callable[[], Iterator[bytes]]] = {
     "sim": scripts,
     "live": live_scripts,
     "feed": packets,
+    "record": live_scripts,
 }
 
 
@@ -153,6 +154,7 @@ def words(command: str) -> list[bytes]:
         "check": words_of_texts(parts),
         "sim": words_of_lines(parts, "Script lines"),
         "live": words_of_lines(parts, "`distac live`"),
+        "record": words_of_lines(parts, "`distac live`"),
         "feed": words_of_packets(parts),
     }[command]
     return [*dict.fromkeys(found)]

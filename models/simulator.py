@@ -5,7 +5,6 @@ sim.py runs it.
 
 from __future__ import annotations
 
-import sys
 from collections.abc import Callable
 from dataclasses import dataclass
 from typing import Union
@@ -13,6 +12,7 @@ from typing import Union
 import placement
 from check import MOST_INPUT, Config, ConfigFault, is_bare_atom, read_config, spelled
 from meaning import FAILOVER, NORMAL, TAKEOVER, ClaimAct, Key, Meaning, Origin
+from streams import run_model
 from wire import INTERVAL, NOTHING, WHOLE, WireFault, packet_bytes, read_packet, state_bytes
 from world import NoSuch, Refused, World
 
@@ -375,6 +375,4 @@ def simulate(source: bytes) -> tuple[bytes, int]:
 
 def main() -> int:
     """Plays standard input."""
-    output, status = simulate(sys.stdin.buffer.read())
-    sys.stdout.buffer.write(output)
-    return status
+    return run_model("sim.py", simulate)

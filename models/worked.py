@@ -1,5 +1,6 @@
 #!/usr/bin/env python3
-"""Worked examples, whose outputs were written down before any program: the models must produce them.
+"""Worked examples, whose outputs were written down before any program: the models must produce them. They are the rows
+of examples/rows, except those of `record`, and values and bytes that no row can show.
 
 Usage: python3 worked.py
 """
@@ -11,6 +12,7 @@ import sys
 from collections.abc import Callable, Iterator
 from dataclasses import dataclass
 from functools import partial
+from pathlib import Path
 from typing import Tuple
 
 from check import Config, check, read_config
@@ -85,45 +87,6 @@ class Row:
         return None
 
 
-FIRST_PATH = "start p m p;ship p q;hear q 1;ship q p;hear p 2;same p q"
-FIRST_PATH_OUT = "+3 p 1 2;shipped 1 whole 2;heard new;shipped 2 whole 3;heard new;same"
-OUT_OF_ORDER = (
-    "permit p m p false;permit p m p true;permit p m p true;start p m p;"
-    "hand q 1;hand q 6;hand q 5;hand q 3;page q;hand q 4;page q;hand q 4;ship q p;hear p 1;same p q"
-)
-OUT_OF_ORDER_OUT = (
-    "+3 p 1 2;+4 p 1 3;+5 p 1 4;+6 p 1 5;heard new;heard new;heard new;heard new;"
-    "node q 1;heard 5 known 6;node p up 1;node q up 1;node r unknown;"
-    "app m holder none verdict nobody;list p=barred q=idle r=down;heard new;"
-    "node q 1;heard 6 known 6;node p up 1;node q up 1;node r unknown;"
-    "app m holder none verdict start p;list p=ok q=idle r=down;"
-    "heard nothing new;shipped 1 whole 6;heard new;same"
-)
-WAIT_STARTS = "start x a x;start y a y;start y b y;start z a z;share;tick x 0;tick y 0;share;crash x;down z x;tick z 1000;"
-WAIT_STARTS_OUT = (
-    "+4 x 1 2;+5 y 1 2;+6 y 1 3;+7 z 1 2;ticked;claim 8 a term 1 normal;ticked;claim 9 b term 1 normal;"
-    "crashed;+10 z 1 3;ticked;"
-)
-REBOOT = (
-    "ship p q;hear q 1;ship q p;hear p 2;start p m p;crash q;boot q 10;ship p q;hear q 3;ship q p;hear p 4;ship p q;hear q 5;"
-)
-REBOOT_OUT = (
-    "shipped 1 whole 1;heard new;shipped 2 whole 2;heard new;+3 p 1 2;crashed;booted 2 op 4;shipped 3 interval 3;"
-    "refused 15 NotForMe;shipped 4 whole 1;heard new;shipped 5 whole 4;heard new;"
-)
-PERMISSIONS = (
-    "permit x a x false;permit y a y true;share;permit y a x true;same x y;share;same x y",
-    "+3 x 1 2;+4 y 1 2;+5 y 1 3;differ;same",
-)
-
-DRAINING = (
-    "start x a x;start y a y;share;tick x 0;share;drain y x true;drain x x false;share;tick y 5;page y;drain y x false;share;"
-    "tick x 6;drain x zz@h true;drain x z true",
-    "+3 x 1 2;+4 y 1 2;ticked;claim 5 a term 1 normal;+6 y 1 3;+7 x 1 4;ticked;claim 8 a term 2 normal;node y 1;"
-    "heard 8 known 8;node x up 1 drained;node y up 1;node z unknown;app a holder y 1 term 2 normal verdict kept y;"
-    "list x=drained y=ok z=down;+9 y 1 5;ticked;claim 10 a term 3 takeover from y;refused 5 UnknownNode;refused 9 NotLive",
-)
-
 DRAINED_ALONE = (
     "drain x x true;takeover x a;start x a x;tick x 0;page x;permit x a x false;page x;drain x x false;page x;"
     "permit x a x true;tick x 0;drain x x true;tick x 0;page x;crash x;drain x x true;boot x 9;start x a x;tick x 9;page x",
@@ -157,23 +120,6 @@ DRAINED_HOLDER = (
 )
 
 ROWS = (
-    Row("first path", EXAMPLE, "p q", FIRST_PATH, FIRST_PATH_OUT),
-    Row(
-        "first path and a stop",
-        EXAMPLE,
-        "p q",
-        FIRST_PATH + ";stop q m p;same p q",
-        FIRST_PATH_OUT + ";+4 q 1 2;differ",
-    ),
-    Row("permissions", ONE_APPLICATION, "x y", *PERMISSIONS),
-    Row(
-        "start and claim",
-        EXAMPLE,
-        "p q r",
-        "start p m p;start q m q;start r m r;tick p 0;share;tick p 0;tick p 0;share;page q",
-        "+4 p 1 2;+5 q 1 2;+6 r 1 2;held;ticked;claim 7 m term 1 normal;ticked;node q 1;heard 7 known 7;..;"
-        "app m holder p 1 term 1 normal verdict kept p;list p=ok q=ok r=ok",
-    ),
     Row(
         "fresh page",
         EXAMPLE,
@@ -182,92 +128,6 @@ ROWS = (
         "node q 1;heard 1 known 1;node p unknown;node q up 1;node r unknown;app m holder none verdict nobody;"
         f"list p=down q=idle r=down;{FRESH_HEX}",
     ),
-    Row("handed out of order", EXAMPLE, "p q", OUT_OF_ORDER, OUT_OF_ORDER_OUT),
-    Row("gate gives up", EXAMPLE, "p", "tick p 4999;tick p 5000;page p;boot p 6000", "held;gave up;node p off;booted 2 op 2"),
-    Row(
-        "failover after the wait",
-        TWO_APPLICATIONS,
-        "x y z",
-        WAIT_STARTS + "tick z 5999;tick z 6000",
-        WAIT_STARTS_OUT + "ticked;ticked;claim 11 a term 2 failover from x",
-    ),
-    Row(
-        "failover where loads tie",
-        TWO_APPLICATIONS,
-        "x y z",
-        WAIT_STARTS.replace("start y b y;", "") + "tick z 5999;tick z 6000;page z",
-        "..;ticked;ticked;node z 1;..;app a holder x 1 term 1 normal verdict failover y;..",
-    ),
-    Row(
-        "return inside the wait",
-        TWO_APPLICATIONS,
-        "x y z",
-        WAIT_STARTS + "boot x 3000;start x a x;share;tick x 3000",
-        WAIT_STARTS_OUT + "booted 2 op 11;+12 x 2 2;ticked;claim 13 a term 2 failover from x",
-    ),
-    Row("interval after a reboot", EXAMPLE, "p q", REBOOT, REBOOT_OUT),
-    Row(
-        "repeats and an older message",
-        EXAMPLE,
-        "p q",
-        REBOOT + "hear q 5;hear q 1;ship q p;hear p 6;ship p q;hear q 7;ship p q;ship q p",
-        REBOOT_OUT + "heard nothing new;heard nothing new;shipped 6 interval 4;heard nothing new;shipped 7 nothing;"
-        "heard nothing new;refused 16 UpToDate;refused 16 UpToDate",
-    ),
-    Row(
-        "two claims of one term",
-        ONE_APPLICATION,
-        "x y z",
-        "start x a x;start z a z;share;tick x 0;share;crash x;start y a y;down y x;down z x;tick y 10;tick z 10;share;page y",
-        "+4 x 1 2;+5 z 1 2;ticked;claim 6 a term 1 normal;crashed;+7 y 1 2;+8 y 1 3;+9 z 1 3;ticked;"
-        "claim 10 a term 2 failover from x;ticked;claim 11 a term 2 failover from x;node y 1;heard 11 known 11;..;"
-        "app a holder z 1 term 2 failover from x verdict kept z;list x=down y=ok z=ok",
-    ),
-    Row(
-        "permission false",
-        TWO_APPLICATIONS,
-        "x z",
-        "start x a x;start z a z;share;tick x 0;permit x a x false;share;tick z 0;permit z a z false;page z",
-        "+3 x 1 2;+4 z 1 2;ticked;claim 5 a term 1 normal;+6 x 1 4;ticked;claim 7 a term 2 normal;+8 z 1 4;node z 1;"
-        "heard 8 known 8;..;app a holder z 1 term 2 normal verdict nobody;list x=barred y=down z=barred;"
-        "app b holder none verdict nobody;list y=down",
-    ),
-    Row(
-        "halted, then failover",
-        ONE_APPLICATION,
-        "x y",
-        "start x a x;start y a y;share;tick x 0;stop x a x;stop x a x;share;tick y 0;page y;crash x;down y x;tick y 20",
-        "+3 x 1 2;+4 y 1 2;ticked;claim 5 a term 1 normal;+6 x 1 4;refused 10 NotStarted;ticked;node y 1;..;"
-        "app a holder x 1 term 1 normal verdict halted x;list x=idle y=ok z=down;crashed;+7 y 1 3;ticked;"
-        "claim 8 a term 2 failover from x",
-    ),
-    Row(
-        "takeovers",
-        ONE_APPLICATION,
-        "y z",
-        "start y a y;start z a z;share;tick y 0;share;takeover z a;share;tick y 0;takeover z a;boot x 0;start x a x;share;"
-        "tick x 0;share;takeover z a",
-        "+3 y 1 2;+4 z 1 2;ticked;claim 5 a term 1 normal;+6 z 1 3;ticked;refused 13 AlreadyHolder;booted 1 op 7;+8 x 1 2;"
-        "ticked;claim 9 a term 3 takeover from z;refused 14 LowerPriority",
-    ),
-    Row(
-        "declared down",
-        ONE_APPLICATION,
-        "y z",
-        "share;down y z;share;tick z 5;start z a z;crash z;boot z 6;boot z 6;tick x 0;page x",
-        "+3 y 1 2;refused 3 DeclaredDown;refused 3 DeclaredDown;crashed;booted 2 op 4;refused 2 AlreadyOn;refused 1 Off;"
-        "node x off",
-    ),
-    Row(
-        "refusals",
-        TWO_APPLICATIONS,
-        "",
-        "boot y 10;tick y 9;down y y;down y x;start y zz y;start y a zz@h;start y b z;takeover y a;start y a y;takeover y a;"
-        "hear y 1;hand y 3",
-        "booted 1 op 1;refused 8 MomentBack;refused 6 OnSelf;refused 9 NotLive;refused 4 UnknownApp;refused 5 UnknownNode;"
-        "refused 7 NotInList;refused 11 NotEligible;+2 y 1 2;refused 12 NotRunning;no message 1;no operation 3",
-    ),
-    Row("draining", ONE_APPLICATION, "x y", *DRAINING),
     Row("the only node drained", ONE_APPLICATION, "x", *DRAINED_ALONE),
     Row("a drained node boots again", ONE_APPLICATION, "x y", *DRAINED_REBOOT),
     Row("takeovers and a drained holder", ONE_APPLICATION, "y z", *DRAINED_HOLDER),
@@ -310,10 +170,6 @@ class LiveRow:
 
 ORDERS = 20
 
-LIVE_PAGE = (
-    "heard 10 known 10;node p up 1;node q up 1;node r up 1;app m holder p 1 term 1 normal verdict kept p;"
-    "list p=ok q=barred r=ok;"
-)
 FAILOVER_PAGE = (
     "heard 11 known 11;node x down 1;node y up 1;node z up 1;app a holder z 1 term 2 failover from x verdict kept z;"
     "list x=down y=ok z=ok;app b holder y 1 term 1 normal verdict kept y;list y=ok;"
@@ -329,15 +185,6 @@ DRAINED_PAGE = (
 CLOSED = "close ok;weave ok"
 
 LIVE_ROWS = (
-    LiveRow(
-        "three nodes in three phases",
-        EXAMPLE,
-        "1 boot p 0;1 boot q 0;1 boot r 0;phase;1 start p m p;1 read p;2 permit p m r true;1 start q m q;2 permit q m q false;"
-        "1 start r m r;2 permit r m p true;feed 44414301;feed 444143010000000000000000;phase;1 tick p 100;2 tick q 100",
-        "phase 1;p 1 ok;q 1 ok;r 1 ok;phase 2;p 1 ok;p 1 fresh;p 2 ok;q 1 ok;q 2 ok;r 1 ok;r 2 ok;wire fault 5 Short at 4;"
-        "wire fault 4 OtherConfig at 4;phase 3;p 1 ok;q 2 ok;"
-        f"node p 1;{LIVE_PAGE};node q 1;{LIVE_PAGE};node r 1;{LIVE_PAGE};{CLOSED}",
-    ),
     LiveRow("nothing is said", ONE_APPLICATION, "", f"phase 1;node x off;node y off;node z off;{CLOSED}"),
     LiveRow(
         "answers by node and caller",
@@ -439,11 +286,6 @@ CANONICAL = (
     b"[{kernel,[{distributed,[{myapp,5000,[cp1@cave,{cp2@cave,cp3@cave}]}]},{permissions,[]},"
     b"{sync_nodes_mandatory,[cp2@cave,cp3@cave]},{sync_nodes_optional,[]},{sync_nodes_timeout,5000}]}].\n"
 )
-QUOTED = b"""[{sasl,[{f,"x.log"}]},{kernel,[{distributed,[{myapp,['n-1@h.example',{a@h}]}]}]}]."""
-QUOTED_CANONICAL = (
-    b"[{kernel,[{distributed,[{myapp,0,['n-1@h.example',a@h]}]},{permissions,[]},{sync_nodes_mandatory,[]},"
-    b"{sync_nodes_optional,[]}]}].\n"
-)
 
 
 def one_entry(entries: bytes) -> bytes:
@@ -458,19 +300,6 @@ def many_nodes(count: int) -> bytes:
 
 TEXTS = (
     (b"%% cp1.config\n" + EXAMPLE.replace(b"{cp2@cave, cp3@cave}", b"{cp3@cave, cp2@cave}"), CANONICAL),
-    (QUOTED, QUOTED_CANONICAL),
-    (one_entry(b"{a,[b@h,{c@h,b@h}]}"), b"config fault 7 TwiceInList at 37\n"),
-    (one_entry(b"{a,[b@h,{}]}"), b"config fault 9 EmptyTuple at 32\n"),
-    (one_entry(b"{a,[]}"), b"config fault 8 EmptyList at 27\n"),
-    (one_entry(b"{a,5.0,[b@h]}"), b"config fault 3 Unsupported at 27\n"),
-    (b"[{kernel,[", b"config fault 4 BadShape at 10\n"),
-    (b"[].", b"config fault 5 NoDistributed at 3\n"),
-    (b"[{kernel,[;", b"config fault 2 BadToken at 10\n"),
-    (one_entry(b"{a,[b@h]},{a,[b@h]}"), b"config fault 6 TwiceApp at 35\n"),
-    (one_entry(b"{a,4294967296,[b@h]}"), b"config fault 12 NumberTooLarge at 27\n"),
-    (one_entry(b"{a,-1,[b@h]}"), b"config fault 4 BadShape at 27\n"),
-    (b"[{kernel,[{f,fun a:b/1}]}].", b"config fault 3 Unsupported at 13\n"),
-    (b'[{kernel,[{f,~"a"}]}].', b"config fault 3 Unsupported at 13\n"),
     (b" " * 65_537, b"config fault 1 TooLong at 65536\n"),
     (one_entry(b",".join(b"{a%d,[n@h]}" % number for number in range(65))), b"config fault 11 TooManyApps at 783\n"),
     (one_entry(b"{a,[%s]}" % many_nodes(65)), b"config fault 10 TooManyNodes at 284\n"),
@@ -804,6 +633,18 @@ def racing_checks() -> Iterator[tuple[str, bool]]:
         yield name, old in output and fault_of_run(RACING, output.replace(old, new), status) is not None
 
 
+def row_checks() -> Iterator[tuple[str, bool]]:
+    """The rows of examples/rows, those of `live` in some orders of their threads."""
+    models: dict[str, Callable[[bytes], tuple[bytes, int]]] = {"check": check, "sim": simulate, "live": run_live}
+    for path in sorted((Path(__file__).resolve().parent.parent / "examples" / "rows").glob("*/*")):
+        command, _, faults = path.parent.name.partition("-")
+        if path.suffix != ".out" and command in models:
+            source, expected = path.read_bytes(), path.with_suffix(".out").read_bytes()
+            is_live = path.parent.name == "live"
+            found = {(output, 0) for output in outputs(source, ORDERS, 1)} if is_live else {models[command](source)}
+            yield f"{path.parent.name}/{path.stem}", found == {(expected, int(faults == "faults"))}
+
+
 def run_all() -> Iterator[tuple[str, bool]]:
     """Each example's name, and whether the models agree with it."""
     rows: list[Row | LiveRow] = [*ROWS, *LIVE_ROWS]
@@ -827,6 +668,7 @@ def run_all() -> Iterator[tuple[str, bool]]:
     yield from two_fault_checks()
     yield from live_fault_checks()
     yield from racing_checks()
+    yield from row_checks()
 
 
 def main() -> int:
