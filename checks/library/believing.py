@@ -2,7 +2,6 @@
 
 import argparse
 import difflib
-import os
 import sys
 from typing import List, Sequence
 
@@ -11,6 +10,7 @@ from checks.library.contracts import Function, Sources, is_within
 from checks.library.definition_page import Page
 from checks.library.definition_sources import DefinitionSources
 from checks.library.modules import Definition, Modules
+from checks.library.printed import printed
 from checks.library.promise_page import PromisePage
 from checks.library.promises import Promises
 from checks.library.resting import Resting
@@ -166,10 +166,4 @@ def ran(asked: argparse.Namespace) -> int:
 
 def main(arguments: Sequence[str]) -> int:
     """Runs the command. Its reader may close the output early."""
-    try:
-        status = ran(parser().parse_args(arguments))
-        sys.stdout.flush()
-        return status
-    except BrokenPipeError:
-        os.dup2(os.open(os.devnull, os.O_WRONLY), sys.stdout.fileno())
-        return 1
+    return printed("believe", lambda: ran(parser().parse_args(arguments)))

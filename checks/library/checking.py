@@ -10,7 +10,9 @@ from checks.library.crates import HERE, read_crates
 from checks.library.dead_names import dead_faults
 from checks.library.definition_sources import DefinitionSources
 from checks.library.modules import Modules
+from checks.library.printed import printed
 from checks.library.promises import Promises
+from checks.library.restated import Restated
 
 WHAT = """Checks that documents, crates.txt, edits and scripts agree with each other and with the sources.
 
@@ -37,7 +39,10 @@ def document_list() -> List[Check]:
     return [
         Check("names in backticks stand in some file", lambda: document_checks.name_faults(documents)),
         Check("paths lead somewhere", lambda: document_checks.path_faults(documents)),
+        Check("paths in commands lead somewhere", lambda: document_checks.command_faults(documents)),
+        Check("cited sections are there", lambda: document_checks.section_faults(documents)),
         Check("promised clauses are there", Promises(HERE, sources).faults),
+        Check("clauses, rows and tests that state a rule again are there", Restated(HERE, sources, modules).faults),
         Check("docs/sources.txt names definitions that are there", lambda: DefinitionSources(HERE).faults(modules)),
         Check("a contract, a proof or a document reaches each definition", dead_faults),
         Check("pages CALLING.md name each public call", lambda: document_checks.calling_faults(HERE, sources)),
@@ -74,13 +79,18 @@ def script_list(types: bool) -> List[Check]:
 def passes(check: Check) -> bool:
     """Runs one check and prints its faults."""
     faults = list(check.faults())
-    print(f"{'FAILED' if faults else 'passed'}  {check.holds}")
+    print(f"{'FAILED' if faults else 'passed'}  {check.holds}", flush=True)
     for fault in faults:
         print(f"        {fault}")
     return not faults
 
 
 def main(arguments: Sequence[str]) -> int:
+    """Runs the command."""
+    return printed("check-documents", lambda: ran(arguments))
+
+
+def ran(arguments: Sequence[str]) -> int:
     """Runs all checks."""
     parser = argparse.ArgumentParser(
         prog="check-documents", description=WHAT, formatter_class=argparse.RawDescriptionHelpFormatter

@@ -9,6 +9,7 @@ from checks.library.crates import HERE
 from checks.library.definition_sources import DefinitionSources
 from checks.library.document_checks import NAME, Documents
 from checks.library.modules import GENERATED, Definition, Import, Module, Modules, import_of
+from checks.library.printed import printed
 from checks.library.resting import Scope, tokens_of
 from checks.library.spans import SPAN
 
@@ -173,6 +174,11 @@ def lines_of(one: Definition) -> int:
 
 def main(arguments: Sequence[str]) -> int:
     """Runs the command."""
+    return printed("dead-names", lambda: ran(arguments))
+
+
+def ran(arguments: Sequence[str]) -> int:
+    """Lists the names."""
     parser = argparse.ArgumentParser(prog="dead-names", description=WHAT, formatter_class=argparse.RawDescriptionHelpFormatter)
     parser.add_argument("crates", nargs="*", metavar="CRATE", help="list those of these crates alone")
     asked = parser.parse_args(arguments)

@@ -1,5 +1,6 @@
 """Checks that the names, paths and calls cited in documents exist."""
 
+import os
 import pathlib
 import re
 import subprocess
@@ -10,6 +11,9 @@ from checks.library.spans import SPAN
 
 NAME = re.compile(r"(?<![\\\w])[A-Za-z_][A-Za-z0-9_]{3,}")
 PATH = re.compile(r"(?<![\w/:.-])(?:\.\/)?((?:[\w.-]+/)+[\w.-]*|[\w-]+\.(?:md|py|rt|antt|txt))(?![\w/])")
+# a path in a command, and a section that is cited, with its document
+COMMANDED = re.compile(r"(?<![\w/.-])(?:\./)?((?:examples|models|checks|distac_view)/[\w./-]*\w)")
+CITED = re.compile(r"\"([A-Z][^\"]{3,60})\"\s+in\s+(docs/\w+\.md)")
 # names that documents use and no file of the repository contains, each with its meaning
 OUTSIDE: Dict[str, str] = {
     "HashMap": "a type of Rust that isn't used",
@@ -23,6 +27,8 @@ OUTSIDE: Dict[str, str] = {
     "nodedown": "a message of Erlang",
     "dac8208d650f15bf": "the sum of the toolchain's logic",
 }
+# folders without sources
+IGNORED = frozenset((".git", "out", "__pycache__"))
 # parts of paths that are placeholders
 STANDS_FOR = frozenset(("NAME", "CRATE", "PATH", "FILE", "FOLDER"))
 # words in capitals that are placeholders
@@ -42,10 +48,24 @@ class Line(NamedTuple):
 
 
 def files_of(root: pathlib.Path) -> List[pathlib.Path]:
-    """The files tracked by git, and new ones that it doesn't ignore."""
-    words = ["git", "-C", str(root), "ls-files", "--cached", "--others", "--exclude-standard"]
-    listed = subprocess.run(words, stdout=subprocess.PIPE, check=True).stdout.decode("utf-8").split("\n")
+    """The files tracked by git, and new ones that it doesn't ignore. Without git, or in a copy that is no clone or
+    another user's, they are all files but those that git would ignore."""
+    words = ["git", "-C", str(root), "ls-files", "--cached", "--others", "--exclude-standard", "-z"]
+    try:
+        ran = subprocess.run(words, stdout=subprocess.PIPE, stderr=subprocess.DEVNULL, check=False)
+        listed = ran.stdout.decode("utf-8", errors="surrogateescape").split("\0") if ran.returncode == 0 else all_below(root)
+    except FileNotFoundError:
+        listed = all_below(root)
     return [root / one for one in listed if one and (root / one).is_file()]
+
+
+def all_below(root: pathlib.Path) -> List[str]:
+    """All files, without the folders that .gitignore names, and without git's own."""
+    found: List[str] = []
+    for folder, folders, names in os.walk(str(root)):
+        folders[:] = sorted(one for one in folders if one not in IGNORED)
+        found += (os.path.relpath(os.path.join(folder, name), str(root)) for name in sorted(names))
+    return found
 
 
 class Documents:
@@ -55,7 +75,9 @@ class Documents:
         """Reads the documents."""
         self.root = root
         self.files = files_of(root)
-        self.lines = [line for file in self.files if file.suffix == ".md" for line in lines_of(file)]
+        pages = [file for file in self.files if file.suffix == ".md"]
+        self.lines = [line for file in pages for line in lines_of(file)]
+        self.code = [line for file in pages for line in lines_of(file, of_code=True)]
 
     def words(self) -> FrozenSet[str]:
         """All words of other files, and the parts of all paths."""
@@ -67,13 +89,13 @@ class Documents:
         return frozenset(words)
 
 
-def lines_of(file: pathlib.Path) -> Iterator[Line]:
-    """The lines of a document outside code blocks."""
+def lines_of(file: pathlib.Path, of_code: bool = False) -> Iterator[Line]:
+    """The lines of a document outside code blocks, or inside."""
     is_code = False
     for number, text in enumerate(file.read_text(encoding="utf-8").split("\n"), 1):
         if text.startswith("```"):
             is_code = not is_code
-        elif not is_code:
+        elif is_code == of_code:
             yield Line(file, number, text)
 
 
@@ -112,6 +134,27 @@ def path_faults(documents: Documents) -> Iterator[str]:
             is_path = first in tops if "/" in path else True
             if is_path and not is_there(documents, line, path.rstrip(".")):
                 yield f"{line.place(documents.root)}: there is no {path}"
+
+
+def command_faults(documents: Documents) -> Iterator[str]:
+    """Examples, models and checks that commands in code blocks name and that don't exist."""
+    for line in documents.code:
+        for path in COMMANDED.findall(line.text):
+            if not is_there(documents, line, path):
+                yield f"{line.place(documents.root)}: there is no {path}"
+
+
+def section_faults(documents: Documents) -> Iterator[str]:
+    """Sections that a document cites, as ("Sizes" in docs/OPERATORS.md), and that don't exist."""
+    text_of = {line.file: "" for line in documents.lines}
+    for line in documents.lines:
+        text_of[line.file] += f"{line.text}\n"
+    for file, text in text_of.items():
+        for match in CITED.finditer(text):
+            title, page = " ".join(match[1].split()), match[2]
+            cited = documents.root / page if page else file
+            if not re.search(rf"^##+ {re.escape(title)}$", text_of.get(cited, ""), re.MULTILINE):
+                yield f"{file.relative_to(documents.root)}:{text[: match.start()].count(chr(10)) + 1}: {page or 'it'} has no section {title}"
 
 
 def calling_faults(root: pathlib.Path, sources: Sources) -> Iterator[str]:

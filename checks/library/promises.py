@@ -104,6 +104,19 @@ def place_of(one: Function) -> Tuple[str, int]:
     return str(one.file), one.line
 
 
+def faults_of_cited(one: Cited, crate: str, sources: Sources) -> Iterator[str]:
+    """The faults of a name and its clauses."""
+    found = functions_of(one, crate, sources)
+    is_function = not one.name.split("::")[-1][0].isupper() and not re.fullmatch(r"dac_\w+", one.name)
+    if not found and is_function:
+        yield f"there is no function {one.name}"
+        return
+    there = {clause.name for each in found for clause in each.clauses}
+    for clause in one.clauses:
+        if re.fullmatch(r"\w+", clause) and clause not in there:
+            yield f"{one.name} has no clause {clause}"
+
+
 class Promises:
     """The promises of the document."""
 
@@ -121,20 +134,8 @@ class Promises:
             if not row.text:
                 yield f"docs/PROMISES.md:{row.line}: a promise ends with{CARRIED}and the functions that carry it"
             for one in row.cited:
-                for fault in self._faults_of(one, row.crate):
+                for fault in faults_of_cited(one, row.crate, self.sources):
                     yield f"docs/PROMISES.md:{row.line}: {fault}"
-
-    def _faults_of(self, one: Cited, crate: str) -> Iterator[str]:
-        """The faults of a name and its clauses."""
-        found = functions_of(one, crate, self.sources)
-        is_function = not one.name.split("::")[-1][0].isupper() and not one.name.startswith("dac_")
-        if not found and is_function:
-            yield f"there is no function {one.name}"
-            return
-        there = {clause.name for each in found for clause in each.clauses}
-        for clause in one.clauses:
-            if re.fullmatch(r"\w+", clause) and clause not in there:
-                yield f"{one.name} has no clause {clause}"
 
     def without_row(self) -> Iterator[str]:
         """The public functions that no promise covers, by their name, type or module."""

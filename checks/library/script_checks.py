@@ -49,11 +49,11 @@ def output_of(words: Sequence[str], root: pathlib.Path, **variables: str) -> Tup
 
 
 def bash_faults(root: pathlib.Path, files: Sequence[pathlib.Path]) -> Iterator[str]:
-    """The errors of `bash -n`."""
+    """The errors of `bash -n`. For some of them its status is 0."""
     for script in shell_scripts(files):
         status, said = output_of(["bash", "-n", str(script)], root)
-        if status != 0:
-            yield said.strip()
+        if status != 0 or said:
+            yield said.strip() or f"{script}: bash -n ended with status {status}"
 
 
 def shellcheck_faults(root: pathlib.Path, files: Sequence[pathlib.Path]) -> Iterator[str]:

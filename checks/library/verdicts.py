@@ -1,11 +1,12 @@
 """The record of verdicts on mutants: a file out/mutants/NAME.tsv for each crate, which `checks/mutants --record`
 writes.
 
-A row has a mutant's name, the checksum of everything its verdict rests on, the toolchain's verdict, and the number of
-mutants tried with it, if any. Git ignores these files, so each clone has its own. A row is valid until something it
-rests on changes, so the rows of several runs add up.
+A row has a mutant's name, the checksum of everything its verdict rests on, the toolchain's verdict with the number of
+mutants tried with it, if any, and the time of the try. Git ignores these files, so each clone has its own. A row is
+valid until something it rests on changes, so the rows of several runs add up.
 """
 
+import datetime
 import hashlib
 import pathlib
 import re
@@ -16,7 +17,7 @@ from checks.library.crates import read_crates
 from checks.library.mutant_files import mutants_in
 
 FOLDER = pathlib.Path("out", "mutants")
-HEAD = "# by checks/mutants --record: each mutant, the checksum of what its verdict rests on, and the verdict\n"
+HEAD = "# by checks/mutants --record: each mutant, the checksum of what its verdict rests on, the verdict, its time\n"
 PARTS = ("src", "specs", "proofs")
 # The beginning of a comment line.
 COMMENTS = {".rt": "//", ".antt": "--"}
@@ -27,10 +28,12 @@ LOGIC = re.compile(r"\blogic \w+")
 
 
 class Row(NamedTuple):
-    """A mutant's verdict, and its checksum."""
+    """A mutant's verdict, its checksum, and when it was tried."""
 
     rests_on: str
     verdict: str
+    # (earlier records have no times)
+    at: str = ""
 
 
 class Record:
@@ -53,18 +56,25 @@ class Record:
         file = self.file(crate)
         lines = file.read_text(encoding="utf-8").splitlines() if file.exists() else []
         cells = [line.split("\t") for line in lines]
-        return {row[0]: Row(row[1], row[2]) for row in cells if len(row) == 3}
+        return {row[0]: Row(*row[1:]) for row in cells if len(row) in (3, 4)}
 
     def known(self, crate: str) -> Dict[str, str]:
         """A crate's verdicts on the present text, by mutant."""
         today = checksums(self.root, crate, self.toolchain, self.mutants(crate))
         return {name: row.verdict for name, row in self.rows(crate).items() if today.get(name) == row.rests_on}
 
+    def longest_ago(self, crate: str) -> str:
+        """When that one of a crate's mutants without a verdict on the present text was tried whose try is longest ago: empty
+        if one was never tried."""
+        rows, known = self.rows(crate), self.known(crate)
+        return min((rows[name].at if name in rows else "" for name in self.mutants(crate) if name not in known), default="")
+
     def add(self, crate: str, copy: pathlib.Path, mutants: Mapping[str, str], found: Mapping[str, str]) -> None:
         """Adds verdicts on mutants tried as these texts in a copy of the repository. Rows of missing mutants are
         removed."""
         of_copy = checksums(copy, crate, self.toolchain, {name: mutants[name] for name in found})
-        rows = {**self.rows(crate), **{name: Row(of_copy[name], verdict.strip()) for name, verdict in found.items()}}
+        now = f"{datetime.datetime.now():%Y-%m-%dT%H:%M:%S}"
+        rows = {**self.rows(crate), **{name: Row(of_copy[name], verdict.strip(), now) for name, verdict in found.items()}}
         kept = sorted(rows.keys() & self.mutants(crate).keys())
         lines = ["\t".join((name, *rows[name])) + "\n" for name in kept]
         self.file(crate).parent.mkdir(parents=True, exist_ok=True)
