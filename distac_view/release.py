@@ -59,7 +59,7 @@ def proved_program() -> Path:
     """The program, if it is proved and made from the present sources."""
     state, _, path = text_of(launch("--which", "--proved")).strip().partition(": ")
     if state != "proved":
-        raise Problem(f"there is no proved program ({state}): ./distac prove makes it, and --without-program leaves it out")
+        raise Problem("there is no proved program of these sources: ./distac prove makes it, and --without-program leaves it out")
     return Path(path)
 
 

@@ -9,6 +9,7 @@ from distac_view.answering.notes import Note
 from distac_view.answering.outages import notice_range, seconds_of
 from distac_view.answering.what_if import Fate, Reply, nowhere_at_first
 from distac_view.asking.cluster import Waiter
+from distac_view.asking.failing import Failed
 from distac_view.asking.openings import Side
 from distac_view.asking.snapshots import bare_marks, marks_in
 from distac_view.common.names import bare_name, bare_names
@@ -17,14 +18,13 @@ from distac_view.reading.configuration import Configuration
 
 MOST_NAMED = 8
 TEXTS = {
-    "FirstTick": "The wait counts from a node's first tick after it heard of the loss. "
-    "OTP's manual doesn't say who counts.",
+    "FirstTick": "Each node counts the wait by itself, from when it heard of the loss.",
     "TupleLoad": "In a tuple the node with fewer of these applications is chosen, then the least name. "
     "OTP counts all that run.",
-    "StartedAtOnce": "Now: all was started at once. "
-    "OTP's nodes start one application after another: --now says where each runs.",
-    "StartedAgain": "Back: the node is up and everything of its list is started there again. "
-    "Here a start ends with the node's life.",
+    "StartedAtOnce": "Now: applications were started in the order of the file. "
+    "A release may have another order: --now says where each runs.",
+    "StartedAgain": "Back: the node is up and everything of its list is started there again: "
+    "a start isn't remembered over a reboot.",
     "StopMoves": "A stopped application fails over with its node. "
     "In OTP it stays stopped; here, stop it at every node.",
     "NoSplit": "These nodes are down. "
@@ -78,6 +78,9 @@ def now_notes(side: Side) -> Iterator[Note]:
     unused = side.cluster.unused
     if unused:
         yield Note("NotRunning", shown(f"By --now {few_of(unused)} {'runs' if len(unused) == 1 else 'run'} nowhere: no node starts it."))
+    lost = [held.app for held in nowhere_at_first(side) if held.app not in unused]
+    if lost:
+        yield Note("LostWithNodes", shown(f"No node that is up can run {few_of(lost)}: one that comes back starts it."))
 
 
 def side_notes(side: Side) -> Iterator[Note]:
@@ -115,7 +118,10 @@ def time_notes(reply: Reply) -> Iterator[Note]:
     if lost:
         least, most = (seconds_of(each) for each in notice_range(reply.tick_time))
         text = "Outage: the wait, and before it the noticing. A node that ends is noticed at once"
-        yield Note("Outage", f"{text}, a host that dies without a word after {least} to {most} s (net_ticktime {reply.tick_time}).")
+        takes = reply.question.takes
+        ends = "" if takes is None else f" It ends at the latest when its node is back, after {seconds_of(takes)} s."
+        frozen = "One that only froze runs on once it thaws, as after a split: --split says what."
+        yield Note("Outage", f"{text}, a host that dies without a word after {least} to {most} s (net_ticktime {reply.tick_time}).{ends} {frozen}")
     if any(fate.milliseconds for fate in lost):
         yield Note("FirstTick", TEXTS["FirstTick"])
 
@@ -123,6 +129,7 @@ def time_notes(reply: Reply) -> Iterator[Note]:
 def otp_notes(reply: Reply) -> Iterator[Note]:
     """Relevant differences from OTP."""
     fates = [fate for case in reply.cases for fate in case.fates]
+    yield from failure_notes(reply)
     yield from hang_notes((case.down, case.may_hang) for case in reply.cases)
     yield from idle_notes(fates)
     if any(is_in_tuple(reply.configuration, fate) for fate in fates):
@@ -133,6 +140,27 @@ def otp_notes(reply: Reply) -> Iterator[Note]:
         yield Note("StopMoves", TEXTS["StopMoves"])
     if any(len(case.down) > 1 for case in reply.cases):
         yield Note("NoSplit", TEXTS["NoSplit"])
+
+
+def failure_notes(reply: Reply) -> Iterator[Note]:
+    """Starts that fail, and named ones that no case tries."""
+    failed = [each for case in reply.cases for each in case.failed]
+    for each in failed:
+        yield Note("StartFails", shown(sentence_on(each)))
+    tried = [(each.failing.app, each.failing.node) for each in failed if each.waits_for is None]
+    for failing in reply.failing:
+        if (failing.app, failing.node) not in tried:
+            yield Note("NeverTried", shown(f"No loss and no return here starts {bare_name(failing.app)} at {bare_name(failing.node)}: that failure isn't seen."))
+
+
+def sentence_on(failed: Failed) -> str:
+    """What a start that fails does with OTP 25."""
+    app, node = bare_name(failed.failing.app), bare_name(failed.failing.node)
+    if failed.waits_for is not None:
+        return f"{node} waits for {bare_name(failed.waits_for)}, where {app} failed, to start it: without end, so it starts nothing after {app} either."
+    takes_over = ", for which another node has stopped it" if failed.how == "takeover" else ""
+    ends = f"{node} ends, since {app} is permanent" if failed.failing.ends else f"{node} stays up"
+    return f"{app} fails to start at {node}{takes_over}: OTP tries no other node, so {app} runs nowhere, and {ends}."
 
 
 def idle_notes(fates: list[Fate]) -> Iterator[Note]:

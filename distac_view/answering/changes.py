@@ -3,18 +3,20 @@
 from __future__ import annotations
 
 from dataclasses import dataclass, replace
+from functools import cached_property
 
 from distac_view.answering.caveats import notes_on
 from distac_view.answering.notes import Note
-from distac_view.answering.outages import longest_outage
 from distac_view.answering.settings import LIST, TIME, Differing, differing_settings
 from distac_view.answering.what_if import Fate, Question, Reply, held_on, reply_on
+from distac_view.asking.failing import failing_by
 from distac_view.asking.inputs import load_config
 from distac_view.asking.program import Distac
 from distac_view.asking.running_now import Placed, placed_by
-from distac_view.common.names import node_meant
+from distac_view.common.names import Short, node_meant, short_names
 from distac_view.common.problems import Problem
 from distac_view.reading.configuration import Checked, Configuration
+from distac_view.reading.sums import Sum, changed_since
 
 
 @dataclass(frozen=True)
@@ -56,8 +58,13 @@ class Changes:
 
     @property
     def are_any(self) -> bool:
-        """Whether the two configurations differ in any answer, note or setting."""
-        return any((self.changes, self.settings, *self.apps, *self.nodes, *self.notes))
+        """Whether the two configurations differ in any answer, note or setting, or the new one in its files."""
+        return any((self.changes, self.settings, *self.apps, *self.nodes, *self.notes, self.stale))
+
+    @cached_property
+    def stale(self) -> list[Sum]:
+        """The files that changed since the new configuration was gathered from them."""
+        return changed_since(self.new.configuration.sums)
 
     @property
     def apps(self) -> tuple[list[str], list[str]]:
@@ -68,6 +75,12 @@ class Changes:
     def nodes(self) -> tuple[list[str], list[str]]:
         """The nodes that only the new or only the old configuration has."""
         return differences(self.old.configuration.nodes, self.new.configuration.nodes)
+
+    @cached_property
+    def short(self) -> Short:
+        """The names of the nodes of both in tables."""
+        old, new = self.old.configuration, self.new.configuration
+        return short_names({*old.nodes, *new.nodes}, {*old.names, *new.names})
 
     @property
     def notes(self) -> tuple[list[Note], list[Note]]:
@@ -116,7 +129,9 @@ def fitting(question: Question, old: Configuration, new: Configuration) -> Quest
     if question.down and not down:
         raise Problem("the new configuration has none of the nodes of --down")
     placed = placed_in_both(placed_by(question.now, old), old, new) if question.now else None
-    return replace(question, down=down, not_started=not_started, back=back, placed=placed)
+    lists = {each.name: each.nodes for each in new.applications}
+    failing = [each for each in failing_by(question.fails, question.temporary, old) if each.node in lists.get(each.app, [])]
+    return replace(question, down=down, not_started=not_started, back=back, placed=placed, failing=failing)
 
 
 def placed_in_both(placed: Placed, old: Configuration, new: Configuration) -> Placed:
@@ -132,7 +147,7 @@ def answers_in(reply: Reply) -> dict[tuple[str, tuple[str, ...]], Answer]:
     """All answers of a reply, by application and by the nodes that are down."""
     found: dict[tuple[str, tuple[str, ...]], Answer] = {(name, ()): answer for name, answer in answers_now(reply).items()}
     for case in reply.cases:
-        found.update({(fate.app, tuple(case.down)): answer_of(fate, reply.tick_time) for fate in case.fates})
+        found.update({(fate.app, tuple(case.down)): answer_of(fate, reply) for fate in case.fates})
     return found
 
 
@@ -142,7 +157,7 @@ def answers_now(reply: Reply) -> dict[str, Answer]:
     return {name: Answer(each.at if each.is_pending else each.runs_at, is_alone=each.is_alone) for name, each in held.items()}
 
 
-def answer_of(fate: Fate, tick_time: int) -> Answer:
+def answer_of(fate: Fate, reply: Reply) -> Answer:
     """The effect of a loss on an application."""
-    outage = None if fate.wait is None else longest_outage(fate.wait, tick_time)
+    outage = fate.longest_outage(reply.tick_time, reply.question.takes)
     return Answer(fate.then, fate.milliseconds, outage, fate.back, fate.is_alone, fate.waits)

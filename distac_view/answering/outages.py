@@ -25,14 +25,16 @@ def notice_range(tick_time: int) -> tuple[int, int]:
     return tick_time * 750, tick_time * 1250
 
 
-def longest_outage(wait: int, tick_time: int) -> int:
-    """An application's longest outage in milliseconds: its wait, after a dead host is noticed."""
-    return wait + notice_range(tick_time)[1]
+def longest_outage(wait: int, tick_time: int, takes: int | None = None) -> int:
+    """An application's longest outage in milliseconds: its wait, after a dead host is noticed. Once its node is back
+    with all started, it is over."""
+    noticed = wait + notice_range(tick_time)[1]
+    return noticed if takes is None else min(noticed, takes)
 
 
-def outage_of(wait: int, tick_time: int) -> str:
+def outage_of(wait: int, tick_time: int, takes: int | None = None) -> str:
     """An application's outage: its wait if only its node ends, and up to the noticing of a dead host more."""
-    return f"{seconds_of(wait)} to {seconds_of(longest_outage(wait, tick_time))} s"
+    return f"{seconds_of(wait)} to {seconds_of(longest_outage(wait, tick_time, takes))} s"
 
 
 def seconds_of(milliseconds: int) -> str:

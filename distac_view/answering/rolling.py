@@ -71,6 +71,12 @@ class Step:
         return sum(move.milliseconds for move in (*self.down, *self.back) if move.how == "failover")
 
     @property
+    def resumed(self) -> list[str]:
+        """The applications that run nowhere until the node is back, and start there again."""
+        gone = [move.app for move in self.back]
+        return [] if self.waiters else [app for app in self.waiting if app not in gone]
+
+    @property
     def cost(self) -> Cost:
         """Its cost: first whether it can't go on, then applications that run nowhere, then moves, then waits."""
         return (len(self.waiters), len(self.nowhere), self.moves, self.waits)
@@ -116,6 +122,11 @@ class Rolling:
     def waits(self) -> int:
         """The total wait of applications in all steps, in milliseconds."""
         return sum(step.waits for step in self.steps)
+
+    @property
+    def restarts(self) -> int:
+        """The total time of applications that run nowhere until their node is back, in milliseconds."""
+        return (self.takes or 0) * sum(len(step.resumed) for step in self.steps)
 
     @property
     def hanging(self) -> list[Step]:

@@ -8,19 +8,20 @@ from __future__ import annotations
 
 import os
 from concurrent.futures import ThreadPoolExecutor
-from dataclasses import dataclass, field
-from typing import Iterator
+from dataclasses import dataclass, field, replace
+from typing import Iterator, Sequence
 
 from distac_view.answering.hangs import names_that_hang
-from distac_view.answering.outages import USUAL_SECONDS, tick_time_of
+from distac_view.answering.outages import USUAL_SECONDS, longest_outage, tick_time_of
 from distac_view.asking.cases import Course, Loss, course_of, first_pages
 from distac_view.asking.cluster import Waiter
+from distac_view.asking.failing import Failed, Failing, FailingCourse, failing_by, failing_course
 from distac_view.asking.inputs import load_config
 from distac_view.asking.openings import Side, opened, opened_after
 from distac_view.asking.program import Distac
 from distac_view.asking.running_now import Placed, opened_now, placed_by
 from distac_view.asking.snapshots import Held, Page, marks_in
-from distac_view.common.names import bare_name, bare_names, node_meant, spelled
+from distac_view.common.names import node_meant, unknown_node
 from distac_view.common.problems import Problem
 from distac_view.common.texts import shown
 from distac_view.reading.configuration import Checked, Configuration, name_order
@@ -46,13 +47,17 @@ class Question:
     placed: Placed | None = None
     takes: int | None = None
     split: list[str] = field(default_factory=list)
+    fails: list[str] = field(default_factory=list)
+    temporary: list[str] = field(default_factory=list)
+    failing: list[Failing] | None = None
 
 
 @dataclass(frozen=True)
 class Fate:
     """The course of an application: its places, how and when it gets there, and its list's marks.
 
-    It waits if its nodes are back before its time is over.
+    It waits if its nodes are back before its time is over. Its start can have failed, or its node has ended since some
+    milliseconds because another start failed.
     """
 
     app: str
@@ -64,6 +69,8 @@ class Fate:
     marks: str
     was_stopped: bool
     waits: bool = False
+    failed: Failed | None = None
+    since: int | None = None
 
     @property
     def stays(self) -> bool:
@@ -73,7 +80,15 @@ class Fate:
     @property
     def wait(self) -> int | None:
         """Its failover wait in milliseconds, if it fails over."""
-        return self.milliseconds if self.how == "failover" else None
+        return self.milliseconds if self.how == "failover" and self.then is not None else None
+
+    def longest_outage(self, tick_time: int, takes: int | None) -> int | None:
+        """Its longest outage in milliseconds, if it fails over, or waits for its node to be back after some time."""
+        if self.waits:
+            return takes
+        if self.wait is not None and self.since is not None:
+            return self.wait - self.since
+        return None if self.wait is None else longest_outage(self.wait, tick_time, takes)
 
     @property
     def is_alone(self) -> bool:
@@ -86,7 +101,7 @@ class Case:
     """Nodes that go down together, the course of each application, the nodes that come back, and those that wait at a
     start gate then.
 
-    Also the applications that OTP may fail to restart.
+    Also the applications that OTP may fail to restart, and the starts that failed.
     """
 
     down: list[str]
@@ -94,6 +109,12 @@ class Case:
     back: list[str] = field(default_factory=list)
     waiters: list[Waiter] = field(default_factory=list)
     may_hang: list[str] = field(default_factory=list)
+    failed: list[Failed] = field(default_factory=list)
+
+    @property
+    def ended(self) -> list[str]:
+        """The nodes that a failed start ended."""
+        return list(dict.fromkeys(each.failing.node for each in self.failed if each.failing.ends))
 
 
 @dataclass(frozen=True)
@@ -112,6 +133,7 @@ class Reply:
     question: Question
     sides: list[Answers]
     tick_time: int = USUAL_SECONDS
+    failing: list[Failing] = field(default_factory=list)
 
     @property
     def cases(self) -> list[Case]:
@@ -127,15 +149,21 @@ def reply_to(distac: Distac, question: Question) -> Reply:
 def reply_on(distac: Distac, checked: Checked, question: Question) -> Reply:
     """The answer to a question on a configuration that was read."""
     down, not_started, back = (known_nodes(words, checked.configuration) for words in (question.down, question.not_started, question.back))
+    sides = sides_of(distac, checked, question, not_started)
+    off = [node for node in back if question.now and node not in sides[0].nodes]
+    down = sorted({*down, *off}, key=name_order)
     if any(node not in down for node in back):
-        raise Problem("a node of --back has to be one of --down")
+        raise Problem("a node of --back has to be one of --down, or off by --now")
+    if question.fails and question.takes is not None:
+        raise Problem("--fails can't stand beside --takes: each loss lasts longer than all waits")
+    failing = failing_by(question.fails, question.temporary, checked.configuration) if question.failing is None else question.failing
     found = []
-    for side in sides_of(distac, checked, question, not_started):
+    for side in sides:
         groups = [[node for node in down if node in side.members]] if down else [[node] for node in side.members]
         returns = [(group, [node for node in group if node in back or not back]) for group in groups if group]
         losses = [Loss(group, returning, not_started, question.takes) for group, returning in returns]
-        found.append(Answers(side, cases_of(distac, side, losses)))
-    return Reply(checked.configuration, question, found, tick_time_of(checked.text))
+        found.append(Answers(side, cases_of(distac, side, losses, failing)))
+    return Reply(checked.configuration, question, found, tick_time_of(checked.text), failing)
 
 
 def sides_of(distac: Distac, checked: Checked, question: Question, not_started: list[str]) -> list[Side]:
@@ -158,24 +186,30 @@ def known_node(word: str, configuration: Configuration) -> str:
     """A named node, as the configuration spells it."""
     name = node_meant(word, configuration.nodes)
     if name is None:
-        some = shown(", ".join(bare_names(configuration.nodes)))
-        raise Problem(f"the configuration has no node {shown(bare_name(spelled(word)))}: its nodes are {some}")
+        raise Problem(f"the configuration has {shown(unknown_node(word, configuration.nodes))}")
     return name
 
 
-def courses_of(distac: Distac, side: Side, losses: list[Loss]) -> Iterator[Course]:
-    """The courses of some cases, each reported to the progress."""
-    pages = first_pages(distac, side.cluster, losses)
+def courses_of(distac: Distac, side: Side, losses: list[Loss], failing: Sequence[Failing] = ()) -> Iterator[Course]:
+    """The courses of some cases, in which some starts fail, each reported to the progress."""
+    pages = [] if failing else first_pages(distac, side.cluster, losses)
     distac.cases += len(losses)
+
+    def played(number: int) -> Course:
+        """The course of a case."""
+        if failing:
+            return failing_course(distac, side.cluster, losses[number], list(failing))
+        return course_of(distac, side.cluster, losses[number], pages[number])
+
     with ThreadPoolExecutor(min(MOST_AT_ONCE, os.cpu_count() or 1)) as pool:
-        for course in pool.map(lambda each: course_of(distac, side.cluster, *each), zip(losses, pages)):
+        for course in pool.map(played, range(len(losses))):
             distac.cases_done += 1
             yield course
 
 
-def cases_of(distac: Distac, side: Side, losses: list[Loss]) -> list[Case]:
+def cases_of(distac: Distac, side: Side, losses: list[Loss], failing: Sequence[Failing] = ()) -> list[Case]:
     """The course of each application in some cases."""
-    return [case_of(side, course) for course in courses_of(distac, side, losses)]
+    return [case_of(side, course) for course in courses_of(distac, side, losses, failing)]
 
 
 def case_of(side: Side, course: Course) -> Case:
@@ -183,9 +217,23 @@ def case_of(side: Side, course: Course) -> Case:
     now, at_once, then, back = (held_on(page, side.cluster.configuration) for page in (side.page, course.at_once, course.then, course.back))
     claims = {each.app: each.milliseconds for each in course.claims}
     fates = [fate_of(now[name], at_once[name], then[name], back[name], claims.get(name), name in course.waiting) for name in now]
+    failed = course.failed if isinstance(course, FailingCourse) else []
     old = side.cluster
     waiters = [*course.cluster.ended[len(old.ended) :], *course.cluster.waiting]
-    return Case(course.loss.down, fates, course.loss.back, waiters, names_that_hang(course, side.nodes, old.configuration))
+    hanging = names_that_hang(course, side.nodes, old.configuration)
+    return Case(course.loss.down, [with_failure(fate, failed) for fate in fates], course.loss.back, waiters, hanging, failed)
+
+
+def with_failure(fate: Fate, failed: list[Failed]) -> Fate:
+    """The course of an application with its first start that failed, if one did, or with the end of its node by
+    another one."""
+    own = next((each for each in failed if each.failing.app == fate.app), None)
+    if own is not None:
+        return replace(fate, failed=own, milliseconds=fate.milliseconds if own.is_back else own.milliseconds)
+    end = next((each for each in failed if each.failing.ends and each.failing.node == fate.now and not each.is_back), None)
+    if end is None or fate.how != "stays":
+        return fate
+    return replace(fate, how="nobody" if fate.then is None else "failover", since=end.milliseconds)
 
 
 def held_on(page: Page, configuration: Configuration) -> dict[str, Held]:

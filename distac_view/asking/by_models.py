@@ -15,9 +15,15 @@ INSTALLED = PACKAGE / "models"
 FOLDER = INSTALLED if INSTALLED.is_dir() else PACKAGE.parent / "models"
 
 
+def add_models() -> None:
+    """Makes the modules of the models importable."""
+    if str(FOLDER) not in sys.path:
+        sys.path.insert(0, str(FOLDER))
+
+
 def asked_of_models() -> Callable[[str, bytes], "tuple[bytes, int]"]:
     """A replacement for the program: a function from a subcommand and its input to the output and the exit status."""
-    sys.path.insert(0, str(FOLDER))
+    add_models()
     models = {"check": import_module("check").check, "sim": import_module("simulator").simulate}
 
     def asked(word: str, source: bytes) -> tuple[bytes, int]:

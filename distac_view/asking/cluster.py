@@ -161,13 +161,15 @@ def take_rounds(distac: Distac, cluster: Cluster) -> None:
 
 
 def come_to_rest(distac: Distac, cluster: Cluster) -> None:
-    """All waits end, and the cluster comes to rest. If a node gives up meanwhile, the others wait once more."""
+    """All waits end, and the cluster comes to rest. If a node gives up meanwhile, the others wait once more, and so do
+    failovers after a start gate, because a node counts them from there."""
     ended = -1
     while ended != len(cluster.ended):
         ended = len(cluster.ended)
         take_round(distac, cluster)
-        cluster.story.now += longest_wait(cluster.configuration)
-        take_rounds(distac, cluster)
+        for _ in range(2 if cluster.waiting else 1):
+            cluster.story.now += longest_wait(cluster.configuration)
+            take_rounds(distac, cluster)
 
 
 def share_all(distac: Distac, cluster: Cluster) -> None:

@@ -2,7 +2,7 @@
 
 from __future__ import annotations
 
-from dataclasses import dataclass
+from dataclasses import dataclass, replace
 
 from distac_view.asking.program import Answer, Distac
 from distac_view.asking.sim_output import Answered, answered
@@ -14,6 +14,7 @@ from distac_view.reading.configuration import Checked, Configuration, configurat
 from distac_view.reading.faults import Part, fault_of
 from distac_view.reading.script_faults import remark_on_input, remark_on_line
 from distac_view.reading.script_file import MOST_CONFIG, MOST_INPUT, Line, Script, read_bytes, script_of
+from distac_view.reading.sums import sums_in
 from distac_view.reading.tell_lines import fault_in, written_out
 
 
@@ -50,7 +51,7 @@ def check_config(distac: Distac, path: str, text: bytes) -> Checked:
     if answer.is_fault:
         raise Faulty(path, remark_on_answer(answer, text))
     canonical = answer.lines[0]
-    return Checked(text, canonical, configuration_of(canonical))
+    return Checked(text, canonical, replace(configuration_of(canonical), sums=sums_in(text)))
 
 
 def remark_on_answer(answer: Answer, source: bytes) -> Remark:

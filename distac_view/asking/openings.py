@@ -5,14 +5,14 @@ from __future__ import annotations
 
 from dataclasses import dataclass, field
 
-from distac_view.asking.cluster import Cluster, come_to_rest, share_all
+from distac_view.asking.cluster import GAVE_UP, HELD_BACK, Cluster, come_to_rest, share_all, take_round
 from distac_view.asking.inputs import answers_of, load_script
 from distac_view.asking.program import Distac
-from distac_view.asking.script_builder import Story
+from distac_view.asking.script_builder import ISSUED, Miscounted, Story
 from distac_view.asking.snapshots import Page, page_of
 from distac_view.common.problems import Problem
 from distac_view.common.texts import bytes_of, shown
-from distac_view.reading.configuration import Application, Checked
+from distac_view.reading.configuration import Application, Checked, name_order
 from distac_view.reading.forbidden import forbidden_in
 from distac_view.reading.script_file import separator_in
 from distac_view.reading.verbs import MOST_NUMBER, Role, word_of
@@ -66,12 +66,74 @@ def playable(checked: Checked) -> bytes:
 
 
 def opened(distac: Distac, checked: Checked, not_started: list[str]) -> Side:
-    """All nodes came up, everything was started except at some nodes, and all is at rest."""
+    """All nodes came up, everything was started except at some nodes, in the order of the file, and all is at rest."""
     cluster = Cluster(new_story(checked), [], forbidden=forbidden_in(checked))
     nodes = checked.configuration.nodes
-    cluster.boot(nodes, not_started)
+    batches = batches_of(checked.configuration.applications)
+    if len(batches) > 1:
+        cluster.boot(nodes, nodes)
+        cluster = started_unseen(distac, cluster, batches, not_started) or started_in_turn(distac, cluster, batches, not_started)
+    else:
+        cluster.boot(nodes, not_started)
     come_to_rest(distac, cluster)
     return Side(cluster, cluster.page(distac), nodes, unsaid=checked.configuration.names)
+
+
+def batches_of(applications: list[Application]) -> list[list[Application]]:
+    """Applications in the order of the file, each that chooses a node by its load behind those that are started
+    before."""
+    batches: list[list[Application]] = []
+    for each in applications:
+        if not batches or any(len(group) > 1 for group in each.groups):
+            batches.append([])
+        batches[-1].append(each)
+    return batches
+
+
+def started_unseen(distac: Distac, booted: Cluster, batches: list[list[Application]], not_started: list[str]) -> Cluster | None:
+    """Batches are started one after another in one play, if each is claimed as predicted: at once, by nodes that are
+    told of it."""
+    cluster, start = booted.copy(), len(booted.story.lines)
+    story = cluster.story
+    handed: set[int] = set()
+    cluster.tell_all()
+    cluster.tick(cluster.nodes)
+    for batch in batches:
+        places = places_of(cluster, batch, not_started)
+        if places:
+            cluster.start_at(places)
+            takers = sorted({node for _, node in places}, key=name_order)
+            cluster.tell(takers)
+            cluster.tick(takers)
+            permitted = [each.name for each in batch if each.is_permitted]
+            claimed = {name for name, node in places if name in permitted and (node, name) not in cluster.forbidden}
+            numbers = range(story.issued + 1, story.issued + 1 + len(claimed))
+            story.add(*(f"hand {cluster.hub} {number}" for number in numbers))
+            story.issued += len(claimed)
+            handed.update(numbers)
+    try:
+        story.play(distac)
+    except Miscounted:
+        return None
+    claims = {int(found["number"]) for one in story.answers[start:] if one.line.verb == "tick" for found in map(ISSUED.match, one.answer) if found}
+    is_held_up = any(one.first in (GAVE_UP, HELD_BACK) for one in story.answers[start:])
+    return None if is_held_up or claims != handed else cluster
+
+
+def started_in_turn(distac: Distac, cluster: Cluster, batches: list[list[Application]], not_started: list[str]) -> Cluster:
+    """Batches are started one after another, each once the claims of those before it are known."""
+    take_round(distac, cluster)
+    for batch in batches:
+        places = places_of(cluster, batch, not_started)
+        if places:
+            cluster.start_at(places)
+            take_round(distac, cluster)
+    return cluster
+
+
+def places_of(cluster: Cluster, batch: list[Application], not_started: list[str]) -> list[tuple[str, str]]:
+    """The applications of a batch, each with the nodes of its list where it is started."""
+    return [(each.name, node) for each in batch for node in each.nodes if node in cluster.nodes and node not in not_started]
 
 
 def opened_after(distac: Distac, checked: Checked, path: str) -> list[Side]:

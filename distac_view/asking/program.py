@@ -18,6 +18,7 @@ from distac_view.common.texts import bytes_of, text_of
 TOP = Path(__file__).resolve().parents[2]
 BESIDE = (TOP if TOP.is_dir() else TOP.parent) / "distac"
 MODELS = "--models"
+BY_MODELS = "the models: nothing of them is proved"
 NAMED = "a program distac that was named: distac-view doesn't know whether it is proved"
 ABOUT = {"proved": "the proved program distac", "not proved": "the program distac, which is not proved"}
 
@@ -36,7 +37,7 @@ class Distac:
     """The program, as a function from its subcommand and input to its output and exit status.
 
     A page reports whether it is known to be proved. It counts the cases of a question, and the finished ones, for the
-    progress shown.
+    progress shown, which calls one case by its unit.
     """
 
     def __init__(self, asked: Asked, about: str = "the program distac") -> None:
@@ -45,6 +46,7 @@ class Distac:
         self.is_asked: Callable[[], None] = lambda: None
         self.cases = 0
         self.cases_done = 0
+        self.unit = "case"
 
     def check(self, config: bytes) -> Answer:
         """The answer of `distac check` on a configuration."""
@@ -60,6 +62,11 @@ class Distac:
         if said.is_fault:
             raise Problem(f"distac refused a script that distac-view made: {said.lines[0]}")
         return said.lines
+
+    def has_played(self, source: bytes, output: bytes) -> bool:
+        """Whether `distac sim` plays an input to exactly this output."""
+        self.is_asked()
+        return self.asked("sim", source) == (output, 0)
 
     def answer(self, word: str, source: bytes) -> Answer:
         """The answer of a subcommand."""
@@ -87,10 +94,10 @@ def joined(config: bytes, script: list[str]) -> bytes:
 
 def found_distac(named: str | None) -> Distac:
     """The program named by the command line or the environment, or the one next to this; or the models."""
-    if named == MODELS:
-        say("distac-view: the models answer, and nothing of them is proved")
-        return Distac(asked_of_models(), "the models: nothing of them is proved")
     path = named or os.environ.get("DISTAC")
+    if path == MODELS:
+        say("distac-view: the models answer, and nothing of them is proved")
+        return Distac(asked_of_models(), BY_MODELS)
     program, about = (runnable(path), NAMED) if path else program_beside()
     return Distac(lambda word, source: run(program, word, source), about)
 

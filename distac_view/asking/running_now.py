@@ -13,7 +13,7 @@ from distac_view.asking.cluster import Cluster, take_round
 from distac_view.asking.openings import Side, new_story
 from distac_view.asking.program import Distac
 from distac_view.common.misspellings import near_to
-from distac_view.common.names import bare_name, bare_names, node_meant, spelled
+from distac_view.common.names import bare_name, bare_names, node_meant, nodes_meant, spelled, unknown_node
 from distac_view.common.problems import Problem
 from distac_view.common.texts import cut, listed, shown, text_of
 from distac_view.reading.configuration import Application, Checked, Configuration
@@ -91,11 +91,13 @@ def application_of(name: str, configuration: Configuration) -> Application:
 
 
 def named(what: str, word: str, names: list[str], where: str) -> str:
-    """A node or an application as the configuration spells it. For a node the part before @ suffices."""
+    """A node or an application as the configuration spells it. For a node the part before or after @ suffices."""
     name = spelled(word)
     found = node_meant(word, names) if what == "node" else name
     if found in names:
         return found
+    if what == "node" and nodes_meant(word, names):
+        raise Problem(f"{where}: the configuration has {cut(shown(unknown_node(word, names)), 260)}")
     meant = near_to(name, names)
     cure = f"is {shown(bare_name(meant))} meant?" if meant else f"it has {cut(shown(listed(bare_names(names))), 200)}"
     raise Problem(f"{where}: the configuration has no {what} {cut(shown(bare_name(name)), 60)}: {cure}")
@@ -105,8 +107,10 @@ def opened_now(distac: Distac, checked: Checked, placed: Placed) -> Side:
     """A cluster with applications at their present places. Those that would move at the next ticks haven't moved
     yet."""
     configuration = checked.configuration
-    unused = [name for name in configuration.names if name not in placed.places and name not in placed.fresh]
-    cluster = Cluster(new_story(checked), [], unused=unused, forbidden=forbidden_in(checked))
+    forbidden = forbidden_in(checked)
+    idle = [each for each in configuration.applications if each.name not in placed.places and each.name not in placed.fresh]
+    unused = [each.name for each in idle if may_run(each, placed.up, forbidden)]
+    cluster = Cluster(new_story(checked), [], unused=unused, forbidden=forbidden)
     open_gates(distac, cluster, placed.up)
     for app, node in placed.places.items():
         if not application_of(app, configuration).is_permitted or (node, app) in cluster.forbidden:
@@ -120,6 +124,11 @@ def opened_now(distac: Distac, checked: Checked, placed: Placed) -> Side:
         if page.held[app].runs_at != node:
             raise Problem(f"distac doesn't place {shown(bare_name(app))} at {shown(bare_name(node))}: it says {page.held[app].verdict}")
     return Side(cluster, page, configuration.nodes, unsaid=placed.fresh)
+
+
+def may_run(application: Application, up: list[str], forbidden: list[tuple[str, str]]) -> bool:
+    """Whether a node that is up could run an application. If none could, it was lost with its nodes."""
+    return any(node in up and (node, application.name) not in forbidden for node in application.nodes)
 
 
 def open_gates(distac: Distac, cluster: Cluster, up: list[str]) -> None:

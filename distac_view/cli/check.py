@@ -1,4 +1,4 @@
-"""`check`: each configuration as distac read it, or its first fault, and warnings."""
+"""`check`: whether distac takes each configuration, or its first fault, and warnings."""
 
 from __future__ import annotations
 
@@ -13,20 +13,22 @@ from distac_view.common.output import Output
 from distac_view.common.problems import Problem, Status
 from distac_view.reading.config_warnings import warnings_on
 from distac_view.showing.json_answers import Fields, json_of
+from distac_view.showing.print_rolling import counted
 
 
 @dataclass(frozen=True)
 class Looked:
-    """A file: its canonical text with warnings, or a fault."""
+    """A file: its canonical text and the numbers of its names, with warnings, or a fault."""
 
     path: str
     canonical: str | None = None
+    counts: str = ""
     fault: Told | None = None
     warnings: list[Told] = field(default_factory=list)
 
 
 def check(distac: Distac, words: argparse.Namespace, output: Output) -> Status:
-    """Prints the canonical text of each configuration, with warnings on standard error. The worst status is
+    """Prints ok, or the canonical text, for each configuration, with warnings on standard error. The worst status is
     returned."""
     found, statuses = [], []
     for path in words.files:
@@ -44,17 +46,20 @@ def look_at(distac: Distac, path: str) -> Looked:
         checked = load_config(distac, path)
     except (Faulty, Problem) as ended:
         return Looked(path, fault=told_of(ended))
-    return Looked(path, checked.canonical, warnings=[remark.told(path) for remark in warnings_on(checked, path)])
+    configuration = checked.configuration
+    counts = f"{counted(len(configuration.names), 'application')}, {counted(len(configuration.nodes), 'node')}"
+    return Looked(path, checked.canonical, counts, warnings=[remark.told(path) for remark in warnings_on(checked, path)])
 
 
 def told(looked: Looked, words: argparse.Namespace, output: Output) -> Status:
-    """Prints the result for a file: its canonical text, after its name if there are several files. Returns its
-    status."""
+    """Prints the result for a file: its numbers or its canonical text, after its name if there are several files.
+    Returns its status."""
     if looked.fault is not None:
         say_fault(looked.fault, output, words.json)
         return Status.TROUBLE
     if not words.json:
-        output.line((f"{looked.path}: " if len(words.files) > 1 else "") + str(looked.canonical))
+        text = str(looked.canonical) if words.prints else f"ok: {looked.counts}"
+        output.line((f"{looked.path}: " if len(words.files) > 1 else "") + text)
         output.flush()
     return warned(words, looked.warnings)
 

@@ -12,18 +12,17 @@ from distac_view.asking.program import MODELS, Distac, found_distac, nobody
 from distac_view.asking.wide_states import too_wide
 from distac_view.cli.check import check
 from distac_view.cli.completion import bash_completion
+from distac_view.cli.ends import add_ends, ends
 from distac_view.cli.expect import add_expect, expect
 from distac_view.cli.gather import LINES, gather
 from distac_view.cli.help_texts import epilog_of
-from distac_view.cli.parser import Formatter, Parser, Version
+from distac_view.cli.parser import Formatter, Parser, Version, count_from_one
 from distac_view.cli.questions import add_json, add_load, add_rolling, add_what_if, load, rolling, what_if
 from distac_view.cli.reporting import add_strict, ended_by, warned
 from distac_view.common.diagnostics import Faulty
 from distac_view.common.output import Output, Progress, drop, open_streams, say, why_not_written
 from distac_view.common.problems import Problem, Status
-from distac_view.common.texts import shown
 from distac_view.common.version import VERSION
-from distac_view.reading.verbs import Role, fits
 from distac_view.showing.html_frame import write_page
 from distac_view.showing.html_timeline import page_text
 from distac_view.showing.provenance import asked_by
@@ -113,6 +112,7 @@ def check_words(parser: argparse.ArgumentParser) -> None:
     parser.add_argument("files", metavar="FILE", nargs="+", help="a configuration, as erl -config takes it")
     add_strict(parser)
     add_json(parser)
+    parser.add_argument("--print", dest="prints", action="store_true", help="print the canonical text, what distac understood, on one line")
 
 
 def play_words(parser: argparse.ArgumentParser) -> None:
@@ -132,13 +132,6 @@ def timeline_words(parser: argparse.ArgumentParser) -> None:
     parser.add_argument("--lines", metavar="N", type=count_from_one, default=MOST_DRAWN, help="how many lines are drawn, 1000 if absent")
 
 
-def count_from_one(word: str) -> int:
-    """A count from the command line."""
-    if not fits(Role.NUMBER, word) or word == "0":
-        raise argparse.ArgumentTypeError(f"a count from 1 on is wanted, in decimal digits, and not {shown(word)}")
-    return int(word)
-
-
 def gather_words(parser: argparse.ArgumentParser) -> None:
     """The words of `gather`."""
     parser.set_defaults(version=VERSION)
@@ -152,6 +145,8 @@ def gather_words(parser: argparse.ArgumentParser) -> None:
     about_root = "the folder in which files with absolute names are looked for: of one node, or of all"
     parser.add_argument("--root", metavar="[NODE=]DIR", action="append", default=[], help=about_root)
     parser.add_argument("--reader", choices=("erl", "own"), help="read by Erlang or by distac-view: Erlang if escript is in PATH")
+    about_check = "compare: are the files that this configuration was gathered from, or NODE=FILE .., still those? The status is 1 if not"
+    parser.add_argument("--check", metavar="CONFIG", help=about_check)
     about_line = "print a line for a node's remote shell, whose answer is taken as a FILE, or with now as that of --now"
     parser.add_argument("--print-command", choices=tuple(LINES), nargs="?", const="erlang", help=about_line)
     add_strict(parser)
@@ -165,10 +160,11 @@ def expect_words(parser: argparse.ArgumentParser) -> None:
 
 
 SUBCOMMANDS: "list[tuple[str, str, Subcommand, Callable[[argparse.ArgumentParser], None]]]" = [
-    ("check", "Prints the canonical text of a configuration, or where its first fault is.", check, check_words),
+    ("check", "Says whether a configuration is correct, or where its first fault is.", check, check_words),
     ("gather", "Writes one configuration from the files of all nodes.", gather, gather_words),
     ("play", "Plays a script and prints each answer beside its line.", play, play_words),
     ("timeline", "Draws what a script did, as one page for a browser.", timeline, timeline_words),
+    ("ends", "Plays a live script under many schedules, and says which ends it can have.", ends, add_ends),
     ("what-if", "Says where each application goes if a node goes down, and once the node is back.", what_if, add_what_if),
     ("rolling", "Says what moves in each step of a rolling restart, and finds the best order.", rolling, add_rolling),
     ("load", "Says how many applications each node has if a node goes down, and what is lost then.", load, add_load),
@@ -189,7 +185,7 @@ def run(arguments: list[str]) -> int:
         return Status.TROUBLE
     output, progress = Output(), Progress()
     try:
-        distac = nobody() if getattr(words, "print_command", None) else found_distac(words.distac)
+        distac = nobody() if asks_nothing(words) else found_distac(words.distac)
         status: Status = words.subcommand(watched(distac, progress), words, output)
         output.flush()
         return status
@@ -200,10 +196,15 @@ def run(arguments: list[str]) -> int:
         progress.end()
 
 
+def asks_nothing(words: argparse.Namespace) -> bool:
+    """Whether no program is needed: for a line to be copied, or to compare the sums of files."""
+    return bool(getattr(words, "print_command", None) or (getattr(words, "check", None) and not words.nodes))
+
+
 def watched(distac: Distac, progress: Progress) -> Distac:
     """The program, with each question reported to the progress."""
     distac.is_asked = progress.ask
-    progress.cases = lambda: (distac.cases_done, distac.cases)
+    progress.cases, progress.unit = lambda: (distac.cases_done, distac.cases), lambda: distac.unit
     return distac
 
 

@@ -28,7 +28,7 @@ from distac_view.reading.script_file import MOST_INPUT, read_bytes
 from distac_view.showing.json_answers import Fields, json_of
 
 QUESTION, ANSWER = ".question", ".answer"
-ASKED = ("check", "gather", "play", "what-if", "rolling", "load")
+ASKED = ("check", "gather", "play", "ends", "what-if", "rolling", "load")
 PIPE = "|"
 ERRORS = "standard error:"
 
@@ -166,7 +166,7 @@ def parsed(parser: argparse.ArgumentParser, path: str, command: "list[str]", err
         words = parser.parse_args(command)
     except SystemExit as end:
         raise Problem(f"{path} isn't taken: {text_of(errors.getvalue()).strip() or 'it asks for help'}") from end
-    written = [getattr(words, name, None) for name in ("output", "html")] + [words.script if command[0] == "gather" else None]
+    written = [getattr(words, name, None) for name in ("output", "html", "keep")] + [words.script if command[0] == "gather" else None]
     if any(file not in (None, "-") for file in written):
         raise Problem(f"{path} would write a file, and a question may not")
     if words.distac is not None:

@@ -8,6 +8,7 @@ import os
 from distac_view.asking.inputs import check_config
 from distac_view.asking.program import Distac
 from distac_view.cli.reporting import warned, warnings_fields
+from distac_view.common.names import bare_name
 from distac_view.common.output import Output
 from distac_view.common.problems import Problem, Status
 from distac_view.common.texts import bytes_of, shown
@@ -20,7 +21,10 @@ from distac_view.reading.forbidden import comment_of
 from distac_view.reading.kernel_parameters import Placement, placement_of
 from distac_view.reading.merge import Gathered, gathered
 from distac_view.reading.node_settings import Library, NodeSettings, path_text
+from distac_view.reading.shipped import files_of
+from distac_view.reading.script_file import MOST_CONFIG, read_bytes
 from distac_view.reading.source_file import ANSWER_MARK
+from distac_view.reading.sums import Sum, mark_now, sums_in, without_sums
 from distac_view.reading.variables import ENDING
 from distac_view.showing.json_answers import Fields, json_of
 
@@ -63,6 +67,8 @@ def gather(distac: Distac, words: argparse.Namespace, output: Output) -> Status:
     if words.print_command:
         output.line(LINES[words.print_command])
         return Status.FINE
+    if words.check and not words.nodes:
+        return checked_sums(words, output)
     if not words.nodes:
         raise Problem("gather wants the files of each node: NODE=FILE[,FILE..], or --print-command")
     each = EachSurroundings(words.env, words.root)
@@ -70,6 +76,8 @@ def gather(distac: Distac, words: argparse.Namespace, output: Output) -> Status:
     found = gathered(placements)
     checked = check_config(distac, "the gathered configuration", bytes_of(found.text))
     text = "".join(line + "\n" for line in (*head_of(words.version, placements, found), checked.canonical))
+    if words.check:
+        return checked_text(words, text, output)
     if not words.json or words.output != PIPE:
         write(words.output, text, placements, output)
     if words.script:
@@ -78,6 +86,41 @@ def gather(distac: Distac, words: argparse.Namespace, output: Output) -> Status:
         fields: Fields = {"text": text, "configuration": checked.canonical, "remarks": warnings_fields(words, found.warnings)}
         output.line(json_of("gather", fields, []))
     return warned(words, found.warnings)
+
+
+def checked_sums(words: argparse.Namespace, output: Output) -> Status:
+    """Prints which files are others than when a configuration was gathered from them. The status is 1 if any is."""
+    sums = sums_in(read_bytes(words.check, MOST_CONFIG))
+    if not sums:
+        raise Problem(f"{words.check} names no files: --check wants a configuration that gather wrote")
+    return say_sums(words, sums, {(each.node, each.file): mark_now(each.file) for each in sums}, [], output)
+
+
+def checked_text(words: argparse.Namespace, text: str, output: Output) -> Status:
+    """Prints what differs between a configuration and one gathered anew. The status is 1 if anything does."""
+    before = read_bytes(words.check, MOST_CONFIG)
+    now = {(each.node, each.file): each.mark for each in sums_in(bytes_of(text))}
+    is_other = without_sums(before) != without_sums(bytes_of(text))
+    more = [f"the nodes' files make another configuration than {shown(words.check)}"] if is_other else []
+    return say_sums(words, sums_in(before), dict(now), more, output)
+
+
+def say_sums(words: argparse.Namespace, sums: "list[Sum]", now: "dict[tuple[str, str], str | None]", more: "list[str]", output: Output) -> Status:
+    """Prints the files that differ, and further sentences, or the same as JSON."""
+    marks = {(each.node, each.file): each.mark for each in sums}
+    keys = list(dict.fromkeys([*marks, *now]))
+    differing = [key for key in keys if marks.get(key) != now.get(key)]
+    files = [{"node": bare_name(key[0]), "file": key[1], "sha256": marks.get(key), "now": now.get(key)} for key in keys]
+    if words.json:
+        output.line(json_of("sums", {"config": words.check, "files": files, "same": not (differing or more)}, []))
+    else:
+        for node, file in differing:
+            how = "wasn't among the files" if (node, file) not in marks else "is gone" if now.get((node, file)) is None else "has changed"
+            output.line(shown(f"{bare_name(node)} {file} {how}"))
+        for line in (*more, f"{len(files) - len(differing)} of {len(files)} files are those of {shown(words.check)}"):
+            output.line(line)
+    output.flush()
+    return Status.NO if differing or more else Status.FINE
 
 
 def settings_by_node(words: list[str], each: EachSurroundings, reader: Reader) -> list[NodeSettings]:
@@ -90,7 +133,7 @@ def settings_by_node(words: list[str], each: EachSurroundings, reader: Reader) -
     library, inputs = Library(reader), []
     for node, paths in named.values():
         variable_files = [path for path in paths if path.endswith(ENDING)]
-        others = [path for path in paths if not path.endswith(ENDING)]
+        others = [file for path in paths if not path.endswith(ENDING) for file in files_of(path)]
         inputs.append(input_of(node, others, each.of(node, variable_files), library))
     library.read(text for given in inputs for text in given.texts)
     return [settings_with_flags(given, library) for given in inputs]
@@ -112,7 +155,7 @@ def head_of(version: str, placements: list[Placement], found: Gathered) -> list[
     count = f"{len(placements)} node" + ("s" if len(placements) > 1 else "")
     lines = [f"%% {version}, gather: one configuration from the files of {count}"]
     for placement in placements:
-        lines += [f"%% {shown(placement.node)} {path_text(file.path)} sha256 {file.mark}" for file in placement.settings.files]
+        lines += [Sum(shown(placement.node), path_text(file.path), file.mark).comment for file in placement.settings.files]
     if found.tick_time is not None:
         lines.append(f"%% net_ticktime {found.tick_time}")
     names = sorted({name for placement in placements for file in placement.settings.files for name in file.filled.names})

@@ -2,17 +2,21 @@
 
 from __future__ import annotations
 
-PROGRAM = """\
-The program distac is taken from --distac PATH, else from the environment variable DISTAC, else from beside this one: the
-proved one, else one without proof, which is compiled first if there is none. --models asks the models in its place.
-A FILE that is a dash is standard input."""
+from distac_view.asking.program import TOP
+
+COMPILED = """: the
+proved one, else one without proof, which is compiled first if there is none"""
+PROGRAM = f"""\
+The program distac is taken from --distac PATH, else from the environment variable DISTAC, else from beside this one{COMPILED if TOP.is_dir() else ""}.
+--models, or DISTAC=--models, asks the models in its place. A FILE that is a dash is standard input."""
 
 NO = {
-    "": "the answer is no: --strict warns, --fail-on fails, --then changes something, rolling is barred, or expect finds a change",
+    "": "the answer is no: --strict warns, --fail-on fails, --then changes something, --check finds other files, rolling is barred, ends finds another end than --expect, or expect finds a change",
     "check": "with --strict, a warning that --allow doesn't name",
-    "gather": "with --strict, a warning that --allow doesn't name",
+    "gather": "with --strict, a warning that --allow doesn't name, or --check finds other files",
     "play": "with --strict, a warning that --allow doesn't name",
-    "what-if": "--then changes something",
+    "ends": "an end found isn't as --expect names it",
+    "what-if": "--then changes something, or with --fail-on what that names",
     "rolling": "a step can't go on, or --fail-on fails",
     "load": "--fail-on fails",
     "expect": "an answer isn't as it is stored",
@@ -20,8 +24,10 @@ NO = {
 
 EXAMPLES = {
     "check": """\
-  distac-view check sys.config                   one line: what distac understood, or the first fault
-  distac-view check --strict rel/*/sys.config    the files of all nodes, for CI: a warning ends it with 1
+  distac-view check sys.config                   ok with its numbers, or the first fault
+  distac-view check sys.config --print           what distac understood, on one line
+  distac-view check --strict rel/*/sys.config
+                                                 the files of all nodes, for CI: a warning ends it with 1
   distac-view check sys.config --strict --allow SingleNode:audit
                                                  but for this one, of this application""",
     "gather": """\
@@ -31,6 +37,7 @@ EXAMPLES = {
                                                  later files win, as with erl -config common -config shop1
   distac-view gather shop1/sys.config.src,shop1/vm.args.src --env prod.env --env FAILOVER_MS=5000 --root image
                                                  before a node runs: -name tells the node, --root where /etc is
+  distac-view gather --check cluster.config      are the files that it was gathered from still those?
   distac-view gather --print-command | erl_call -name shop1@10.0.0.1 -c COOKIE -fetch_stdout -e > shop1.answer
                                                  what a running node has: gather takes the answer as its FILE
   bin/shop rpc "$(distac-view gather --print-command elixir)" > shop1.answer
@@ -50,6 +57,12 @@ EXAMPLES = {
                                                  a page for a browser, or for a printer
   distac-view timeline long.distac -o part.html --from 400 --lines 200
                                                  a part of a long script""",
+    "ends": """\
+  distac-view ends race.live --keep ends         each end found, and a script of distac sim for each
+  distac-view ends race.live --schedules 20000 --seed 2
+                                                 a longer search, by other schedules
+  distac-view ends race.live --expect 'app shop holder main@h'
+                                                 for CI: 1 if some schedule ends otherwise, with its script""",
     "what-if": """\
   distac-view what-if sys.config                 each node down alone
   distac-view what-if sys.config --down shop1@rack1 shop2@rack1

@@ -7,7 +7,9 @@ import sys
 from typing import TYPE_CHECKING, Any
 
 from distac_view.common.output import say
+from distac_view.common.texts import shown
 from distac_view.common.version import version_line
+from distac_view.reading.verbs import Role, fits
 
 if TYPE_CHECKING:
     from _typeshed import SupportsWrite
@@ -52,3 +54,10 @@ class Formatter(argparse.RawDescriptionHelpFormatter):
 
     def __init__(self, prog: str) -> None:
         super().__init__(prog, max_help_position=30, width=100)
+
+
+def count_from_one(word: str) -> int:
+    """A count from the command line."""
+    if not fits(Role.NUMBER, word) or word == "0":
+        raise argparse.ArgumentTypeError(f"a count from 1 on is wanted, in decimal digits, and not {shown(word)}")
+    return int(word)

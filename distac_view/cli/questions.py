@@ -22,9 +22,10 @@ from distac_view.common.writing import PIPE
 from distac_view.reading.equal_times import FOREVER
 from distac_view.reading.verbs import Role, fits
 from distac_view.showing.html_frame import write_page
-from distac_view.showing.html_plans import Verdict, changes_page, load_page, rolling_page, what_if_page
+from distac_view.showing.html_plans import Verdict, changes_page, load_page, rolling_page, split_page, what_if_page
 from distac_view.showing.json_answers import what_if_answer
 from distac_view.showing.json_plans import changes_answer, load_answer, rolling_answer
+from distac_view.showing.print_changes import change_faults
 from distac_view.showing.print_changes import lines_of as changes_lines
 from distac_view.showing.print_changes import notes_on as change_notes
 from distac_view.showing.print_load import budget_faults
@@ -59,11 +60,14 @@ def put_page(distac: Distac, words: argparse.Namespace, output: Output, page: Ca
 
 def what_if(distac: Distac, words: argparse.Namespace, output: Output) -> Status:
     """Prints the effect of lost nodes on each application, or the changes by a new configuration."""
-    question = Question(words.config, words.down, words.not_started, words.after, words.back, words.now, takes=words.takes, split=words.split)
+    places = (words.config, words.down, words.not_started, words.after, words.back, words.now)
+    question = Question(*places, takes=words.takes, split=words.split, fails=words.fails, temporary=words.temporary)
     if words.split:
         return in_split(distac, question, words, output)
     if words.then:
         return what_changes(distac, question, words, output)
+    if words.fail_on:
+        raise Problem("--fail-on of what-if wants --then NEW.config: it judges a change")
     reply = reply_to(distac, question)
     put_page(distac, words, output, lambda asked: what_if_page(reply, notes_on(reply), words.all, asked))
     answer(words, output, lambda: what_if_answer(reply, notes_on(reply)), lambda: table_of(reply, words.all))
@@ -72,22 +76,25 @@ def what_if(distac: Distac, words: argparse.Namespace, output: Output) -> Status
 
 def in_split(distac: Distac, question: Question, words: argparse.Namespace, output: Output) -> Status:
     """Prints the effect of a split on each application, and its place once healed."""
-    for name in ("down", "back", "after", "takes", "then"):
+    for name in ("down", "back", "after", "takes", "then", "fails", "temporary"):
         if getattr(words, name):
             raise Problem(f"--split can't stand beside --{name}: it says itself who hears whom, and lasts longer than all waits")
-    if words.output:
-        raise Problem("--split can't stand beside -o: its answer has no page")
     reply = split_reply(distac, question)
     notes = split_notes(reply)
+    put_page(distac, words, output, lambda asked: split_page(reply, notes, words.all, asked))
     answer(words, output, lambda: split_answer(reply, notes), lambda: split_lines(reply, notes, words.all))
     return Status.FINE
 
 
 def what_changes(distac: Distac, question: Question, words: argparse.Namespace, output: Output) -> Status:
     """Prints the changes by a new configuration. The status is 1 if there are any."""
+    fail_on = failing(words.fail_on, ("rollout", "lost", "stale"))
     changes = changes_by(distac, question, words.then)
-    put_page(distac, words, output, lambda asked: changes_page(changes, change_notes(changes), asked))
-    answer(words, output, lambda: changes_answer(changes, change_notes(changes)), lambda: changes_lines(changes))
+    failures = list(change_faults(changes, fail_on))
+    put_page(distac, words, output, lambda asked: changes_page(changes, Verdict(fail_on, failures), change_notes(changes), asked))
+    answer(words, output, lambda: changes_answer(changes, failures, change_notes(changes)), lambda: changes_lines(changes))
+    if fail_on:
+        return judged(failures)
     return Status.NO if changes.are_any else Status.FINE
 
 
@@ -139,13 +146,18 @@ def add_what_if(parser: argparse.ArgumentParser) -> None:
     parser.add_argument("--not-started", metavar="NODE", nargs="+", action="extend", default=[], help=more)
     parser.add_argument("--after", metavar="SCRIPT", help="begin where this script ends, not with a cluster that just came up")
     add_now(parser)
-    back = "those of --down that come back: all, if this is absent"
+    back = "those of --down that come back: all, if this is absent; by --now also nodes that are off"
     parser.add_argument("--back", metavar="NODE", nargs="+", action="extend", default=[], help=back)
     add_takes(parser)
+    fails = "starts that fail after a loss or a return: OTP tries no other node, and the node ends unless --temporary names the application"
+    parser.add_argument("--fails", metavar="APP=NODE", nargs="+", action="extend", default=[], help=fails)
+    temporary = "with --fails: applications started as temporary, as application:start/1 does; a release starts them as permanent"
+    parser.add_argument("--temporary", metavar="APP", nargs="+", action="extend", default=[], help=temporary)
     split = "nodes that are cut off from each other, a slash between the sides: what each side runs, and once it is healed"
     parser.add_argument("--split", metavar="NODE", nargs="+", action="extend", default=[], help=split)
     then = "say what this configuration changes in place of CONFIG: the exit status is 1 if it changes anything"
     parser.add_argument("--then", metavar="NEW.config", help=then)
+    add_fail_on(parser, "with --then: rollout (the file can't be rolled out node by node without harm), lost (an application runs nowhere by it), stale (the files that it was gathered from changed)")
     parser.add_argument("--all", action="store_true", help="show the rows of applications that stay too")
     add_json(parser)
     add_page(parser)

@@ -83,6 +83,7 @@ class Progress:
     def __init__(self) -> None:
         self.times_asked = 0
         self.cases: Callable[[], tuple[int, int]] = lambda: (0, 0)
+        self.unit: Callable[[], str] = lambda: "case"
         self.start = time.monotonic()
         self.is_over = threading.Event()
         self.thread: threading.Thread | None = None
@@ -99,7 +100,7 @@ class Progress:
     def what(self) -> str:
         """The progress: the case being played, or the number of questions to `distac`."""
         done, cases = self.cases()
-        return f"case {min(done + 1, cases)} of {cases}" if cases else f"question {self.times_asked} to distac"
+        return f"{self.unit()} {min(done + 1, cases)} of {cases}" if cases else f"question {self.times_asked} to distac"
 
     def show(self) -> None:
         """Shows the progress twice a second."""

@@ -89,7 +89,7 @@ def equal_times_remark(checked: Checked, pairs: list[Pair]) -> Remark:
     pair = pairs[0]
     names = [each.name for each in checked.configuration.applications if any(each in (other.one, other.other) for other in pairs)]
     what = f"{cut(shown(listed(bare_names(names))), 200)} have the same time and may run at {shown(bare_name(pair.node))} together"
-    sentence = f"{what}: if it goes down, OTP 25 may restart one of them alone and hang; {CURE}"
+    sentence = f"{what}: if it goes down, OTP 25 may hang and restart only one of them; {CURE}"
     token = token_of_entry(checked.text, names[-1])
     return Remark(place_of(checked.text, token.start), "EqualTimes", sentence, tuple(names))
 

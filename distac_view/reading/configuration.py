@@ -2,13 +2,15 @@
 
 from __future__ import annotations
 
-from dataclasses import dataclass
+from dataclasses import dataclass, field
+from functools import cached_property
 from typing import Any
 
-from distac_view.common.names import name_of
+from distac_view.common.names import Short, name_of, short_names
 from distac_view.common.problems import Problem
 from distac_view.common.texts import bytes_of
 from distac_view.reading.erlang_tokens import Token, byte_tokens
+from distac_view.reading.sums import Sum
 
 
 @dataclass(frozen=True)
@@ -28,14 +30,15 @@ class Application:
 
 @dataclass(frozen=True)
 class Configuration:
-    """A configuration: its nodes in name order, its applications in file order, and the nodes that a starting node
-    waits for."""
+    """A configuration: its nodes in name order, its applications in file order, the nodes that a starting node waits
+    for, and the files that it was gathered from."""
 
     nodes: list[str]
     applications: list[Application]
     mandatory: list[str]
     optional: list[str]
     sync_timeout: str | None
+    sums: list[Sum] = field(default_factory=list, compare=False)
 
     @property
     def names(self) -> list[str]:
@@ -46,6 +49,11 @@ class Configuration:
     def timeouts(self) -> dict[str, int]:
         """The failover times of the applications, in milliseconds."""
         return {application.name: application.timeout for application in self.applications}
+
+    @cached_property
+    def short(self) -> Short:
+        """The names of its nodes in tables."""
+        return short_names(self.nodes, self.names)
 
 
 @dataclass(frozen=True)

@@ -65,21 +65,33 @@ def pairs_among(lost: Iterable[Application], left: Iterable[str]) -> list[tuple[
 
 
 def hang_together(one: Application, other: Application, left: Iterable[str]) -> bool:
-    """Whether two applications that fail over at one moment may hang, in either order. Waits of weeks don't count."""
-    nodes = set(left)
+    """Whether two applications that fail over at one moment may hang."""
+    return bool(nodes_that_hang(one, other, set(left)))
+
+
+def nodes_that_hang(one: Application, other: Application, left: set[str]) -> set[str]:
+    """The nodes that may wait for each other if two applications fail over at one moment, in either order. Waits of
+    weeks don't count."""
     if one.timeout != other.timeout or one.timeout == FOREVER:
-        return False
-    return hang_in_turn(one, other, nodes) or hang_in_turn(other, one, nodes)
+        return set()
+    return hung_in_turn(one, other, left) | hung_in_turn(other, one, left)
 
 
-def hang_in_turn(first: Application, second: Application, left: set[str]) -> bool:
-    """Whether a node that restarted the first application waits, for the second one, for a node that waits for its
-    message."""
-    for node in first_group(first, left).intersection(left):
+def hung_in_turn(first: Application, second: Application, left: set[str]) -> set[str]:
+    """The nodes that hang if one that restarted the first application waits, for the second one, for a node that waits
+    for its message."""
+    found: set[str] = set()
+    for node in first_group(first, left).intersection(left).intersection(second.nodes):
         waiting = left.intersection(first.nodes).difference([node])
-        if node in second.nodes and waiting & waited_for(second, node, left):
-            return True
-    return False
+        if waiting & waited_for(second, node, left):
+            found |= {node, *waiting}
+    return found
+
+
+def is_stuck(application: Application, left: set[str], hung: set[str]) -> bool:
+    """Whether the nodes that would restart an application hang, or wait for one that does."""
+    group = first_group(application, left)
+    return bool(hung & left.intersection(application.nodes if len(group) > 1 else group))
 
 
 def waited_for(application: Application, node: str, left: set[str]) -> set[str]:

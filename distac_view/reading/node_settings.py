@@ -3,6 +3,7 @@
 from __future__ import annotations
 
 import os
+import re
 from dataclasses import dataclass, field
 from typing import Iterable
 
@@ -19,6 +20,13 @@ from distac_view.reading.variables import Variables
 
 NO_NAME = "nonode@nohost"
 NO_TERMS = ".exs"
+PROVIDER = "config_provider_init"
+# What mix writes for a release that boots once more with what its providers said: only then can they set kernel.
+BOOTS_AGAIN = re.compile(r"\breboot_system_after_config\s*=>\s*true\b")
+PROVIDED = (
+    "this release evaluates runtime.exs or another provider, and boots again with what that says in place of this file: "
+    "ask the running node, or evaluate its configuration (gather --print-command elixir-config)"
+)
 TWICE = "the parameter {} stands twice: OTP doesn't boot with that, and the last one is taken here"
 
 
@@ -194,6 +202,8 @@ def add_section(settings: NodeSettings, file: SourceFile, way: Way, item: Term, 
         if not (isinstance(parameter, tuple) and len(parameter) == 2 and isinstance(parameter[0], Atom)):
             place = written.place_of((*inner, *wrong_part(parameter)), places.of_section(section))
             raise file.fault(place, "BadParameter", "OTP doesn't boot with this: each item of a section's list is a parameter {NAME,VALUE}")
+        if section == "elixir" and parameter[0].name == PROVIDER and BOOTS_AGAIN.search(file.text):
+            settings.warnings.append(file.remark(written.place_of((*inner, 0), 0), "ConfigProvider", PROVIDED).told(file.path))
         if section == "kernel":
             name = parameter[0].name
             settings.kernel[name] = Setting(parameter[1], Origin(file, places.of_parameter(name), written, (*inner, 1)))

@@ -5,11 +5,9 @@ from __future__ import annotations
 import re
 from dataclasses import dataclass
 from html import escape
-from typing import Iterable, Iterator, List, Tuple
+from typing import Iterable, Iterator, List, Tuple, Union
 
 from distac_view.common.texts import shown
-
-Cells = Tuple[str, ...]
 
 # Places to break a name: after signs, and in a long part also after every few letters.
 WORDS = re.compile(r"[^ ]+")
@@ -23,9 +21,14 @@ def text_in(text: str) -> str:
     return escape(shown(text), quote=True)
 
 
+def with_arrows(text: str) -> str:
+    """A text with arrows of one sign."""
+    return text.replace("->", "\N{RIGHTWARDS ARROW}")
+
+
 def wrapped(text: str) -> str:
     """A text in a narrow element: a name can break, and a unit stays with its number."""
-    whole = UNIT.sub("\N{NO-BREAK SPACE}", text.replace("->", "\N{RIGHTWARDS ARROW}"))
+    whole = UNIT.sub("\N{NO-BREAK SPACE}", with_arrows(text))
     return WORDS.sub(lambda found: "<wbr>".join(text_in(piece) for piece in pieces_of(found.group())), whole)
 
 
@@ -58,14 +61,26 @@ def region(kind: str, name: str, inside: str) -> str:
 
 
 @dataclass(frozen=True)
+class Square:
+    """A cell of a picture: its text, and its kind, which chooses its pattern."""
+
+    kind: str
+    text: str
+
+
+Cells = Tuple[Union[str, Square], ...]
+
+
+@dataclass(frozen=True)
 class Table:
     """A table with a name, the heads of its columns, and rows. The last cell of a short row fills the rest.
 
-    Cells don't wrap, except those of the last column, unless all may.
+    Cells don't wrap, except those of the last column, unless all may. On a narrow screen each row is a card, whose
+    cells repeat their heads. Such cells are no cells to a screen reader unless they have roles.
     """
 
     name: str
-    heads: Cells
+    heads: Tuple[str, ...]
     rows: List[Cells]
     numbers: range = range(0)
     wraps: bool = False
@@ -73,9 +88,10 @@ class Table:
     @property
     def text(self) -> str:
         """The table in a box that scrolls if it doesn't fit."""
-        heads = "".join(f'<th scope="col"{self.kind(place)}>{wrapped(head)}</th>' for place, head in enumerate(self.heads))
-        rows = "".join(f"<tr>{''.join(self.cells(row))}</tr>\n" for row in self.rows)
-        table = f'<table aria-label="{text_in(self.name)}"><thead><tr>{heads}</tr></thead>\n<tbody>{rows}</tbody></table>'
+        heads = "".join(f'<th role="columnheader" scope="col"{self.kind(place)}>{wrapped(head)}</th>' for place, head in enumerate(self.heads))
+        rows = "".join(f"<tr role=\"row\">{''.join(self.cells(row))}</tr>\n" for row in self.rows)
+        parts = f'<thead role="rowgroup"><tr role="row">{heads}</tr></thead>\n<tbody role="rowgroup">{rows}</tbody>'
+        table = f'<table role="table" aria-label="{text_in(self.name)}">{parts}</table>'
         return region("wide wraps" if self.wraps else "wide", self.name, table)
 
     def kind(self, place: int) -> str:
@@ -84,8 +100,9 @@ class Table:
 
     def cells(self, row: Cells) -> Iterator[str]:
         """The cells of a row: the first one is its head."""
-        yield f'<th scope="row">{wrapped(row[0])}</th>'
-        for place, cell in enumerate(row[1:], 1):
+        for place, cell in enumerate(row):
+            kind, text = (f' class="{cell.kind}"', cell.text) if isinstance(cell, Square) else (self.kind(place), cell.strip())
             rest = len(self.heads) - place if place == len(row) - 1 else 1
-            span = f' colspan="{rest}"' if rest > 1 else ""
-            yield f"<td{self.kind(place)}{span}>{wrapped(cell)}</td>"
+            more = f' colspan="{rest}"' if rest > 1 else f' data-head="{text_in(with_arrows(self.heads[place]))}"'
+            name, role = ("td", 'role="cell"') if place else ("th", 'role="rowheader" scope="row"')
+            yield f"<{name} {role}{kind}{more}>{wrapped(text)}</{name}>"

@@ -45,6 +45,14 @@ dd { margin: 0; grid-column: 2; }
   body { font-size: 16px; }
   dl { display: block; }
   dd { margin: 0 0 6px; }
+  .wide :is(table, tbody, tr) { display: block; }
+  .wide thead { position: absolute; width: 1px; height: 1px; overflow: hidden; clip-path: inset(50%); }
+  .wide tbody tr { border-bottom: 1px solid var(--rule); padding: 6px 0; }
+  .wide tbody :is(td, th), .wide tr > :last-child { display: inline-block; min-width: 0; white-space: normal; }
+  .wide tbody :is(td, th) { padding: 0 14px 2px 0; border: 0; }
+  .wide tbody th { display: block; position: static; font-weight: bold; }
+  .wide :is(td, th):empty { display: none; }
+  .wide [data-head]::before { content: attr(data-head) ":\\00a0"; content: attr(data-head) ":\\00a0" / ""; color: var(--soft); font-weight: normal; }
 }
 @media print {
   @page { size: A4; margin: 14mm; }

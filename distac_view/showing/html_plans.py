@@ -3,21 +3,24 @@
 from __future__ import annotations
 
 from dataclasses import dataclass, field
-from typing import Iterable
+from typing import Iterable, List
 
 from distac_view.answering.changes import Changes
 from distac_view.answering.load import Load
 from distac_view.answering.notes import Failure, Note
 from distac_view.answering.rolling import Rolling, Step
+from distac_view.answering.split import SplitReply
 from distac_view.answering.what_if import Answers, Reply
-from distac_view.common.names import bare_name, bare_names
+from distac_view.common.names import bare_names
 from distac_view.common.texts import listed
-from distac_view.reading.configuration import Configuration
-from distac_view.showing.html_elements import Table, bullets, paragraphs, section, text_in, wrapped
+from distac_view.showing.html_elements import Cells, Table, bullets, paragraphs, section, text_in, wrapped
 from distac_view.showing.html_frame import page_of
-from distac_view.showing.print_changes import alone_lines, count_line, row_of, setting_row
+from distac_view.showing.html_matrix import STYLE, rolling_glance, split_glance, what_if_glance
+from distac_view.showing.print_changes import alone_lines, change_rows, count_line, setting_row
 from distac_view.showing.print_load import is_wide, last_lines, left_lines, narrow_rows, shown_rows, wide_rows
 from distac_view.showing.print_rolling import barred_by, cost_of, order_of, parts_of
+from distac_view.showing.print_split import HEADS as SPLIT_HEADS
+from distac_view.showing.print_split import HEALED_HEADS, healed_rows, lasting_line, side_rows
 from distac_view.showing.print_what_if import HEADS, lasting, nobody_lines, rows_of_side
 from distac_view.showing.provenance import Asked
 
@@ -51,21 +54,37 @@ def what_if_page(reply: Reply, notes: Iterable[Note], shows_all: bool, asked: As
     tables = [side_section(reply, answers, shows_all) for answers in reply.sides]
     nobody = section("Lost", bullets(nobody_lines(reply)))
     lasts = f"Each loss lasts {lasting(reply.question.takes, reply.configuration)}."
-    return page_of(f"Losses of nodes: {asked.files[0].name}", asked, "".join([*tables, nobody, notes_section(notes)]), lasts)
+    parts = [what_if_glance(reply), *tables, nobody, notes_section(notes)]
+    return page_of(f"Losses of nodes: {asked.files[0].name}", asked, "".join(parts), lasts, STYLE)
+
+
+def split_page(reply: SplitReply, notes: Iterable[Note], shows_all: bool, asked: Asked) -> str:
+    """The page of `what-if --split`."""
+    sides: List[Cells] = list(side_rows(reply, shows_all))
+    healed: List[Cells] = list(healed_rows(reply, shows_all))
+    parts = [
+        split_glance(reply),
+        section("Each side", Table("Each side", SPLIT_HEADS, sides).text),
+        section("Healed", Table("Healed", HEALED_HEADS, healed).text),
+        notes_section(notes),
+    ]
+    lasts = lasting_line(reply)
+    return page_of(f"Split: {asked.files[0].name}", asked, "".join(parts), f"{lasts[:1].upper()}{lasts[1:]}.", STYLE)
 
 
 def side_section(reply: Reply, answers: Answers, shows_all: bool) -> str:
     """The table of one side of a split, or of all nodes."""
     heading = f"Side of {listed(bare_names(answers.side.members))}" if len(reply.sides) > 1 else "Each loss"
-    table = Table(heading, HEADS, list(rows_of_side(reply, answers, shows_all)))
-    return section(heading, paragraphs([FATES]) + table.text)
+    rows: List[Cells] = list(rows_of_side(reply, answers, shows_all))
+    return section(heading, paragraphs([FATES]) + Table(heading, HEADS, rows).text)
 
 
-def changes_page(changes: Changes, notes: Iterable[Note], asked: Asked) -> str:
+def changes_page(changes: Changes, verdict: Verdict, notes: Iterable[Note], asked: Asked) -> str:
     """The page of `what-if --then`."""
     parts = [
+        verdict.section,
         differing("What the files say", ("of", "setting", "old -> new"), map(setting_row, changes.settings)),
-        differing("What happens", ("application", "when", "old -> new"), map(row_of, changes.changes)),
+        differing("What happens", ("application", "when", "old -> new"), change_rows(changes), changes.short.lines),
         section("In one file alone (- old, + new)", bullets(alone_lines(changes))),
         notes_section(notes),
     ]
@@ -73,20 +92,21 @@ def changes_page(changes: Changes, notes: Iterable[Note], asked: Asked) -> str:
     return page_of(f"Change: {old} to {new}", asked, "".join(parts), f"{count_line(changes)}.")
 
 
-def differing(heading: str, heads: tuple[str, ...], rows: Iterable[tuple[str, ...]]) -> str:
+def differing(heading: str, heads: tuple[str, ...], rows: Iterable[tuple[str, ...]], above: Iterable[str] = ()) -> str:
     """The differences, if any: rows of the printed answer without their first signs."""
-    unsigned = [(row[0].partition(" ")[2], *row[1:]) for row in rows]
-    return section(heading, Table(heading, heads, unsigned, wraps=True).text if unsigned else "")
+    unsigned: List[Cells] = [(row[0].partition(" ")[2], *row[1:]) for row in rows]
+    return section(heading, paragraphs(above) + Table(heading, heads, unsigned, wraps=True).text if unsigned else "")
 
 
 def load_page(load: Load, most: int | None, verdict: Verdict, notes: Iterable[Note], asked: Asked) -> str:
     """The page of `load`."""
     rows = shown_rows(load, most)
-    heads, *cells = wide_rows(load, rows) if is_wide(load) else narrow_rows(rows)
+    heads, *rest = wide_rows(load, rows) if is_wide(load) else narrow_rows(load, rows)
+    cells: List[Cells] = list(rest)
     numbers = range(1, len(heads) - 1) if is_wide(load) else range(1, 2)
     parts = [
         verdict.section,
-        section(LOADS, Table(LOADS, heads, cells, numbers).text + paragraphs(left_lines(load, rows))),
+        section(LOADS, paragraphs(load.configuration.short.lines) + Table(LOADS, heads, cells, numbers).text + paragraphs(left_lines(load, rows))),
         section("One loss from nothing", bullets(last_lines(load))),
         notes_section(notes),
     ]
@@ -95,18 +115,19 @@ def load_page(load: Load, most: int | None, verdict: Verdict, notes: Iterable[No
 
 def rolling_page(rolling: Rolling, verdict: Verdict, notes: Iterable[Note], asked: Asked) -> str:
     """The page of `rolling`."""
-    steps = "\n".join(step_part(number, step, rolling.configuration) for number, step in enumerate(rolling.steps, 1))
+    steps = "\n".join(step_part(number, step, rolling) for number, step in enumerate(rolling.steps, 1))
     parts = [
+        rolling_glance(rolling),
         section("Order", paragraphs([order_of(rolling), cost_of(rolling)])),
         verdict.section,
         section("Steps", steps),
         notes_section(notes),
     ]
-    return page_of(f"Rolling restart: {asked.files[0].name}", asked, "".join(parts))
+    return page_of(f"Rolling restart: {asked.files[0].name}", asked, "".join(parts), style=STYLE)
 
 
-def step_part(number: int, step: Step, configuration: Configuration) -> str:
+def step_part(number: int, step: Step, rolling: Rolling) -> str:
     """A step of a restart: its events, with their causes."""
-    pairs = "".join(f"<dt>{when}</dt>{''.join(f'<dd>{wrapped(each)}</dd>' for each in what)}" for when, what in parts_of(step))
-    faults = "".join(f'<p class="no">{text_in(sentence)}</p>' for sentence in barred_by(step, configuration))
-    return f'<div class="step"><h3>{number}. {text_in(bare_name(step.node))}</h3><dl>{pairs}</dl>{faults}</div>'
+    pairs = "".join(f"<dt>{when}</dt>{''.join(f'<dd>{wrapped(each)}</dd>' for each in what)}" for when, what in parts_of(step, rolling))
+    faults = "".join(f'<p class="no">{text_in(sentence)}</p>' for sentence in barred_by(step, rolling.configuration))
+    return f'<div class="step"><h3>{number}. {text_in(rolling.configuration.short.one(step.node))}</h3><dl>{pairs}</dl>{faults}</div>'

@@ -11,7 +11,7 @@ from distac_view.answering.rolling import Move, Rolling, Step
 from distac_view.answering.settings import Differing
 from distac_view.asking.cluster import Waiter
 from distac_view.common.names import bare_name
-from distac_view.showing.json_answers import Fields, json_of, name_or_none, names_of, notes_fields
+from distac_view.showing.json_answers import Fields, json_of, name_or_none, names_of, notes_fields, sums_of
 
 
 def rolling_answer(rolling: Rolling, failures: Iterable[Failure], notes: Iterable[Note]) -> str:
@@ -20,9 +20,11 @@ def rolling_answer(rolling: Rolling, failures: Iterable[Failure], notes: Iterabl
         "order": names_of(rolling.order),
         "moves": rolling.moves,
         "waits": rolling.waits,
+        "restarts": rolling.restarts,
         "compared": rolling.compared,
         "worst": rolling.worst,
         "takes": rolling.takes,
+        "gathered": sums_of(rolling.configuration),
         "steps": [step_fields(step) for step in rolling.steps],
         "failed": failed_fields(failures),
     }
@@ -57,7 +59,7 @@ def load_answer(load: Load, failures: Iterable[Failure], notes: Iterable[Note]) 
     """The answer of `load`."""
     rows = [row_fields(row) for row in (load.start, *load.rows)]
     fields: Fields = {"nodes": names_of(load.configuration.nodes), "nowhere": names_of(load.nowhere), "losses": rows}
-    return json_of("load", {**fields, "failed": failed_fields(failures)}, notes)
+    return json_of("load", {**fields, "gathered": sums_of(load.configuration), "failed": failed_fields(failures)}, notes)
 
 
 def row_fields(row: Row) -> Fields:
@@ -67,13 +69,15 @@ def row_fields(row: Row) -> Fields:
     return {"down": names_of(row.down), "load": counts, **names}
 
 
-def changes_answer(changes: Changes, notes: Iterable[Note]) -> str:
+def changes_answer(changes: Changes, failures: Iterable[Failure], notes: Iterable[Note]) -> str:
     """The answer of `what-if --then`."""
     fields: Fields = {"compared": changes.compared, "changes": [change_fields(change) for change in changes.changes]}
     fields["applications_added"], fields["applications_gone"] = map(names_of, changes.apps)
     fields["nodes_added"], fields["nodes_gone"] = map(names_of, changes.nodes)
     fields["settings"] = [setting_fields(setting) for setting in changes.settings]
     fields["notes_added"], fields["notes_gone"] = map(notes_fields, changes.notes)
+    fields["gathered_old"], fields["gathered_new"] = (sums_of(reply.configuration) for reply in (changes.old, changes.new))
+    fields["failed"] = failed_fields(failures)
     return json_of("then", fields, notes)
 
 

@@ -7,7 +7,7 @@ from typing import Iterator
 from distac_view.answering.caveats import few_of
 from distac_view.answering.load import Load, Row
 from distac_view.answering.notes import Failure
-from distac_view.common.names import bare_name
+from distac_view.common.names import Short, bare_name
 from distac_view.common.texts import columns_of, listed, shown
 from distac_view.showing.print_what_if import lines_of_rows
 
@@ -17,7 +17,8 @@ MOST_COLUMNS = 8
 def table_of(load: Load, most: int | None) -> Iterator[str]:
     """The table, and the applications that one more loss would end."""
     rows = shown_rows(load, most)
-    yield from lines_of_rows(wide_rows(load, rows) if is_wide(load) else narrow_rows(rows))
+    yield from load.configuration.short.lines
+    yield from lines_of_rows(wide_rows(load, rows) if is_wide(load) else narrow_rows(load, rows))
     yield from left_lines(load, rows)
     last = list(last_lines(load))
     if last:
@@ -51,24 +52,26 @@ def is_above(row: Row, most: int | None) -> bool:
 
 def wide_rows(load: Load, rows: list[Row]) -> Iterator[tuple[str, ...]]:
     """A column for each node."""
-    nodes = load.side.nodes
-    widths = [max(columns_of(shown(bare_name(node))), 3) for node in nodes]
-    yield ("down", *(shown(bare_name(node)) for node in nodes), "lost")
+    nodes, short = load.side.nodes, load.configuration.short
+    heads = [shown(name) for name in short.each(nodes)]
+    widths = [max(columns_of(head), 3) for head in heads]
+    yield ("down", *heads, "lost")
     for row in rows:
         counts = [str(row.counts[node]) if node in row.counts else "" for node in nodes]
-        yield (down_of(row), *(count.rjust(width) for count, width in zip(counts, widths)), lost_of(row))
+        yield (down_of(row, short), *(count.rjust(width) for count, width in zip(counts, widths)), lost_of(row))
 
 
-def narrow_rows(rows: list[Row]) -> Iterator[tuple[str, ...]]:
+def narrow_rows(load: Load, rows: list[Row]) -> Iterator[tuple[str, ...]]:
     """A column for the greatest load, and one for the node that has it."""
+    short = load.configuration.short
     yield ("down", "most", "at", "lost")
     for row in rows:
-        yield (down_of(row), str(row.most).rjust(4), shown(bare_name(row.most_at or "-")), lost_of(row))
+        yield (down_of(row, short), str(row.most).rjust(4), shown(short.one(row.most_at)), lost_of(row))
 
 
-def down_of(row: Row) -> str:
-    """The nodes that are down."""
-    return shown(" ".join(bare_name(node) for node in row.down)) or "-"
+def down_of(row: Row, short: Short = Short({})) -> str:
+    """The nodes that are down, by their whole names unless there are shorter ones."""
+    return shown(" ".join(short.each(row.down))) or "-"
 
 
 def lost_of(row: Row) -> str:
@@ -78,11 +81,12 @@ def lost_of(row: Row) -> str:
 
 def last_lines(load: Load) -> Iterator[str]:
     """The applications at the last node that can run them, which one more loss would end."""
+    short = load.configuration.short
     for row in (load.start, *load.singles):
         last = row.last if row is load.start else [app for app in row.last if app not in load.start.last]
         if last:
-            names = few_of([f"{bare_name(app)} ({bare_name(row.places[app])})" for app in last])
-            without = f"without {listed([bare_name(node) for node in row.down])}, " if row.down else ""
+            names = few_of([f"{bare_name(app)} ({short.one(row.places[app])})" for app in last])
+            without = f"without {listed(short.each(row.down))}, " if row.down else ""
             yield shown(f"{without}one loss from nothing: {names}")
 
 

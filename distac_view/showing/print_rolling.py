@@ -7,30 +7,35 @@ from typing import Iterator
 from distac_view.answering.caveats import few_of, wait_of
 from distac_view.answering.notes import Failure, Note
 from distac_view.answering.rolling import Move, Rolling, Step
-from distac_view.common.names import bare_name
+from distac_view.common.names import Short, bare_name
 from distac_view.common.texts import listed, shown
 from distac_view.reading.configuration import Configuration
+from distac_view.showing.headlines import rolling_headlines
 from distac_view.showing.print_what_if import lasting
 
 
 def lines_of(rolling: Rolling) -> Iterator[str]:
-    """The order with its cost, and its steps."""
+    """The headlines, the order with its cost, and its steps."""
+    short = rolling.configuration.short
+    yield from rolling_headlines(rolling)
+    yield from short.lines
     yield shown(f"order {order_of(rolling)}: {cost_of(rolling)}")
     for number, step in enumerate(rolling.steps, 1):
-        parts = "; ".join(f"{when}: {listed(what)}" for when, what in parts_of(step))
-        yield shown(f"{number} {bare_name(step.node)}: {parts}")
+        parts = "; ".join(f"{when}: {listed(what)}" for when, what in parts_of(step, rolling))
+        yield shown(f"{number} {short.one(step.node)}: {parts}")
         yield from (f"  fault: {sentence}" for sentence in barred_by(step, rolling.configuration))
 
 
 def order_of(rolling: Rolling) -> str:
     """The nodes in the order of their restarts."""
-    return " > ".join(bare_name(node) for node in rolling.order)
+    return " > ".join(rolling.configuration.short.each(rolling.order))
 
 
 def cost_of(rolling: Rolling) -> str:
     """The cost of an order, the duration of restarts, and how the order was found."""
     lasts = f"restarts of {rolling.takes} ms" if rolling.takes is not None else f"restarts {lasting(None, rolling.configuration)}"
-    return f"{counted(rolling.moves, 'move')}, {rolling.waits} ms of waits, {lasts}{found_how(rolling)}"
+    waits = f"{rolling.waits} ms of waits" + (f" and {rolling.restarts} ms down with their nodes" if rolling.restarts else "")
+    return f"{counted(rolling.moves, 'move')}, {waits}, {lasts}{found_how(rolling)}"
 
 
 def barred_by(step: Step, configuration: Configuration) -> Iterator[str]:
@@ -59,32 +64,32 @@ def found_how(rolling: Rolling) -> str:
     if rolling.is_given:
         return ""
     if rolling.worst is None:
-        return " (by taking the node with the fewest applications next: not proved least)"
-    return f" (least of {rolling.compared} orders, the worst has {rolling.worst})" if rolling.compared > 1 else ""
+        return " (the node with the fewest applications goes next: another order may be better)"
+    return f" (best of {rolling.compared} orders, the worst has {counted(rolling.worst or 0, 'move')})" if rolling.compared > 1 else ""
 
 
-def parts_of(step: Step) -> Iterator[tuple[str, list[str]]]:
-    """The events of a step, with their causes."""
+def parts_of(step: Step, rolling: Rolling) -> Iterator[tuple[str, list[str]]]:
+    """The events of a step, with their causes. An application that waits runs nowhere meanwhile."""
+    short = rolling.configuration.short
     if step.drained:
-        yield "drained", [target_of(move) for move in step.drained]
-    yield "down", [moved(move) for move in step.down] or ["nothing moves"]
+        yield "drained", [target_of(move, short) for move in step.drained]
+    yield "down", [*(moved(move, short) for move in step.down), *(f"{bare_name(app)} waits" for app in step.waiting)] or ["nothing moves"]
     if step.may_hang:
         yield "OTP may hang", [few_of(step.may_hang)]
-    if step.waiting:
-        yield "back before its wait is over", [few_of(step.waiting)]
     if step.nowhere:
         yield "runs nowhere meanwhile", [few_of(step.nowhere)]
-    yield "back", [moved(move) for move in step.back] or ["nothing moves"]
+    resumed = (f"{bare_name(app)} starts again after {rolling.takes} ms" for app in step.resumed)
+    yield "back", [*(moved(move, short) for move in step.back), *resumed] or ["nothing moves"]
 
 
-def moved(move: Move) -> str:
+def moved(move: Move, short: Short) -> str:
     """A move with its cause, and with the wait of a failover."""
-    return f"{target_of(move)} after {move.milliseconds} ms" if move.how == "failover" else f"{target_of(move)} ({move.how})"
+    return f"{target_of(move, short)} after {move.milliseconds} ms" if move.how == "failover" else f"{target_of(move, short)} ({move.how})"
 
 
-def target_of(move: Move) -> str:
+def target_of(move: Move, short: Short) -> str:
     """The destination of an application."""
-    return f"{bare_name(move.app)} -> {bare_name(move.node)}"
+    return f"{bare_name(move.app)} -> {short.one(move.node)}"
 
 
 def counted(count: int, noun: str) -> str:

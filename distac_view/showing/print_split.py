@@ -11,9 +11,10 @@ from distac_view.answering.outages import notice_range, seconds_of
 from distac_view.answering.split import Part, SplitReply
 from distac_view.answering.what_if import Fate
 from distac_view.asking.snapshots import bare_marks
-from distac_view.common.names import bare_name, bare_names
+from distac_view.common.names import Short, bare_name, bare_names
 from distac_view.common.texts import listed, shown
-from distac_view.showing.json_answers import Fields, fate_fields, json_of, name_or_none, names_of
+from distac_view.showing.headlines import split_headlines
+from distac_view.showing.json_answers import Fields, fate_fields, json_of, name_or_none, names_of, sums_of
 from distac_view.showing.print_what_if import lasting, lines_of_rows
 
 HEADS = ("side", "application", "before", "here", "how", "after")
@@ -30,25 +31,35 @@ OVERLAPPING = (
 
 
 def lines_of(reply: SplitReply, notes: "list[Note]", shows_all: bool) -> Iterator[str]:
-    """The duration of the split, the applications of each side, the healed ones, and notes. Rows that stay are shown
-    only if requested."""
-    yield f"the split lasts {lasting(None, reply.configuration)}"
-    rows: "list[tuple[str, ...]]" = [HEADS]
-    for part in reply.parts:
-        rows += part_rows(part, shows_all)
-    yield from lines_of_rows(rows)
+    """The headlines, the duration of the split, the applications of each side, the healed ones, and notes. Rows that
+    stay are shown only if requested."""
+    yield from split_headlines(reply)
+    yield from reply.configuration.short.lines
+    yield lasting_line(reply)
+    yield from lines_of_rows([HEADS, *side_rows(reply, shows_all)])
     yield ""
     yield from lines_of_rows([HEALED_HEADS, *healed_rows(reply, shows_all)])
     yield from below(notes)
 
 
-def part_rows(part: Part, shows_all: bool) -> "Iterator[tuple[str, ...]]":
+def lasting_line(reply: SplitReply) -> str:
+    """The presumed duration of the split."""
+    return f"the split lasts {lasting(None, reply.configuration)}"
+
+
+def side_rows(reply: SplitReply, shows_all: bool) -> "Iterator[tuple[str, ...]]":
+    """The rows of all sides."""
+    for part in reply.parts:
+        yield from part_rows(part, reply.configuration.short, shows_all)
+
+
+def part_rows(part: Part, short: Short, shows_all: bool) -> "Iterator[tuple[str, ...]]":
     """The rows of a side: applications that come to it, and those that ran before and now run only at another side.
     Those that it keeps are counted."""
-    side = " ".join(bare_names(part.nodes))
+    side = " ".join(short.each(part.nodes))
     shown_ones = [fate for fate in part.case.fates if shows_all or not is_kept(part, fate)]
     for fate in shown_ones:
-        yield tuple(shown(cell) for cell in (side, *cells_of(part, fate)))
+        yield tuple(shown(cell) for cell in (side, *cells_of(fate, short)))
         side = ""
     kept = sum(fate.then is not None for fate in part.case.fates) - sum(fate.then is not None for fate in shown_ones)
     if kept and not shows_all:
@@ -60,9 +71,9 @@ def is_kept(part: Part, fate: Fate) -> bool:
     return fate.then == fate.now and (fate.now is None or fate.now in part.nodes)
 
 
-def cells_of(part: Part, fate: Fate) -> "tuple[str, ...]":
+def cells_of(fate: Fate, short: Short) -> "tuple[str, ...]":
     """The row of an application, without the side."""
-    app, before, here = (bare_name(name or "-") for name in (fate.app, fate.now, fate.then))
+    app, before, here = bare_name(fate.app), short.one(fate.now), short.one(fate.then)
     after = "" if fate.milliseconds is None else f"{fate.milliseconds} ms"
     how = "stays stopped" if fate.was_stopped and fate.how == "stays" else fate.how
     return (app, before, here, "nobody" if fate.then is None and not fate.was_stopped else how, after)
@@ -70,12 +81,13 @@ def cells_of(part: Part, fate: Fate) -> "tuple[str, ...]":
 
 def healed_rows(reply: SplitReply, shows_all: bool) -> "Iterator[tuple[str, ...]]":
     """A row for each application that runs twice, or doesn't end at its former place. The others are counted."""
+    short = reply.configuration.short
     before = {fate.app: fate.now for part in reply.parts for fate in part.case.fates}
     shown_ones = [each for each in reply.healed if shows_all or len(each.copies) > 1 or each.back != before.get(each.app)]
     for each in shown_ones:
-        copies = " ".join(bare_names(each.copies)) or "-"
-        kept, back = (bare_name(name or "-") for name in (each.kept, each.back))
-        yield tuple(shown(cell) for cell in (bare_name(each.app), copies, kept, str(each.term or ""), back))
+        copies = " ".join(short.each(each.copies)) or "-"
+        row = (bare_name(each.app), copies, short.one(each.kept), str(each.term or ""), short.one(each.back))
+        yield tuple(shown(cell) for cell in row)
     if len(shown_ones) < len(reply.healed):
         yield (f"+ {len(reply.healed) - len(shown_ones)} as before",)
 
@@ -119,6 +131,7 @@ def split_answer(reply: SplitReply, notes: Iterable[Note]) -> str:
     fields: Fields = {
         "nodes": names_of(reply.configuration.nodes),
         "net_ticktime": reply.tick_time,
+        "gathered": sums_of(reply.configuration),
         "parts": [part_fields(part, reply.tick_time) for part in reply.parts],
         "healed": [
             {

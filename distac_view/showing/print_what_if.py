@@ -5,18 +5,22 @@ from __future__ import annotations
 from typing import Iterable, Iterator
 
 from distac_view.answering.caveats import notes_on
-from distac_view.answering.outages import outage_of
+from distac_view.answering.outages import outage_of, seconds_of
 from distac_view.answering.what_if import Answers, Case, Fate, Reply, nowhere_at_first
 from distac_view.asking.snapshots import bare_marks
-from distac_view.common.names import bare_name, bare_names
+from distac_view.common.names import Short, bare_name, bare_names
 from distac_view.common.texts import columns_of, listed, padded, shown
 from distac_view.reading.configuration import Configuration
+from distac_view.showing.headlines import what_if_headlines
 
 HEADS = ("down", "application", "now", "then", "how", "after", "outage", "back")
 
 
 def table_of(reply: Reply, shows_all: bool = False) -> Iterator[str]:
-    """The duration of the loss, a table for each side, and notes. Rows that stay are shown only if requested."""
+    """The headlines, the duration of the loss, a table for each side, and notes. Rows that stay are shown only if
+    requested."""
+    yield from what_if_headlines(reply)
+    yield from reply.configuration.short.lines
     yield f"each loss lasts {lasting(reply.question.takes, reply.configuration)}"
     for number, answers in enumerate(reply.sides):
         if len(reply.sides) > 1:
@@ -43,30 +47,51 @@ def rows_of_side(reply: Reply, answers: Answers, shows_all: bool) -> Iterator[tu
     """The rows of one side. Applications that run nowhere from the start are listed below them."""
     nowhere = [held.app for held in nowhere_at_first(answers.side)]
     for case in answers.cases:
-        yield from case_rows(case, nowhere, reply.tick_time, shows_all)
+        yield from case_rows(case, nowhere, reply, shows_all)
 
 
-def case_rows(case: Case, nowhere: list[str], tick_time: int, shows_all: bool) -> Iterator[tuple[str, ...]]:
+def case_rows(case: Case, nowhere: list[str], reply: Reply, shows_all: bool) -> Iterator[tuple[str, ...]]:
     """The rows of a case: the applications that move, and the number that stays, without those that run nowhere all the
     time."""
-    down, shown_ones = " ".join(bare_names(case.down)), case.fates if shows_all else [fate for fate in case.fates if not fate.stays]
+    short = reply.configuration.short
+    down, shown_ones = " ".join(short.each(case.down)), case.fates if shows_all else [fate for fate in case.fates if not fate.stays]
     for fate in shown_ones:
-        yield tuple(shown(text) for text in (down, *cells_of(fate, tick_time)))
+        yield tuple(shown(text) for text in (down, *cells_of(fate, reply, short)))
     count = sum(fate.app not in nowhere for fate in case.fates if fate.stays)
     if count and not shows_all:
         stay = "stays" if count == 1 else "stay"
         yield ("" if shown_ones else shown(down), f"+ {count} {stay}")
 
 
-def cells_of(fate: Fate, tick_time: int) -> tuple[str, ...]:
+def cells_of(fate: Fate, reply: Reply, short: Short) -> tuple[str, ...]:
     """The row of an application, without the nodes that are down."""
-    app, now, then, back = (bare_name(name or "-") for name in (fate.app, fate.now, fate.then, fate.back))
+    takes = reply.question.takes
+    app, (now, then, back) = bare_name(fate.app), map(short.one, (fate.now, fate.then, fate.back))
     if fate.waits:
-        return (app, now, then, "waits", "", "", back)
+        return (app, now, then, "waits", "", f"{seconds_of(takes or 0)} s", back)
     after = "" if fate.milliseconds is None else f"{fate.milliseconds} ms"
-    outage = "" if fate.wait is None else outage_of(fate.wait, tick_time)
+    if fate.failed is not None:
+        return (app, now, then, *failed_cells(fate, after, reply, short))
+    outage = outage_in(fate, reply)
     how = "stays stopped" if fate.was_stopped and fate.how == "stays" else fate.how
     return (app, now, then, how, after, outage, back)
+
+
+def failed_cells(fate: Fate, after: str, reply: Reply, short: Short) -> tuple[str, ...]:
+    """The rest of the row of an application whose start fails, before or after the return."""
+    fails = f"fails at {short.one(fate.failed.failing.node)}" if fate.failed else ""
+    if fate.then is None:
+        return (fails, after, "", short.one(fate.back))
+    return (fate.how, after, outage_in(fate, reply), fails)
+
+
+def outage_in(fate: Fate, reply: Reply) -> str:
+    """The outage of an application that fails over. A node that a failed start ends is noticed at once."""
+    if fate.wait is None:
+        return ""
+    if fate.since is not None:
+        return f"{seconds_of(fate.wait - fate.since)} s"
+    return outage_of(fate.wait, reply.tick_time, reply.question.takes)
 
 
 def lines_of_rows(rows: Iterable[tuple[str, ...]]) -> Iterator[str]:
@@ -84,5 +109,5 @@ def nobody_lines(reply: Reply) -> Iterator[str]:
     """Why nobody has an application that ran before, by the marks of its list."""
     for case in reply.cases:
         for fate in case.fates:
-            if fate.then is None and fate.now is not None and fate.marks and not fate.waits:
+            if fate.then is None and fate.now is not None and fate.marks and not fate.waits and fate.failed is None:
                 yield shown(f"{bare_name(fate.app)} without {listed(bare_names(case.down))}: {bare_marks(fate.marks)}")

@@ -6,12 +6,14 @@ import argparse
 import hashlib
 import os
 import shlex
-from dataclasses import dataclass
+from dataclasses import dataclass, field
 from datetime import datetime, timezone
 from typing import Iterable, List
 
+from distac_view.common.names import bare_name
 from distac_view.common.version import version_line
 from distac_view.common.writing import PIPE
+from distac_view.reading.sums import Sum, sums_in
 from distac_view.showing.html_elements import section, text_in
 
 # The time that a build gives its files, so that repeated builds are equal.
@@ -20,16 +22,22 @@ EPOCH = "SOURCE_DATE_EPOCH"
 
 @dataclass(frozen=True)
 class File:
-    """An input file: its name without folders, and the checksum of its contents, unless it is a pipe, which is read
-    once."""
+    """An input file: its name without folders, the checksum of its contents, unless it is a pipe, which is read once,
+    and the files that it was gathered from."""
 
     name: str
     mark: str
+    sums: List[Sum] = field(default_factory=list)
 
     @property
     def line(self) -> str:
         """The file in a line."""
         return f"{self.name}, SHA-256 {self.mark}" if self.mark else self.name
+
+    @property
+    def gathered(self) -> List[str]:
+        """The files that it was gathered from, in lines."""
+        return [f"{bare_name(each.node)}: {file_name(each.file)}, SHA-256 {each.mark}" for each in self.sums]
 
 
 @dataclass(frozen=True)
@@ -45,7 +53,10 @@ class Asked:
     @property
     def section(self) -> str:
         """The part of a page about it."""
-        files = [(f"File {number}" if len(self.files) > 1 else "File", file.line) for number, file in enumerate(self.files, 1)]
+        files = []
+        for number, file in enumerate(self.files, 1):
+            which = f" {number}" if len(self.files) > 1 else ""
+            files += [(f"File{which}", file.line), *((f"Gathered{which}", line) for line in file.gathered)]
         rows = [("Command", self.command), *files, ("When", self.moment), ("Version", self.version), ("Answered by", self.program)]
         pairs = "".join(f"<dt>{text_in(name)}</dt><dd>{text_in(value)}</dd>" for name, value in rows)
         return section("How this was asked", f"<dl>{pairs}</dl>")
@@ -76,7 +87,8 @@ def file_at(path: str) -> File:
         return File(file_name(path), "")
     try:
         with open(path, "rb") as file:
-            return File(file_name(path), hashlib.sha256(file.read()).hexdigest())
+            data = file.read()
+        return File(file_name(path), hashlib.sha256(data).hexdigest(), sums_in(data))
     except OSError:
         return File(file_name(path), "")
 

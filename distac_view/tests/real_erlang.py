@@ -1,7 +1,9 @@
 #!/usr/bin/env python3
-"""Compares `gather`, `what-if`, `rolling` and warnings with three real nodes of Erlang/OTP on the loopback interface.
+"""Compares `gather`, `what-if`, `rolling` and warnings with three or four real nodes of Erlang/OTP on the loopback interface.
 
-python3 distac_view/tests/real_erlang.py [--only NAME ..] [--runs N] [--seconds N]
+python3 distac_view/tests/real_erlang.py [--only NAME ..] [--groups NAME ..] [--runs N] [--seconds N]
+
+The last lines are a table: how many observations of each group agree, differ, or were announced by a note.
 
 It requires `erl`, `erlc` and `epmd` in PATH, as in Debian's package erlang-base, and runs the program that the
 environment variable DISTAC names, or else the models. It isn't part of the tests, because it takes minutes and depends
@@ -17,7 +19,7 @@ import sys
 import tempfile
 import time
 from collections import Counter
-from dataclasses import dataclass, field
+from dataclasses import dataclass
 from itertools import chain
 from pathlib import Path
 from typing import Any, Dict
@@ -25,14 +27,13 @@ from typing import Any, Dict
 sys.dont_write_bytecode = True
 sys.path.insert(0, str(Path(__file__).resolve().parent))
 
-from erlang_nodes import HOST, Cluster, is_installed, release_of_otp
+from erlang_nodes import Cluster, is_installed, release_of_otp
+from real_events import GROUPS, compare_splits, compare_walks
+from real_shared import LATE_SECONDS, NODES, SINGLE, Score, bare, boot, seen, wait_for, whole
 from support import run_view
 from distac_view.reading.configuration import configuration_of
 from distac_view.reading.equal_times import pairs_among
 
-NODES = tuple(f"{name}@{HOST}" for name in ("cp1", "cp2", "cp3"))
-SINGLE = tuple((node,) for node in NODES)
-LATE_SECONDS = 4.0
 NEVER = 3_600_000
 # The time until a node starts its applications, on a busy machine.
 BOOT_SECONDS = 1.5
@@ -60,13 +61,6 @@ class Scenario:
         return "[%s]" % ",\n      ".join(entries)
 
 
-def whole(nodes: str) -> str:
-    """A list of nodes with their hosts."""
-    for name in NODES:
-        nodes = nodes.replace(name.split("@")[0], f"'{name}'")
-    return nodes
-
-
 LIST, TUPLE, OTHER_WAY = "[cp1,cp2,cp3]", "[cp1,{cp2,cp3}]", "[cp1,cp3,cp2]"
 FIRST_DOWN = (NODES[:1],)
 SCENARIOS = (
@@ -84,6 +78,7 @@ SCENARIOS = (
     Scenario("equal times, lists of other orders", (("a1", "400", LIST), ("a2", "400", OTHER_WAY)), cases=FIRST_DOWN),
     Scenario("equal times, one node of a tuple left", (("a1", "400", "[{cp1,cp2},cp3]"), ("a2", "400", "[cp1,cp2,cp3]")), cases=FIRST_DOWN),
     Scenario("equal times, a tuple behind a list", (("a1", "400", "[cp1,cp2,{cp3}]"), ("a2", "400", "[cp1,cp2]")), cases=FIRST_DOWN),
+    Scenario("equal times, and a later list", (("a1", "400", TUPLE), ("a2", "400", TUPLE), ("a3", "2000", LIST)), cases=FIRST_DOWN),
     Scenario("20 ms apart", (("a1", "400", TUPLE), ("a2", "420", TUPLE)), cases=FIRST_DOWN),
     Scenario("100 ms apart, starts of 1000 ms", (("a1", "400", TUPLE), ("a2", "500", TUPLE)), start_takes=1000, cases=FIRST_DOWN),
 )
@@ -105,20 +100,6 @@ NODE_FILE = """\
 
 # the fields of an application in `what-if --json`
 Fate = Dict[str, Any]
-
-
-@dataclass
-class Score:
-    """The counts, and the lines printed."""
-
-    counts: Counter[str] = field(default_factory=Counter)
-    differing: list[str] = field(default_factory=list)
-
-    def add(self, what: str, row: str = "") -> None:
-        """One observation."""
-        self.counts[what] += 1
-        if row:
-            self.differing.append(row)
 
 
 @dataclass(frozen=True)
@@ -169,45 +150,10 @@ def fates_by_what_if(config: Path, down: tuple[str, ...], now: dict[str, str]) -
     return fates
 
 
-def bare(name: str | None) -> str | None:
-    """A name without quotes."""
-    return name.strip("'") if name else None
-
-
 def expected(fates: list[Fate], moment: str) -> dict[str, str | None]:
     """The place of each application. One whose time is weeks isn't waited for."""
     is_never = {fate["application"]: moment == "then" and (fate["milliseconds"] or 0) >= NEVER for fate in fates}
     return {fate["application"]: None if is_never[fate["application"]] else bare(fate[moment]) for fate in fates}
-
-
-def seen(cluster: Cluster, names: list[str]) -> dict[str, str | None]:
-    """The places of each application: none, one or several."""
-    return {app: " and ".join(nodes) or None for app, nodes in cluster.where(names).items()}
-
-
-def wait_for(cluster: Cluster, wanted: dict[str, str | None], seconds: float) -> tuple[dict[str, str | None], dict[str, float]]:
-    """The places once they are as expected for half a second, or at the time limit, and the moment at which each
-    application first ran."""
-    start = time.monotonic()
-    since: float | None = None
-    when: dict[str, float] = {}
-    while True:
-        found, moment = seen(cluster, list(wanted)), time.monotonic()
-        for app, node in found.items():
-            if node:
-                when.setdefault(app, moment)
-        since = (since or moment) if found == wanted else None
-        if moment - start > seconds or (since and moment - since > 0.5):
-            return found, when
-        time.sleep(0.02)
-
-
-def boot(cluster: Cluster, nodes: tuple[str, ...], names: list[str]) -> None:
-    """Nodes come up, and start all applications in turn, as a release does."""
-    for node in nodes:
-        cluster.boot(node, node).order("start " + " ".join(names))
-    for node in nodes:
-        cluster.nodes[node].answer("started", 15.0)
 
 
 def run_case(scenario: Scenario, down: tuple[str, ...], score: Score) -> None:
@@ -377,13 +323,14 @@ MIXED = (
     ("another order in a tuple", "{a1,500,[{cp1,cp2}]}", "{a1,500,[{cp2,cp1}]}"),
     ("other lists", "{a1,500,[cp1,cp2]}", "{a1,500,[cp2,cp1]}"),
     ("an application added", "{a1,500,[cp1,cp2]}", "{a1,500,[cp1,cp2]},{a2,500,[cp1,cp2]}"),
+    ("an application removed", "{a1,500,[cp1,cp2]},{a2,500,[cp1,cp2]}", "{a1,500,[cp1,cp2]}"),
 )
 MIXED_FILE = "[{kernel,[{distributed,[%s]},{sync_nodes_optional,[cp1,cp2]},{sync_nodes_timeout,6000},{logger_level,critical}]}].\n"
 
 
 def compare_mixed(score: Score) -> None:
-    """Of two nodes with different files one ends if `what-if --then` reports different lists, and added applications
-    run twice if it reports that."""
+    """Of two nodes with different files one ends if `what-if --then` reports different lists, and applications of one
+    file run twice if it reports that."""
     for what, *entries in MIXED:
         with tempfile.TemporaryDirectory(prefix="distac-nodes-") as room, Cluster(Path(room), {"a1": 0, "a2": 0}) as cluster:
             paths = [Path(room) / f"{node}.config" for node in NODES[:2]]
@@ -394,20 +341,26 @@ def compare_mixed(score: Score) -> None:
             nodes = [cluster.boot(node, node) for node in NODES[:2]]
             time.sleep(1)
             for node in nodes:
-                node.order("start a1 a2" if "a2" in entries[1] else "start a1")
+                node.order("start a1 a2" if "a2" in "".join(entries) else "start a1")
             time.sleep(2 * LATE_SECONDS)
             has_ended = len(cluster.up()) < 2
             runs_twice = len(cluster.where(["a2"])["a2"]) > 1
-        is_equal = (has_ended, runs_twice) == ("NoRollingChange" in ids, "AddedMayRunTwice" in ids)
+        is_twice = bool({"AddedMayRunTwice", "GoneRunsEverywhere"} & ids)
+        is_equal = (has_ended, runs_twice) == ("NoRollingChange" in ids, is_twice)
         row = f"{what}: what-if --then has {', '.join(ids) or 'no note'}, and in OTP a node ends: {has_ended}, a2 runs twice: {runs_twice}"
         score.add("agree" if is_equal else "differ", "" if is_equal else row)
         print(row, flush=True)
+
+
+OWN_GROUPS = {"answers": compare_answers, "boots": compare_boots, "changes of files": compare_mixed, "rolling restarts": compare_rolling}
 
 
 def words_of(arguments: list[str]) -> argparse.Namespace:
     """The command line's arguments."""
     parser = argparse.ArgumentParser(description=(__doc__ or "").split("\n")[0])
     parser.add_argument("--only", metavar="NAME", nargs="+", default=[], help="the scenarios whose name begins so")
+    names = [*OWN_GROUPS, *(name for name, _ in GROUPS), "splits", "losses"]
+    parser.add_argument("--groups", metavar="NAME", nargs="+", choices=names, default=names, help=f"of {', '.join(names)}")
     parser.add_argument("--runs", metavar="N", type=int, default=1, help="how often each case is run, once if absent")
     parser.add_argument("--seconds", metavar="N", type=int, default=1_200, help="no case begins later, 1200 if absent")
     return parser.parse_args(arguments)
@@ -423,18 +376,24 @@ def main(arguments: list[str]) -> int:
     score, end = Score(), time.monotonic() + words.seconds
     print(release_of_otp(), flush=True)
     chosen = [each for each in SCENARIOS if not words.only or any(each.name.startswith(only) for only in words.only)]
+    for name, compare in OWN_GROUPS.items() if not words.only else ():
+        if name in words.groups:
+            score.begin(name)
+            compare(score)
     if not words.only:
-        compare_answers(score)
-        compare_boots(score)
-        compare_mixed(score)
-        compare_rolling(score)
-    for scenario, down in chain.from_iterable(((each, down) for down in each.cases) for each in chosen * words.runs):
+        compare_walks(score, words.groups)
+        if "splits" in words.groups:
+            compare_splits(score)
+    score.begin("losses")
+    cases = chain.from_iterable(((each, down) for down in each.cases) for each in chosen * words.runs)
+    for scenario, down in cases if "losses" in words.groups else ():
         if time.monotonic() > end:
             print("no time is left for the other cases")
             break
         run_case(scenario, down, score)
     print("\n".join(score.differing))
     print(", ".join(f"{count} {kind}" for kind, count in sorted(score.counts.items())))
+    print("\n".join([f"| {release_of_otp()}, {time.strftime('%Y-%m-%d')} | Agree | Announced | Differ |", "|---|---|---|---|", *score.table]))
     return 1 if score.counts["differ"] else 0
 
 

@@ -4,10 +4,13 @@
 -behaviour(supervisor).
 -export([start/2, stop/1, init/1, listen/0]).
 
-%% An application whose start takes so long. While it runs its name is registered.
+%% An application whose start takes so long, and fails at a node that was told so. While it runs its name is registered.
 start(_How, [Name, Milliseconds]) ->
     timer:sleep(Milliseconds),
-    supervisor:start_link({local, Name}, ?MODULE, []).
+    case lists:member(Name, application:get_env(stage, fails, [])) of
+        true -> {error, as_told};
+        false -> supervisor:start_link({local, Name}, ?MODULE, [])
+    end.
 
 stop(_) ->
     ok.
@@ -29,10 +32,15 @@ orders() ->
 obey("where " ++ Names) ->
     tell("where", [Name || Name <- string:lexemes(Names, " "), whereis(list_to_atom(Name)) =/= undefined]);
 obey("start " ++ Names) ->
+    obey("start-as temporary " ++ Names);
+obey("start-as " ++ Words) ->
+    [Type | Names] = string:lexemes(Words, " "),
     spawn(fun() ->
-        [application:start(list_to_atom(Name)) || Name <- string:lexemes(Names, " ")],
+        [application:start(list_to_atom(Name), list_to_atom(Type)) || Name <- Names],
         tell("started", [])
     end);
+obey("fails" ++ Names) ->
+    application:set_env(stage, fails, [list_to_atom(Name) || Name <- string:lexemes(Names, " ")]);
 obey("nodes") ->
     tell("nodes", [atom_to_list(Node) || Node <- nodes()]);
 obey("eval " ++ Text) ->

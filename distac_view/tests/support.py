@@ -4,6 +4,7 @@ from __future__ import annotations
 
 import io
 import os
+import signal
 import subprocess
 import sys
 from dataclasses import dataclass
@@ -19,6 +20,10 @@ IS_STAND_IN = PROGRAM == str(STAND_IN)
 
 sys.path[:0] = [str(TOP), str(TOP / "models")]
 
+# A shell's `&` ignores Ctrl-C in what it starts.
+if signal.getsignal(signal.SIGINT) == signal.SIG_IGN:
+    signal.signal(signal.SIGINT, signal.default_int_handler)
+
 from distac_view.asking.program import Distac, found_distac
 from distac_view.cli import command_line
 
@@ -30,6 +35,12 @@ class Said:
     status: int
     output: str
     errors: str
+
+
+def hear_signals() -> None:
+    """Makes a process that is started hear the signals that `nohup` or a shell's `&` ignores. A shell can't trap these."""
+    for number in (signal.SIGHUP, signal.SIGINT, signal.SIGQUIT):
+        signal.signal(number, signal.SIG_DFL)
 
 
 def distac() -> Distac:

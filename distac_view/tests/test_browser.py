@@ -86,6 +86,8 @@ class InBrowser(unittest.TestCase):
             "losses": cls.made("what-if", large),
             "change": cls.made("what-if", small, "--then", str(large)),
             "rolling": cls.made("rolling", small, "--drain", "--fail-on", "hang"),
+            "large rolling": cls.made("rolling", large, "--takes", "6000"),
+            "sides": cls.made("what-if", large, "--split", "node-00", "/", "node-01", "node-02"),
             "load": cls.made("load", small, "--pairs", "--most", "2", "--fail-on", "lost,load"),
             "large load": cls.made("load", large, "--pairs"),
         }

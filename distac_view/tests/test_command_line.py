@@ -81,10 +81,12 @@ class Statuses(unittest.TestCase):
 
     def test_several_files(self) -> None:
         canonical = Path(MANUAL).with_suffix(".out").read_text()
-        said = view("check", MANUAL, TYPO, MANUAL)
+        said = view("check", MANUAL, TYPO, MANUAL, "--print")
         self.expect(2, said)
         self.assertTrue(said.output.startswith(f"{MANUAL}: {canonical}{TYPO}:"), said)
         self.assertTrue(said.output.endswith(f"{MANUAL}: {canonical}"), said)
+        self.assertEqual(view("check", MANUAL).output, "ok: 1 application, 3 nodes\n")
+        self.assertTrue(view("check", MANUAL, TYPO).output.startswith(f"{MANUAL}: ok: 1 application, 3 nodes\n{TYPO}:"))
         self.expect(2, view("check", TYPO, "/no/such/file", MANUAL), "can't be read")
         self.expect(1, view("check", "--strict", MANUAL, WARNED), "UnknownPermission")
         self.expect(0, view("check", MANUAL, WARNED), "UnknownPermission")

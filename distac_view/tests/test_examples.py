@@ -34,7 +34,7 @@ class Examples(unittest.TestCase):
 
     def test_check_prints_the_canonical_text(self) -> None:
         for path in CONFIGS:
-            said = view("check", str(path))
+            said = view("check", str(path), "--print")
             self.assertEqual((said.status, said.output), (0, path.with_suffix(".out").read_text()), path.name)
 
     def test_play_prints_the_answers_in_order(self) -> None:
@@ -76,10 +76,11 @@ class Examples(unittest.TestCase):
 
     def test_what_if_on_the_manual(self) -> None:
         rows = view("what-if", str(EXAMPLES / "manual.config")).output.splitlines()
-        self.assertEqual(rows[2].split(), "cp1@cave myapp cp1@cave cp2@cave failover 5000 ms 5 to 80 s cp1@cave".split())
-        self.assertEqual(rows[3].split(), "cp2@cave + 1 stays".split())
+        self.assertEqual(rows[:2], ["No loss leaves an application nowhere; the longest outage is 80 s.", "Nodes are shown without @cave."])
+        self.assertEqual(rows[4].split(), "cp1 myapp cp1 cp2 failover 5000 ms 5 to 80 s cp1".split())
+        self.assertEqual(rows[5].split(), "cp2 + 1 stays".split())
         rows = view("what-if", str(EXAMPLES / "manual.config"), "--all").output.splitlines()
-        self.assertEqual(rows[3].split(), "cp2@cave myapp cp1@cave cp1@cave stays cp1@cave".split())
+        self.assertEqual(rows[5].split(), "cp2 myapp cp1 cp1 stays cp1".split())
 
     def test_play_shows_pages_behind_shares(self) -> None:
         path = EXAMPLES / "failover.distac"

@@ -51,7 +51,7 @@ class Folder(unittest.TestCase):
         said = self.ask()
         self.assertEqual((said.status, said.output, said.errors), (0, "2 of 2 answers are as stored\n", ""))
         answer = (self.folder / "down.answer").read_text()
-        self.assertTrue(answer.startswith("status 0\neach loss lasts longer than 500 ms\n"), answer)
+        self.assertTrue(answer.startswith("status 0\nNo application is left nowhere"), answer)
         self.assertNotIn("standard error", answer)
         self.assertEqual([each["verdict"] for each in self.json(0)], ["same", "same"])
 
@@ -66,7 +66,7 @@ class Folder(unittest.TestCase):
         one, other = self.json(1)
         self.assertEqual((one["name"], one["verdict"], other["verdict"]), ("down", "differs", "same"))
         self.assertEqual((one["words"], one["status"], one["written"]), (["what-if", "cluster.config", "--down", "x@h"], 0, False))
-        self.assertEqual(one["answer"], one["stored"].replace("500 ms", "600 ms").replace("0.5 to 75.5", "0.6 to 75.6"))
+        self.assertEqual(one["answer"], one["stored"].replace("500 ms", "600 ms").replace("0.5 to 75.5", "0.6 to 75.6").replace("is 75.5", "is 75.6"))
         said = self.ask("--write")
         self.assertEqual((said.status, said.output), (0, "down: written, status 0\n1 of 2 answers are written\n"))
         self.assertEqual(self.ask().status, 0)

@@ -65,7 +65,7 @@ LINES: Tuple[Tuple[str, ...], ...] = (
 KNOWN = [name for name, _, _, _ in SUBCOMMANDS]
 WORDS = tuple(line for line in LINES if line[0] in KNOWN)
 TAGS = (
-    "html head meta title style body header main section h1 h2 h3 p div span ul li dl dt dd details summary br wbr"
+    "html head meta title style body header main section h1 h2 h3 p div span ul li dl dt dd details summary strong br wbr"
     " table thead tbody tr th td svg defs pattern marker path rect circle text g"
 )
 

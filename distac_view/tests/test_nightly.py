@@ -11,9 +11,10 @@ import time
 import unittest
 from pathlib import Path
 
-from support import TOP
+from support import TOP, hear_signals
 
-PARTS = ("examples", "races", "compare", "growths", "stacks", "mutants")
+COMPARED = ("compare-texts", "compare-scripts", "compare-live", "compare-packets", "compare-long")
+PARTS = ("examples", "races", *COMPARED, "growths", "stacks", "mutants-read", "mutants")
 SCRIPTS = (*(f"checks/{name}" for name in ("races", "growths", "stacks", "mutants", "fuzz")), "examples/check")
 # A crate that no program uses, and those of the programs.
 CRATES = "# all\nlow: core\nother: core\ndistac: low\ngrowths: low\n"
@@ -33,7 +34,7 @@ class Nightly(unittest.TestCase):
         room = tempfile.TemporaryDirectory()
         self.addCleanup(room.cleanup)
         self.top = Path(room.name).resolve() / "top"
-        for path in (TOP / "checks" / "nightly", *(TOP / "models").glob("*.py")):
+        for path in (TOP / "checks" / "nightly", *(TOP / "models").glob("*.py"), *(TOP / "checks" / "library").glob("*.py")):
             (self.top / path.relative_to(TOP)).parent.mkdir(parents=True, exist_ok=True)
             shutil.copy(path, self.top / path.relative_to(TOP))
         for name in SCRIPTS:
@@ -74,7 +75,7 @@ class Nightly(unittest.TestCase):
         surroundings = {**os.environ, "PATH": f"{self.top.parent / 'bin'}:{os.environ['PATH']}"}
         pipe = subprocess.PIPE
         line = [str(self.top / "checks" / "nightly"), *words]
-        return subprocess.Popen(line, env=surroundings, text=True, stdin=subprocess.DEVNULL, stdout=pipe, stderr=pipe)
+        return subprocess.Popen(line, env=surroundings, text=True, stdin=subprocess.DEVNULL, stdout=pipe, stderr=pipe, preexec_fn=hear_signals)
 
     def run_it(self, *words: str) -> "tuple[int, list[str]]":
         """The status of the script, and its output lines."""
@@ -85,7 +86,7 @@ class Nightly(unittest.TestCase):
 
     def rows(self) -> "dict[str, list[str]]":
         """The cells of each row of the record, by part."""
-        lines = self.run_it("--record")[1][4:]
+        lines = self.run_it("--record")[1][4:-3]
         cells = [[cell.strip() for cell in line.replace("\\|", "!").strip("|").split("|")] for line in lines]
         return {row[0]: row[1:] for row in cells}
 
@@ -95,7 +96,7 @@ class Nightly(unittest.TestCase):
 
     def test_the_record(self) -> None:
         status, lines = self.run_it()
-        self.assertEqual((status, lines[-1]), (0, "6 of 6 parts ran, 6 ended with status 0"))
+        self.assertEqual((status, lines[-1]), (0, "11 of 11 parts ran, 11 ended with status 0"))
         status, lines = self.run_it("--record")
         commit = self.git("rev-parse", "--short=12", "HEAD")
         self.assertEqual((status, lines[0]), (1, f"Commit {commit}, kit-1:"))
@@ -115,9 +116,9 @@ class Nightly(unittest.TestCase):
         self.write("out/mutants/other.tsv", "recorded")
         self.assertEqual(self.older(), [])
         self.write("crates/other/src/lib.rt", "changed")
-        self.assertEqual(self.older(), ["mutants"])
+        self.assertEqual(self.older(), ["mutants-read", "mutants"])
         self.write("models/new.py", "")
-        self.assertEqual(self.older(), ["races", "compare", "growths", "stacks", "mutants"])
+        self.assertEqual(self.older(), ["races", *COMPARED, "growths", "stacks", "mutants-read", "mutants"])
         self.write("crates/low/src/lib.rt", "changed")
         self.assertEqual(self.older(), list(PARTS))
         self.assertEqual(self.run_it("--only", "stacks")[0], 0)
@@ -131,7 +132,9 @@ class Nightly(unittest.TestCase):
         for state in ("none", "stale: somewhere"):
             self.script("distac", LAUNCHER.replace("echo none", f"echo {state}"))
             self.run_it("--only", "compare")
-            self.assertIn("`python3 models/compare.py out/program --seed", self.rows()["compare"][0], state)
+            rows = self.rows()
+            self.assertEqual({name for name in rows if rows[name][3] == "status 0"}, {*COMPARED}, state)
+            self.assertIn("`python3 models/compare.py out/program --seed", rows["compare-live"][0], state)
             (self.top / "out" / "program").unlink()
 
     def test_a_folder_that_cant_be_written(self) -> None:
@@ -153,6 +156,42 @@ class Nightly(unittest.TestCase):
         self.script("checks/stacks", f"echo changed >{self.top}/crates/low/src/lib.rt")
         self.run_it("--only", "stacks")
         self.assertEqual(self.older(), ["stacks"])
+
+    def test_minutes(self) -> None:
+        chosen = ("--only", "growths", "stacks", "mutants")
+        begun = self.top / "out" / "steps"
+        self.script("checks/growths", "exec sleep 60")
+        self.script("checks/mutants", f'[ "$1" = --record ] && {{ [ -e {begun} ] || {{ touch {begun}; exec sleep 60; }}; }}; echo said')
+        self.git("-c", "user.name=a", "-c", "user.email=a", "commit", "-qam", "slow")
+        status, lines = self.run_it(*chosen, "--minutes", "0.15")
+        self.assertEqual((status, lines[:2]), (0, ["growths begins", "growths: the time is over"]))
+        self.assertEqual(lines[2], "0 of 3 parts ran, 0 ended with status 0")
+        self.assertEqual(lines[3:], [f"current: 0 of 12 parts; not {', '.join((*PARTS, 'fuzz'))}", "current: said"])
+        lines = self.run_it(*chosen, "--minutes", "0.15")[1]
+        said = [line for line in lines if not line.startswith(("|", "current"))]
+        of_mutants = ["mutants begins", "mutants: the time is over; the next run goes on"]
+        self.assertEqual(said, ["stacks begins", *of_mutants, "1 of 3 parts ran, 1 ended with status 0"])
+        lines = self.run_it(*chosen, "--minutes", "0.12")[1]
+        self.assertRegex(lines[0], r"\Agrowths is put off: it took 0:00:0\d or more, and 0:00:0\d is left\Z")
+        self.assertEqual((lines[1], lines[3]), ("mutants begins", "1 of 2 parts ran, 1 ended with status 0"))
+        self.script("checks/growths", "echo quick")
+        lines = self.run_it(*chosen, "--minutes", "1")[1]
+        self.assertEqual((lines[0], lines[2]), ("growths begins", "1 of 1 parts ran, 1 ended with status 0"))
+        self.assertEqual(self.run_it(*chosen, "--minutes", "1")[1][0], "0 of 0 parts ran, 0 ended with status 0")
+
+    def test_no_git(self) -> None:
+        self.run_it("--only", "stacks")
+        shutil.rmtree(self.top / ".git")
+        self.assertEqual(self.older(), [])
+        self.write("crates/low/src/lib.rt", "changed")
+        self.assertEqual(self.older(), ["stacks"])
+
+    def test_output_that_cant_be_written(self) -> None:
+        script = self.top / "checks" / "nightly"
+        for redirection in (">&-", ">/dev/full"):
+            done = subprocess.run(f"{script} --record {redirection}", shell=True, stderr=subprocess.PIPE, text=True, check=False)
+            self.assertEqual((done.returncode, done.stderr.count("\n")), (1, 1), redirection)
+            self.assertTrue(done.stderr.startswith("nightly: standard output can't be written: "), done.stderr)
 
     def ended_by(self, number: int, begun: Path) -> int:
         """The status of a run that a signal ends after its part has begun."""

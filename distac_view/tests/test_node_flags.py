@@ -112,6 +112,49 @@ class Releases(unittest.TestCase):
             self.assertIn("{sync_nodes_optional,[x@h,y@h]}", said.output)
 
 
+class Folders(unittest.TestCase):
+    """The folder of a release in place of its files."""
+
+    def setUp(self) -> None:
+        room = tempfile.TemporaryDirectory()
+        self.addCleanup(room.cleanup)
+        self.room = Path(room.name)
+        self.write("rel/releases/start_erl.data", "13.1.5 0.2.0")
+        for version in ("0.1.0", "0.2.0"):
+            self.write(f"rel/releases/{version}/sys.config.src", PLACED.replace("500", version.replace(".", "")))
+        self.write("rel/releases/0.2.0/vm.args.src", "-name x@${HOST}\n")
+
+    def write(self, path: str, text: str) -> None:
+        """A file in the folder."""
+        (self.room / path).parent.mkdir(parents=True, exist_ok=True)
+        (self.room / path).write_text(text)
+
+    def test_the_version_that_starts(self) -> None:
+        files = "rel/releases/0.2.0/sys.config.src,rel/releases/0.2.0/vm.args.src"
+        wanted = gather(files, "--env", "HOST=h", folder=self.room)
+        self.assertIn("{a,20,[x@h,y@h]}", wanted.output)
+        for word in ("rel", "rel/releases", "rel/releases/0.2.0", "x@h=rel"):
+            self.assertEqual(gather(word, "--env", "HOST=h", folder=self.room), wanted, word)
+        self.assertIn("{a,10,[x@h,y@h]}", gather("x@h=rel/releases/0.1.0", folder=self.room).output)
+
+    def test_folders_without_a_release(self) -> None:
+        self.write("other/notes", "")
+        self.assertIn("other is a folder, and no release with sys.config or sys.config.src is in it", gather("x@h=other", folder=self.room).errors)
+        (self.room / "rel/releases/start_erl.data").unlink()
+        said = gather("x@h=rel", folder=self.room)
+        self.assertEqual((said.status, said.output), (2, ""))
+        self.assertIn("has several versions and no start_erl.data: write the folder of one", said.errors)
+
+    def test_a_file_that_a_provider_overrides(self) -> None:
+        text = "[{kernel,[{distributed,[{a,[x@h]}]}]},{elixir,[{config_provider_init,#{'__struct__' => 'Elixir.Config.Provider',reboot_system_after_config => %s}}]}]."
+        for again, status in (("true", 1), ("false", 0)):
+            self.write("sys.config", text % again)
+            said = gather("x@h=sys.config", "--strict", folder=self.room)
+            self.assertEqual((said.status, "ConfigProvider: this release evaluates runtime.exs" in said.errors), (status, again == "true"))
+        self.write("sys.config", text % "true")
+        self.assertEqual(gather("x@h=sys.config", "--strict", "--allow", "ConfigProvider", folder=self.room).status, 0)
+
+
 class Faults(unittest.TestCase):
     """Unreadable inputs."""
 

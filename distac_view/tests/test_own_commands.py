@@ -14,7 +14,7 @@ import time
 import unittest
 from pathlib import Path
 
-from support import TOP
+from support import EXAMPLES, TOP, hear_signals
 import folders
 
 MOST_SECONDS = 60
@@ -36,8 +36,8 @@ REFUSED = (
     (("checks/growths", "nosuch"), "no call and no example begins with nosuch"),
     (("checks/growths", "State", "nosuch"), "no call and no example begins with nosuch"),
     (("checks/growths", "--counts", "State"), "takes no names"),
-    (("tests", "--wrong"), "no words are taken"),
-    (("tests", "dac_status"), "no words are taken"),
+    (("tests", "--wrong"), "no part is called --wrong"),
+    (("tests", "documents", "dac_status"), "no part is called dac_status"),
     (("examples/check", "--wrong"), "may follow"),
     (("examples/check", "--proved", "x"), "may follow"),
     (("checks/mutants", "nosuch"), "no crate is called nosuch"),
@@ -45,6 +45,8 @@ REFUSED = (
     (("checks/mutants", "--portion", "-1"), "'-1' isn't a number of 0 or more"),
     (("checks/nightly", "--only", "nosuch"), "no part is called nosuch"),
     (("checks/nightly", "--only", "fuzz", "--commands", "nosuch"), "no command is called nosuch"),
+    (("checks/nightly", "--minutes", "-1"), "'-1' is no number of minutes"),
+    (("checks/nightly", "--record", "--minutes", "1"), "takes neither parts nor minutes"),
     (("models/compare.py", "x", "--jobs", "0"), "'0' isn't a number of 1 or more"),
     (("models/compare.py", "x", "--count", "-1"), "'-1' isn't a number of 0 or more"),
     (("checks/fuzz", "nosuch"), "no command is called nosuch"),
@@ -126,6 +128,13 @@ class OwnCommands(unittest.TestCase):
                 first_line = (TOP / command).read_text().partition('"""')[2].partition("\n")[0]
                 self.assertIn(first_line, output, command)
 
+    def test_output_that_cant_be_written(self) -> None:
+        for where in (">/dev/full", ">&-"):
+            line = f"{TOP}/checks/mutants --counts dac_tokens {where}"
+            done = subprocess.run(line, shell=True, stderr=subprocess.PIPE, text=True, timeout=MOST_SECONDS, check=False)
+            self.assertEqual((done.returncode, done.stderr.count("\n")), (1, 1), where)
+            self.assertTrue(done.stderr.startswith("mutants: standard output can't be written: "), done.stderr[:200])
+
     def test_links_and_folders_that_cd_looks_in(self) -> None:
         cdpath = f".:{TOP.parent}:/"
         with tempfile.TemporaryDirectory() as room:
@@ -140,13 +149,15 @@ class OwnCommands(unittest.TestCase):
         for number in (signal.SIGTERM, signal.SIGHUP, signal.SIGINT):
             with tempfile.TemporaryDirectory() as room:
                 shutil.copy(TOP / "distac_view" / "tests" / "run.py", room)
-                shutil.copy(TOP / "models" / "processes.py", room)
+                for name in ("processes.py", "streams.py"):
+                    shutil.copy(TOP / "models" / name, room)
                 Path(room, "support.py").write_text("PROGRAM = 'nothing'\n")
                 Path(room, "test_waiting.py").write_text(WAITING)
                 kept = Path(room, "kept")
                 kept.mkdir()
                 surroundings = {**os.environ, "TMPDIR": str(kept)}
-                with subprocess.Popen([sys.executable, f"{room}/run.py"], env=surroundings, stdout=subprocess.PIPE, stderr=subprocess.PIPE) as run:
+                words, pipe = [sys.executable, f"{room}/run.py"], subprocess.PIPE
+                with subprocess.Popen(words, env=surroundings, stdout=pipe, stderr=pipe, preexec_fn=hear_signals) as run:
                     until = time.monotonic() + MOST_SECONDS
                     while not list(kept.iterdir()) and time.monotonic() < until:
                         time.sleep(0.05)
@@ -179,6 +190,19 @@ class OwnCommands(unittest.TestCase):
             status, output, errors = say("checks/stacks", str(program))
             self.assertEqual((status, output), (1, ""), errors)
             self.assertIn(f"stacks: {program} check isn't right with 8192 KiB on manual, which the model answers otherwise\n", errors)
+
+    def test_recorded_runs_of_the_fuzzer(self) -> None:
+        fuzz = runpy.run_path(str(TOP / "checks" / "fuzz"), run_name="fuzz")
+        source = (EXAMPLES / "rows/record/each-event.distac").read_bytes()
+        printed = (EXAMPLES / "rows/record/each-event.out").read_bytes()
+        self.assertIn(b"\ntick ", printed)
+        with tempfile.TemporaryDirectory() as room:
+            program, output = Path(room, "program"), Path(room, "output")
+            program.write_text(f"#!/bin/sh\ncat >{room}/input; cat {output}\n")
+            program.chmod(0o755)
+            for text, is_right in ((printed, True), (printed.replace(b"\ntick ", b"\n# tick ", 1), False)):
+                output.write_bytes(text)
+                self.assertEqual(fuzz["is_right"](fuzz["Target"]("record", program, Path(room)), source), is_right)
 
 
 if __name__ == "__main__":

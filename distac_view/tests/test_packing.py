@@ -62,16 +62,18 @@ class Packed(unittest.TestCase):
     def test_it_runs_alone(self) -> None:
         self.pack("-o", str(self.file))
         self.assertTrue(os.access(self.file, os.X_OK))
-        done = ran("-I", str(self.file), "check", MANUAL, cwd=str(self.room))
+        done = ran("-I", str(self.file), "check", MANUAL, "--print", cwd=str(self.room))
         self.assertEqual((done.returncode, done.stdout.decode()), (0, (EXAMPLES / "manual.out").read_text()), done.stderr)
         self.assertEqual([path.name for path in self.room.iterdir()], ["distac-view.pyz"])
+        self.assertNotIn(b"compiled", ran("-I", str(self.file), "check", "--help", cwd=str(self.room)).stdout)
+        self.assertIn(b"compiled", ran(str(TOP / "distac-view"), "check", "--help").stdout)
 
     def test_it_finds_the_program_beside_it(self) -> None:
         self.pack("-o", str(self.file))
         beside = self.room / "distac"
         beside.write_text(f'#!/bin/sh\nexec {shlex.quote(PROGRAM)} "$@"\n')
         beside.chmod(0o755)
-        done = subprocess.run([sys.executable, str(self.file), "check", MANUAL], capture_output=True, env={"PATH": os.environ["PATH"]})
+        done = subprocess.run([sys.executable, str(self.file), "check", MANUAL, "--print"], capture_output=True, env={"PATH": os.environ["PATH"]})
         self.assertEqual((done.returncode, done.stdout.decode()), (0, (EXAMPLES / "manual.out").read_text()), done.stderr)
 
     def test_a_page_that_cannot_be_written(self) -> None:

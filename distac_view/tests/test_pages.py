@@ -34,6 +34,7 @@ QUESTIONS: Tuple[Tuple[str, ...], ...] = (
     ("rolling", "FLEET", "--drain"),
     ("rolling", "FLEET", "--takes", "6000", "--fail-on", "hang"),
     ("load", "FLEET", "--pairs", "--most", "2", "--fail-on", "lost,load,hang"),
+    ("what-if", "FLEET", "--split", "shop-1", "/", "c", "shop-2"),
 )
 NOON = str(1_800_000_000)
 
@@ -151,9 +152,74 @@ class Pages(unittest.TestCase):
 
     def test_each_row_of_what_if(self) -> None:
         for words in QUESTIONS[:2]:
-            printed = view(*self.words(words)).output.split("\n\n")[0].splitlines()[1:]
+            printed = view(*self.words(words)).output.split("\n\n")[0].splitlines()
+            printed = printed[next(place for place, line in enumerate(printed) if line.startswith("down ")) :]
             rows = [" ".join(cell for cell in row if cell) for row in Text(self.page(*words).output).rows]
-            self.assertEqual(rows, [" ".join(line.split()) for line in printed], words)
+            self.assertEqual(rows[-len(printed) :], [" ".join(line.split()) for line in printed], words)
+
+    def test_each_square(self) -> None:
+        for words in QUESTIONS[:2]:
+            answer = self.answer(*words)
+            rows = Text(self.page(*words).output).rows[: len(answer["cases"]) + 2]
+            for case, (down, *cells) in zip(answer["cases"], rows[2:]):
+                self.assertEqual((down, len(cells)), (f"{' '.join(case['down'])} down", len(case["applications"])))
+                for fate, cell in zip(case["applications"], cells):
+                    place = fate["then"] or ("nowhere" if fate["now"] else "-")
+                    after = f" after {fate['milliseconds'] // 1000} s" if fate["how"] == "failover" and fate["milliseconds"] else ""
+                    self.assertEqual(cell, place if fate["then"] == fate["now"] or not fate["then"] else f"-> {place}{after}", (words, fate))
+
+    def test_each_square_of_a_restart(self) -> None:
+        for words in QUESTIONS[4:6]:
+            answer, (heads, *rows) = self.answer(*words), Text(self.page(*words).output).rows
+            self.assertEqual(heads[2:], [f"{number}. {step['node']} restarts" for number, step in enumerate(answer["steps"], 1)])
+            for app, place, *squares in rows:
+                for step, square in zip(answer["steps"], squares):
+                    moves = [move for name in ("drained", "down", "back") for move in step[name] if move["application"] == app]
+                    self.assertEqual(square.count("->"), len(moves), (app, square))
+                    self.assertEqual((app in step["nowhere"], app in step["waiting"]), ("nowhere" in square, "down" in square), square)
+                    if moves:
+                        place = moves[-1]["to"]
+                        self.assertIn(f"-> {place}", square)
+                    elif app not in (*step["nowhere"], *step["waiting"]):
+                        self.assertEqual(square, place)
+                    elif app in step["nowhere"]:
+                        place = "-"
+
+    def test_each_square_of_a_split(self) -> None:
+        words = QUESTIONS[7]
+        answer, (heads, before, *sides) = self.answer(*words), Text(self.page(*words).output).rows
+        sides, healed = sides[: len(answer["parts"])], sides[len(answer["parts"])]
+        self.assertEqual(healed[1:], [each["back"] for each in answer["healed"]])
+        for part, (name, *squares) in zip(answer["parts"], sides):
+            self.assertEqual(name, f"side of {' '.join(part['nodes'])}")
+            for fate, app, place, square, each in zip(part["applications"], heads[1:], before[1:], squares, answer["healed"]):
+                self.assertEqual((fate["application"], fate["now"]), (app, place))
+                self.assertEqual(square.endswith(", runs twice"), fate["then"] in each["copies"] and len(each["copies"]) == 2)
+                self.assertIn(fate["then"] or "not here", square)
+
+    def test_the_headlines_come_first(self) -> None:
+        for words, count, first in (
+            (QUESTIONS[0], 2, "1 of 3 losses leaves an application nowhere; otherwise the longest outage is 83 s."),
+            (QUESTIONS[1], 1, "No application is left nowhere; the longest outage is 80 s."),
+            (QUESTIONS[4], 1, "1 of 3 steps leaves an application nowhere until its node is back."),
+            (QUESTIONS[5], 1, "1 of 3 steps leaves an application nowhere until its node is back; otherwise the longest outage is 6 s."),
+            (QUESTIONS[7], 2, "4 of 5 applications run more than once while the split lasts: billing, mail, reports and ledger."),
+        ):
+            printed = view(*self.words(words)).output.splitlines()
+            text = Text(self.page(*words).output)
+            self.assertEqual(text.texts("strong"), printed[: len(text.texts("strong"))])
+            self.assertEqual((printed[0], len(text.texts("strong"))), (first, count))
+            self.assertLess(text.texts("h2").index("At a glance"), 1)
+
+    def test_tables_are_whole_for_all_readers(self) -> None:
+        for words in QUESTIONS:
+            page = self.page(*words).output
+            self.assertNotIn("<script", page)
+            for table in re.findall("<table.*?</table>", page, re.DOTALL):
+                for tag, role in (("tr", "row"), ("td", "cell"), ("thead", "rowgroup"), ("tbody", "rowgroup"), ("table", "table")):
+                    self.assertEqual(len(re.findall(f"<{tag}[ >]", table)), table.count(f'<{tag} role="{role}"'), words)
+                self.assertEqual(table.count("<td"), len(re.findall("<td [^>]*(?:data-head|colspan)=", table)), words)
+                self.assertTrue(all(re.sub("<[^>]*>", "", cell) for cell in re.findall('<td [^>]*class="(?!end).*?</td>', table)), words)
 
     def test_each_change(self) -> None:
         words = QUESTIONS[2]
@@ -175,8 +241,8 @@ class Pages(unittest.TestCase):
                 for names in (step["nowhere"], step["waiting"], step["may_hang"]):
                     self.assertTrue(all(name in said for name in names))
             printed = view(*self.words(words)).output.splitlines()
-            order, cost = text.texts("p")[1:3]
-            self.assertEqual(printed[0], f"order {order}: {cost}")
+            paragraphs = text.texts("p")
+            self.assertIn(printed[len(text.texts("strong"))], [f"order {order}: {cost}" for order, cost in zip(paragraphs, paragraphs[1:])])
             faults = [line[len("  fault: ") :] for line in printed if line.startswith("  fault: ")]
             self.assertEqual([fault for fault in faults if fault not in text.texts("p")], [])
             self.assertEqual(bool(faults), any(step["barred"] for step in answer["steps"]))
@@ -200,7 +266,7 @@ class Pages(unittest.TestCase):
         said = view("load", fleet, "--json", "-o", "-")
         self.assertEqual(said.status, 2)
         self.assertIn("--json and -o - can't stand together", said.errors)
-        for words in (("load", fleet), ("rolling", fleet), ("what-if", fleet), ("what-if", MANUAL, "--then", fleet)):
+        for words in (("load", fleet), ("rolling", fleet), ("what-if", fleet), ("what-if", fleet, "--split", "c"), ("what-if", MANUAL, "--then", fleet)):
             said = view(*words, "-o", fleet)
             self.assertEqual((said.status, said.output), (2, ""))
             self.assertIn("isn't written over", said.errors)

@@ -7,6 +7,7 @@ import unittest
 import support
 from distac_view.common.diagnostics import place_of, quoted
 from distac_view.common.misspellings import is_near, looks_misspelt
+from distac_view.common.names import node_meant, short_names
 from distac_view.common.texts import shown
 
 assert support.TOP
@@ -70,6 +71,28 @@ class NearNames(unittest.TestCase):
         self.assertFalse(looks_misspelt("a@h", "b@h"))
         self.assertTrue(looks_misspelt("cp1@cave", "cp1@cvae"))
         self.assertTrue(looks_misspelt("main@h", "mian@h"))
+
+
+class ShortNames(unittest.TestCase):
+    """Names of nodes without a part that all share."""
+
+    def test_what_all_share_is_left_out(self) -> None:
+        for nodes, others, names, left_out in (
+            (("a@h", "b@h"), (), ["a", "b"], "@h"),
+            (("'m-1@10.0.0.1'", "'m-1@10.0.0.2'"), (), ["10.0.0.1", "10.0.0.2"], "m-1@"),
+            (("a@h", "b@i"), (), ["a@h", "b@i"], ""),
+            (("a@h", "b@h", "b@i"), (), ["a@h", "b@h", "b@i"], ""),
+            (("a@h",), (), ["a@h"], ""),
+            (("a", "b"), (), ["a", "b"], ""),
+            (("'@h'", "a@h"), (), ["@h", "a@h"], ""),
+            (("a@h", "b@h"), ("b",), ["a@h", "b@h"], ""),
+            (("a@h", "nowhere@h"), (), ["a@h", "nowhere@h"], ""),
+            (("'-@h'", "a@h"), (), ["-@h", "a@h"], ""),
+        ):
+            short = short_names(nodes, others)
+            self.assertEqual((short.each(nodes), short.left_out), (names, left_out))
+            self.assertEqual([node_meant(name, list(nodes)) for name in names], list(nodes))
+            self.assertEqual(short.one(None), "-")
 
 
 if __name__ == "__main__":

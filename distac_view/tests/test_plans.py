@@ -6,6 +6,7 @@ import json
 import re
 import tempfile
 import unittest
+from typing import List, Sequence, Tuple
 from itertools import combinations, permutations
 from pathlib import Path
 from random import Random
@@ -105,11 +106,11 @@ class Loads(Files):
     def test_the_table_and_the_budget(self) -> None:
         said = view("load", self.shop, "--pairs")
         rows = [re.split(r"\s{2,}", row) for row in said.output.splitlines()]
-        self.assertEqual(rows[1], ["-", "2", "1", "1", "0"])
-        self.assertEqual(rows[2], ["shop1@h", "3", "1", "0"])
-        self.assertIn(["shop1@h shop2@h", "3", "1: audit"], rows)
+        self.assertEqual(rows[:3], [["Nodes are shown without @h."], ["down", "shop1", "shop2", "shop3", "lost"], ["-", "2", "1", "1", "0"]])
+        self.assertEqual(rows[3], ["shop1", "3", "1", "0"])
+        self.assertIn(["shop1 shop2", "3", "1: audit"], rows)
         self.assertIn(["+ 1 pair that loses nothing more than each node alone"], rows)
-        self.assertIn(["without shop3@h, one loss from nothing: reports (shop1@h)"], rows)
+        self.assertIn(["without shop3, one loss from nothing: reports (shop1)"], rows)
         budgets = (("--fail-on lost", 0), ("--fail-on lost --pairs", 1), ("--most 2 --fail-on load", 1), ("--most 3 --fail-on lost,load", 0))
         for words, status in budgets:
             self.assertEqual(view("load", self.shop, *words.split()).status, status, words)
@@ -155,9 +156,20 @@ class Hangs(Files):
             self.assertEqual(names.pop("['n1@h']"), ["a", "b"], question)
             self.assertFalse(any(names.values()), question)
             self.assertIn("EqualTimes", [note["id"] for note in answer["notes"]], question)
-            self.assertIn("Without n1@h OTP 25 may restart one of a and b alone and hang", view(question, fleet).output)
+            self.assertIn("Without n1@h OTP 25 may hang, and restart only one of a and b: give each its own time", view(question, fleet).output)
             self.assertNotIn("hang", view(question, cured).output, question)
         self.assertIn("; OTP may hang: a and b; back:", view("rolling", fleet).output)
+
+    def test_later_ones_stay_down_too(self) -> None:
+        """A later application isn't restarted if its nodes hang, as was seen with OTP 25, and is if another node comes first."""
+        rows = (("[n1@h,n2@h,n3@h]", True), ("[n1@h,n4@h,n2@h]", False), ("[n1@h,{n3@h,n4@h}]", True), ("[n1@h,{n4@h,n5@h}]", False))
+        for nodes, is_stuck in rows:
+            path = self.path("later.config", FLEET.replace("{c,5000,[n2@h,n3@h,n1@h]}", "{c,7000,%s},{d,6000,[n1@h,n5@h]}" % nodes))
+            said = json.loads(view("what-if", path, "--down", "n1", "--json").output)
+            names = ["a", "b", "c"] if is_stuck else ["a", "b"]
+            self.assertEqual(said["cases"][0]["may_hang"], names, nodes)
+            text = next(note["text"] for note in said["notes"] if note["id"] == "EqualTimes")
+            self.assertIn("only some of a, b and c: " if is_stuck else "only one of a and b: ", text)
 
     def test_it_can_fail(self) -> None:
         fleet, cured = self.path("fleet.config", FLEET), self.path("cured.config", FLEET.replace("b,5000", "b,6000"))
@@ -201,11 +213,12 @@ class Rolls(Files):
 
     def test_what_is_printed(self) -> None:
         lines = view("rolling", self.shop).output.splitlines()
-        self.assertEqual(lines[0], "order shop1@h > shop2@h > shop3@h: 8 moves, 16000 ms of waits, restarts longer than 8000 ms (least of 6 orders, the worst has 8)")
-        self.assertEqual(lines[2], "2 shop2@h: down: mail -> shop3@h after 5000 ms; back: mail -> shop2@h (takeover)")
+        self.assertEqual(lines[:2], ["No step leaves an application nowhere; the longest outage is 8 s.", "Nodes are shown without @h."])
+        self.assertEqual(lines[2], "order shop1 > shop2 > shop3: 8 moves, 16000 ms of waits, restarts longer than 8000 ms (best of 6 orders, the worst has 8 moves)")
+        self.assertEqual(lines[4], "2 shop2: down: mail -> shop3 after 5000 ms; back: mail -> shop2 (takeover)")
         drained = view("rolling", self.shop, "--drain", "--order", "shop2@h").output.splitlines()
-        self.assertEqual(drained[0], "order shop2@h: 2 moves, 0 ms of waits, restarts longer than 8000 ms")
-        self.assertEqual(drained[1], "1 shop2@h: drained: mail -> shop3@h; down: nothing moves; back: mail -> shop2@h (takeover)")
+        self.assertEqual((drained[0], drained[2]), ("No application is left nowhere.", "order shop2: 2 moves, 0 ms of waits, restarts longer than 8000 ms"))
+        self.assertEqual(drained[3], "1 shop2: drained: mail -> shop3; down: nothing moves; back: mail -> shop2 (takeover)")
         self.assertEqual(view("rolling", self.shop, "--order", "shop2@h", "shop2@h").status, 2)
 
     def test_restarts_that_are_shorter_than_waits(self) -> None:
@@ -218,8 +231,8 @@ class Rolls(Files):
             self.assertEqual((answer["takes"], answer["moves"], answer["waits"]), (takes, len(moved), sum(waits[app] for app in moving)))
             self.assertEqual([step["nowhere"] for step in answer["steps"]], [[], [], []])
         lines = view("rolling", self.shop, "--takes", "4000").output.splitlines()
-        self.assertIn("4 moves, 3000 ms of waits, restarts of 4000 ms (", lines[0])
-        self.assertIn("; back before its wait is over: billing; back: audit -> shop1@h (takeover)", "".join(lines))
+        self.assertIn("4 moves, 3000 ms of waits and 8000 ms down with their nodes, restarts of 4000 ms (", lines[2])
+        self.assertIn(" and billing waits; back: audit -> shop1 (takeover) and billing starts again after 4000 ms", "".join(lines))
         for word in ("0", "-1", "5s", "4294967296"):
             self.assertEqual(view("rolling", self.shop, "--takes", word).status, 2)
 
@@ -227,17 +240,19 @@ class Rolls(Files):
         """As in OTP 25: the node that is back waits for the one before it, whose wait counts from the loss."""
         now = ("--now", "billing=shop2@h", "mail=shop2@h", "reports=shop3@h", "audit=shop1@h")
         lines = view("rolling", self.shop, "--takes", "2500", "--order", "shop2@h", *now).output.splitlines()
-        self.assertEqual(lines[0], "order shop2@h: 1 move, 5500 ms of waits, restarts of 2500 ms")
-        self.assertEqual(lines[1], "1 shop2@h: down: nothing moves; back before its wait is over: billing and mail; back: billing -> shop1@h after 5500 ms")
+        self.assertEqual(lines[0], "No application is left nowhere; the longest outage is 8 s.")
+        self.assertEqual(lines[2], "order shop2: 1 move, 5500 ms of waits and 2500 ms down with their nodes, restarts of 2500 ms")
+        self.assertEqual(lines[3], "1 shop2: down: billing waits and mail waits; back: billing -> shop1 after 5500 ms and mail starts again after 2500 ms")
 
     def test_what_if_says_what_is_presumed(self) -> None:
-        self.assertEqual(view("what-if", self.shop).output.splitlines()[0], "each loss lasts longer than 8000 ms")
+        first = ["No loss leaves an application nowhere; the longest outage is 83 s.", "Nodes are shown without @h.", "each loss lasts longer than 8000 ms"]
+        self.assertEqual(view("what-if", self.shop).output.splitlines()[:3], first)
         said = view("what-if", self.shop, "--takes", "4000", "--down", "shop1@h")
-        self.assertEqual(said.output.splitlines()[0], "each loss lasts 4000 ms")
-        self.assertRegex(said.output, r"shop1@h +billing +shop1@h +- +waits +shop1@h\n")
+        self.assertEqual(said.output.splitlines()[2], "each loss lasts 4000 ms")
+        self.assertRegex(said.output, r"shop1 +billing +shop1 +- +waits +4 s +shop1\n")
         new = self.path("new.config", SHOP.replace("8000", "3000"))
         then = view("what-if", self.shop, "--then", new, "--takes", "4000").output
-        self.assertRegex(then, r"~ billing +shop1@h down +it waits -> shop2@h\n")
+        self.assertRegex(then, r"~ billing +shop1 down +it waits -> shop2\n")
         answer = json.loads(view("what-if", self.shop, "--takes", "4000", "--down", "shop1@h", "--json").output)
         self.assertEqual([fate["waits"] for fate in answer["cases"][0]["applications"]], [True, False, False, False])
 
@@ -246,12 +261,13 @@ class Rolls(Files):
         now = self.path("now", "shop1@h billing audit\nshop2@h mail\n")
         said = view("rolling", path, "--now", now)
         self.assertEqual(said.status, 1)
+        self.assertIn("The restart can't go on after shop2@h, which doesn't come back.", said.output.splitlines()[0])
         self.assertIn("  fault: shop2@h can't come back: it waits 5000 ms for shop3@h, mandatory, and ends. The restart can't go on.", said.output)
 
     def test_beyond_six_nodes(self) -> None:
         entries = ",".join("{a%d,100,[n%d@h,n%d@h]}" % (each, each, (each + 1) % 8) for each in range(8))
         output = view("rolling", self.path("eight.config", "[{kernel,[{distributed,[%s]}]}]." % entries)).output
-        self.assertIn("16 moves, 800 ms of waits, restarts longer than 100 ms (by taking the node with the fewest applications next: not proved least)", output)
+        self.assertIn("16 moves, 800 ms of waits, restarts longer than 100 ms (the node with the fewest applications goes next: another order may be better)", output)
 
 
 def cost_of(side: Side, order: "tuple[str, ...]") -> "tuple[int, ...]":
@@ -284,9 +300,9 @@ class Changed(Files):
         self.assertEqual(said.status, 1)
         for line in ("+ fax (application)", "+ shop4@h (node)"):
             self.assertIn(line, said.output.splitlines())
-        self.assertRegex(said.output, r"~ reports +now +shop3@h -> shop2@h\n")
+        self.assertRegex(said.output, r"~ reports +now +shop3 -> shop2\n")
         self.assertIn("of 16 answers change", said.output)
-        self.assertIn("The lists of reports differ: where nodes with both files meet, OTP ends one of them.", said.output)
+        self.assertIn("The lists of reports differ: of two nodes with both files OTP ends one, so one new node may end all old ones.", said.output)
         bad = self.path("bad.config", SHOP.replace("[{kernel", "[{kernel,"))
         for words in ((self.shop, "--then", bad), (bad, "--then", self.shop), (self.shop, "--then", "/no/such/file"), (self.shop, "--then", new, "--after", "x")):
             self.assertEqual(view("what-if", *words).status, 2, words)
@@ -297,10 +313,11 @@ class Changed(Files):
             ("mandatory,[shop1@h,shop2@h,shop3@h]", "mandatory,[]", "~ all nodes  sync_nodes_mandatory  [shop1@h,shop2@h,shop3@h] -> []", "OtherGates"),
             ("optional,[]", "optional,[shop1@h]", "~ all nodes  sync_nodes_optional  [] -> [shop1@h]", "OtherGates"),
             ("timeout,30000", "timeout,300000", "~ all nodes  sync_nodes_timeout  30000 -> 300000", "OtherGates"),
-            ("net_ticktime,20", "net_ticktime,60", "~ reports    shop3@h down  away for at most 28 s -> 78 s", None),
-            ("shop2@h,shop3@h]},{reports", "shop2@h]},{reports", "~ billing  shop2@h down  one loss from nothing", "NoRollingChange"),
-            ("billing,8000", "billing,8001", "~ billing  shop1@h down  shop2@h after 8000 ms -> shop2@h after 8001 ms", "MixedTimes"),
+            ("net_ticktime,20", "net_ticktime,60", "~ reports    shop3 down  away for at most 28 s -> 78 s", None),
+            ("shop2@h,shop3@h]},{reports", "shop2@h]},{reports", "~ billing  shop2 down  one loss from nothing", "NoRollingChange"),
+            ("billing,8000", "billing,8001", "~ billing  shop1 down  shop2 after 8000 ms -> shop2 after 8001 ms", "MixedTimes"),
             ("{audit,", "{fax,[shop1@h]},{audit,", "+ fax (application)", "AddedMayRunTwice"),
+            (",{audit,0,[shop1@h,shop2@h]}", "", "- audit (application)", "GoneRunsEverywhere"),
         )
         for before, behind, line, note in rows:
             self.assertIn(before, FULL_SHOP)
@@ -311,24 +328,39 @@ class Changed(Files):
             self.assertIn(re.sub(" {2,}", "  ", line), lines)
             self.assertEqual([each["id"] for each in answer["notes"]], [note] if note else [])
 
+    def test_what_a_rollout_fails_on(self) -> None:
+        old = self.path("old.config", FULL_SHOP)
+        rows: Sequence[Tuple[str, str, List[str]]] = (
+            ("billing,8000", "billing,8001", []),
+            ("shop2@h,shop3@h]},{reports", "shop2@h]},{reports", ["rollout"]),
+            (",{audit,0,[shop1@h,shop2@h]}", "", ["rollout"]),
+        )
+        for before, behind, failed in rows:
+            words = ("what-if", old, "--then", self.path("new.config", FULL_SHOP.replace(before, behind)), "--fail-on", "rollout,lost")
+            said = view(*words, "--json")
+            self.assertEqual(([each["what"] for each in json.loads(said.output)["failed"]], said.status), (failed, len(failed)), before)
+        alone = self.path("alone.config", FULL_SHOP.replace("{audit,0,[shop1@h,shop2@h]}", "{audit,0,[shop1@h]}"))
+        self.assertIn("of 16 answers become nowhere, first audit with shop1@h down", view("what-if", old, "--then", alone, "--fail-on", "lost").errors)
+        self.assertEqual(view("what-if", old, "--fail-on", "lost").status, 2)
+
     def test_a_node_that_can_not_come_back(self) -> None:
         old, new = self.path("old.config", FULL_SHOP), self.path("new.config", FULL_SHOP.replace("mandatory,[shop1@h,", "mandatory,["))
         said = view("what-if", old, "--then", new, "--down", "shop1@h", "shop2@h", "--back", "shop2@h")
         self.assertIn("- shop2@h can't come back: it waits 30000 ms for shop1@h, mandatory, and ends. (note)", said.output)
-        self.assertRegex(said.output, r"~ mail +shop1@h shop2@h down +back: shop3@h -> shop2@h\n")
+        self.assertRegex(said.output, r"~ mail +shop1 shop2 down +back: shop3 -> shop2\n")
         self.assertIn("- Whom a starting node waits for differs: --down A B --back B says whether", said.output)
         self.assertEqual(said.status, 1)
 
     def test_a_hang_that_goes(self) -> None:
         old = self.path("old.config", SHOP.replace("mail,5000,[shop2@h,", "mail,8000,[shop1@h,").replace("{shop1@h,shop3@h}", "{shop2@h,shop3@h}"))
         said = view("what-if", old, "--then", self.path("new.config", Path(old).read_text().replace("mail,8000", "mail,9000")))
-        self.assertIn("- Without shop1@h OTP 25 may restart one of billing and mail alone and hang", said.output)
+        self.assertIn("- Without shop1@h OTP 25 may hang, and restart only one of billing and mail", said.output)
         self.assertIn("The times of mail differ: such a file can be rolled out node by node.", said.output)
 
     def test_what_runs_now_moves(self) -> None:
         new = self.path("new.config", SHOP.replace("[shop2@h,{shop1@h,shop3@h}]", "[shop3@h,{shop1@h,shop2@h}]"))
         said = view("what-if", self.shop, "--then", new, "--now", "mail=shop2@h", "billing=shop1@h")
-        self.assertRegex(said.output, r"~ mail +now +shop2@h -> shop3@h\n")
+        self.assertRegex(said.output, r"~ mail +now +shop2 -> shop3\n")
 
 
 def fates_of(reply: Reply) -> "dict[tuple[str, ...], Fate]":
@@ -410,10 +442,42 @@ class Now(Files):
             short = view("what-if", self.shop, "--json", "--now", *now, "--down", "shop1", "--back", "shop1")
             self.assertEqual(json.loads(short.output), whole)
         self.assertEqual(view("what-if", self.shop, "--then", self.shop, "--down", "shop1").status, 0)
-        self.assertEqual(view("rolling", self.shop, "--order", "shop2", "shop1").output.splitlines()[0][:28], "order shop2@h > shop1@h: 6 m")
+        self.assertEqual(view("rolling", self.shop, "--order", "shop2", "shop1").output.splitlines()[2][:24], "order shop2 > shop1: 6 m")
         two = self.path("two.config", "[{kernel,[{distributed,[{a,1,[x@h,x@k,y@k]}]}]}].")
         self.assertEqual((view("what-if", two, "--down", "x").status, view("what-if", two, "--down", "y").status), (2, 0))
-        self.assertIn("no node x: its nodes are x@h, x@k, y@k", view("what-if", two, "--down", "x").errors)
+        self.assertIn("several nodes x: write one of x@h, x@k, or its host", view("what-if", two, "--down", "x").errors)
+
+    def test_the_part_behind_the_host(self) -> None:
+        text = "[{kernel,[{distributed,[{a,1,['rel@10.0.0.1','rel@10.0.0.2']},{b,2,['rel@10.0.0.2']}]}]}]."
+        path = self.path("release.config", text)
+        whole = view("what-if", path, "--down", "rel@10.0.0.1").output
+        for word in ("10.0.0.1", "@10.0.0.1", "'10.0.0.1'"):
+            self.assertEqual(view("what-if", path, "--down", word).output, whole)
+        self.assertIn("several nodes rel: write one of rel@10.0.0.1, rel@10.0.0.2, or its host", view("what-if", path, "--down", "rel").errors)
+        self.assertIn("several nodes rel: ", view("what-if", path, "--now", "a=rel").errors)
+        self.assertEqual(view("what-if", path, "--now", "a=10.0.0.2", "b=10.0.0.2").status, 0)
+
+    def test_a_node_that_is_off_comes_back(self) -> None:
+        now = ("--now", self.path("now", "shop2@h billing mail audit\nshop3@h reports\n"))
+        fates = self.fates(*now, "--back", "shop1")
+        self.assertEqual(fates["billing"], ("shop2@h", "shop2@h", "shop1@h"))
+        self.assertEqual(view("what-if", self.shop, *now, "--back", "shop2").status, 2)
+        self.assertIn("has to be one of --down, or off by --now", view("what-if", self.shop, "--back", "shop1").errors)
+
+    def test_what_was_lost_with_all_its_nodes(self) -> None:
+        """As in OTP 25: the first of its nodes that comes back starts it."""
+        now = ("--now", self.path("now", "shop3@h mail reports\n"))
+        said = view("what-if", self.shop, *now, "--back", "shop1")
+        ids = [note["id"] for note in json.loads(view("what-if", self.shop, *now, "--back", "shop1", "--json").output)["notes"]]
+        alone = [each for each in ("billing", "audit") if self.fates(*now, "--back", "shop1")[each] == (None, None, "shop1@h")]
+        self.assertIn("No node that is up can run ", said.output)
+        self.assertTrue(alone, said.output)
+        self.assertIn("LostWithNodes", ids)
+
+    def fates(self, *words: str) -> "dict[str, tuple[str | None, ...]]":
+        """The places of each application in the only case."""
+        (case,) = json.loads(view("what-if", self.shop, *words, "--json").output)["cases"]
+        return {fate["application"]: (fate["now"], fate["then"], fate["back"]) for fate in case["applications"]}
 
     def test_what_nodes_answered(self) -> None:
         answers = self.path("answers", "\nshop1@h billing audit\n{ok, ok}\nshop2@h mail\n{ok, ok}\n'shop3@h' reports\nok\n:ok\n{ok,ok}")

@@ -12,6 +12,7 @@ from support import EXAMPLES, IS_STAND_IN, PROGRAM
 
 # Limits of memory, in KiB, around those below which the C library's loader fails. It ends with this status.
 LIMITS, NOT_LOADED = range(2_600, 4_400, 4), 127
+TOO_LONG = b"record fault 1 TooLong\n"
 INPUTS = {"check": "manual.config", "sim": "failover.distac", "live": "live-three-nodes.distac", "record": "race.live"}
 
 
@@ -45,6 +46,23 @@ class Program(unittest.TestCase):
             done = subprocess.run([PROGRAM, "check"], input=source, capture_output=True, check=False, preexec_fn=limited)
             said = (done.returncode, done.stdout, done.stderr)
             self.assertTrue(done.returncode == NOT_LOADED or said in (right, (1, b"out of memory\n", b"")), (limit, said))
+
+    def test_a_full_journal_is_told_with_its_node(self) -> None:
+        script = "1 boot n1@h 0\n1 boot n2@h 0\n" + "1 tick n2@h 0\n" * 65_500 + "phase\n" * 12
+        source = f"[{{kernel,[{{distributed,[{{a,[n1@h,n2@h]}}]}}]}}].\n--\n{script}".encode()
+        done = subprocess.run([PROGRAM, "live"], input=source, capture_output=True, check=False)
+        said = (done.returncode, done.stdout, done.stderr.splitlines()[-1:])
+        self.assertEqual(said, (1, b"live fault 5 Site\n", [b"distac: JournalFull at n2@h"]))
+
+    def test_a_record_may_be_as_long_as_an_input(self) -> None:
+        node = "n" * 200 + "@h"
+        config = f"[{{kernel,[{{distributed,[{{a,[{node}]}}]}}]}}].\n--\n"
+        # (the first one is two bytes below the limit, and each line adds 431)
+        for ticks, length, status in ((4_864, 2_097_150, 0), (4_865, len(TOO_LONG), 1)):
+            source = (config + f"1 tick {node} 0\n" * ticks).encode()
+            done = subprocess.run([PROGRAM, "record"], input=source, capture_output=True, check=False)
+            self.assertEqual((done.returncode, len(done.stdout)), (status, length))
+        self.assertEqual(done.stdout, TOO_LONG)
 
     def test_help_and_version(self) -> None:
         for word in ("--help", "--version"):

@@ -12,6 +12,7 @@ import unittest
 from functools import partial
 from pathlib import Path
 from random import Random
+from unittest import mock
 
 from support import EXAMPLES, IS_STAND_IN, distac, view
 from check import read_config
@@ -20,6 +21,7 @@ from test_what_if import random_config
 from distac_view.answering.caveats import notes_on
 from distac_view.answering.outages import outage_of
 from distac_view.answering.what_if import Question, Reply, reply_on
+from distac_view.asking import openings
 from distac_view.asking.cases import Course, Loss, careful_course, first_pages, quick_course
 from distac_view.asking.cluster import share_all
 from distac_view.asking.inputs import check_config
@@ -354,6 +356,24 @@ class Progressing(unittest.TestCase):
 
 class Plays(unittest.TestCase):
     """A case costs one play."""
+
+    def test_starts_in_one_play_are_those_in_turn(self) -> None:
+        count = 0
+        for number in range(COUNT):
+            random = Random(f"in turn {number}")
+            text = random_config(random)
+            checked, idle = checked_of(text), [node for node in ("a@h", "b@h", "c@h") if random.random() < 0.15]
+            barred = [(each.name, node) for each in checked.configuration.applications for node in each.nodes if random.random() < 0.1]
+            checked = checked_of("".join(f"{comment_of(*pair)}\n" for pair in barred) + text)
+            with mock.patch.object(openings, "started_in_turn", wraps=openings.started_in_turn) as in_turn:
+                quick = opened(distac(), checked, idle)
+            with mock.patch.object(openings, "started_unseen", return_value=None) as unseen:
+                plain = opened(distac(), checked, idle)
+            count += unseen.called
+            with self.subTest(number=number, text=text, idle=idle, barred=barred):
+                self.assertFalse(in_turn.called)
+                self.assertEqual((quick.page.held, quick.nodes, quick.is_guessed), (plain.page.held, plain.nodes, plain.is_guessed))
+        self.assertGreater(count, COUNT // 4)
 
     def test_the_count_of_plays(self) -> None:
         lists = [(each, 1000 * each, each, (each + 1) % 9, (each + 5) % 9) for each in range(9)]

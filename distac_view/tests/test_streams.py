@@ -59,7 +59,7 @@ class Streams(unittest.TestCase):
                 self.expect(redirected(">&-", *words), 2)
 
     def test_streams_that_are_not_needed(self) -> None:
-        expected = (EXAMPLES / "manual.out").read_text()
+        expected = "ok: 1 application, 3 nodes\n"
         for streams in SILENT:
             with self.subTest(streams=streams):
                 said = redirected(streams, "check", MANUAL, program=self.quick)

@@ -61,19 +61,22 @@ class Oracle:
         self.longest = max([app.timeout for app in config.apps] + [config.sync_timeout if isinstance(config.sync_timeout, int) else 0])
 
     def opened(self) -> World:
-        """All nodes are up, everything is started, and all is at rest."""
+        """All nodes are up, everything is started, one application after another, and all is at rest."""
         world = World(self.config)
         for node in range(len(self.config.nodes)):
             world.boot(node, 0)
         world.share()
-        self.start(world, range(len(self.config.nodes)))
+        self.ticks(world, 0, 1)
+        for app in self.apps:
+            self.start(world, range(len(self.config.nodes)), [app])
+            self.ticks(world, 0, 1)
         self.rest(world, 0)
         return world
 
-    def start(self, world: World, nodes: Iterable[int]) -> None:
-        """Everything is started at some nodes."""
+    def start(self, world: World, nodes: Iterable[int], apps: Iterable[int]) -> None:
+        """Some applications are started at some nodes."""
         for node in nodes:
-            for app in self.apps:
+            for app in apps:
                 if node not in self.not_started and self.config.apps[app].group_of(node) is not None:
                     world.start(node, app, node)
         world.share()
@@ -134,7 +137,7 @@ class Oracle:
         for node in down:
             world.boot(node, later)
         world.share()
-        self.start(world, down)
+        self.start(world, down, self.apps)
         self.rest(world, later)
         hows = ["stays" if found.what in (placement.KEPT, placement.HALTED) else found.what for found in at_once]
         return list(zip(now, then, hows, after, self.places(world)))

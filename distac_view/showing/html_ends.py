@@ -1,0 +1,34 @@
+"""The answer of `ends` as a page."""
+
+from __future__ import annotations
+
+from typing import Iterator
+
+from distac_view.answering.race_ends import End, Reply, notes_on
+from distac_view.common.texts import shown
+from distac_view.showing.html_elements import Table, bullets, paragraphs, section, text_in
+from distac_view.showing.html_frame import page_of
+from distac_view.showing.html_plans import notes_section
+from distac_view.showing.print_ends import counted, head_of, line_text, script_head, verdict_of
+from distac_view.showing.provenance import Asked
+
+
+def ends_page(reply: Reply, asked: Asked) -> str:
+    """The page of `ends`."""
+    ends = "".join(end_section(reply, number, end) for number, end in enumerate(reply.ends, 1))
+    common = section("In each end" if len(reply.ends) > 1 else "Final pages", bullets(map(line_text, reply.common())))
+    return page_of(f"Ends of a race: {asked.files[0].name}", asked, "".join([ends, common, notes_section(notes_on(reply))]), head_of(reply))
+
+
+def end_section(reply: Reply, number: int, end: End) -> str:
+    """An end: how often it came, the lines in which it differs, and its script with the answers."""
+    return section(f"End {number}", "".join(parts_of(reply, number, end)))
+
+
+def parts_of(reply: Reply, number: int, end: End) -> Iterator[str]:
+    """The parts of an end."""
+    yield paragraphs([f"{counted(end.found.counts)}, {verdict_of(reply, end)}"])
+    yield "".join(f'<p class="no">not as expected: {text_in(text)}</p>' for text in end.unmet)
+    yield bullets(map(line_text, reply.differing(end)))
+    yield paragraphs([script_head(end)])
+    yield Table(f"Script of end {number}", ("line", "answer"), [(shown(line), shown(said)) for line, said in end.small.rows]).text

@@ -1,0 +1,155 @@
+"""Answers at a glance: sentences, and a square for each application under each loss, in each step, or on each side.
+
+A square says everything in words too: its pattern and color repeat them, on paper without colors as well.
+"""
+
+from __future__ import annotations
+
+from typing import Iterable, List, Tuple, Union
+
+from distac_view.answering.outages import seconds_of
+from distac_view.answering.rolling import Rolling, Step
+from distac_view.answering.split import SplitReply
+from distac_view.answering.what_if import Answers, Fate, Reply
+from distac_view.common.names import Short, bare_name
+from distac_view.common.texts import listed
+from distac_view.showing.headlines import is_lost, rolling_headlines, split_headlines, what_if_headlines
+from distac_view.showing.html_elements import Cells, Square, Table, paragraphs, section, text_in
+
+MOST_COLUMNS, MOST_ROWS = 24, 32
+STAYS, MOVES, WAITS, GONE, TWICE, NONE = "stays", "moves", "waits", "gone", "twice", "none"
+STYLE = """
+.glance { --soon: color-mix(in srgb, var(--said) 40%, var(--back)); --twice: color-mix(in srgb, var(--dead) 14%, var(--back)); }
+.glance .wide table { border-collapse: separate; border-spacing: 4px; }
+.glance .wide :is(td, th) { padding: 3px 8px; vertical-align: middle; }
+.glance .wide tbody th { border-bottom: 0; }
+.glance .wide tbody td { border: 1px solid var(--rule); border-radius: 4px; white-space: normal; min-width: 4em; }
+.glance .wide td { -webkit-print-color-adjust: exact; print-color-adjust: exact; }
+.glance .wide tbody .none { border-color: transparent; }
+.glance .wide tbody .moves { border: 2px solid var(--line); background: var(--soon); }
+.glance .wide tbody .waits { border: 2px dashed var(--text);
+  background: repeating-linear-gradient(135deg, var(--back) 0 7px, var(--soon) 7px 9px); }
+.glance .wide tbody .twice { border: 4px double var(--dead);
+  background: repeating-linear-gradient(0deg, var(--back) 0 5px, var(--twice) 5px 7px); }
+.glance .wide tbody .gone { border: 2px solid var(--dead); background: var(--dead); color: var(--back); font-weight: bold; }
+@media screen and (max-width: 600px) {
+  .glance .wide tbody th { padding: 0; }
+  .glance .wide tbody td { display: block; margin: 0 0 4px; padding: 3px 8px; }
+  .glance .wide tbody :is(.stays, .none) { display: inline-block; border: 0; margin: 0; padding: 0 12px 0 0; }
+  .glance .wide .gone::before { color: inherit; }
+}
+@media print {
+  .glance .wide table { border-spacing: 2px; table-layout: fixed; width: 100%; }
+  .glance .wide :is(td, th), .glance .wide tr > :last-child { padding: 2px 4px; overflow-wrap: anywhere; }
+  .glance .wide tbody td { min-width: 0; }
+}
+"""
+
+
+def what_if_glance(reply: Reply) -> str:
+    """The answer of `what-if`: a row for each loss."""
+    return glance(what_if_headlines(reply), [losses_of(answers, reply) for answers in reply.sides], reply.configuration.short)
+
+
+def rolling_glance(rolling: Rolling) -> str:
+    """The answer of `rolling`: a row for each application."""
+    return glance(rolling_headlines(rolling), [steps_of(rolling)], rolling.configuration.short)
+
+
+def split_glance(reply: SplitReply) -> str:
+    """The answer of `what-if --split`: a row for each side, and one for the end."""
+    return glance(split_headlines(reply), [sides_of(reply)], reply.configuration.short)
+
+
+def glance(sentences: Iterable[str], tables: List[Table], short: Short) -> str:
+    """The sentences, and the squares that fit."""
+    squares = [table.text for table in tables if len(table.heads) <= MOST_COLUMNS and len(table.rows) <= MOST_ROWS]
+    said = "".join(f"<p><strong>{text_in(sentence)}</strong></p>" for sentence in sentences)
+    return section("At a glance", f'<div class="glance">{said}{"".join(squares)}</div>{paragraphs(short.lines)}')
+
+
+def losses_of(answers: Answers, reply: Reply) -> Table:
+    """The squares of one side of `what-if`: a column for each application, the first row for now."""
+    short, takes = reply.configuration.short, reply.question.takes
+    now = [fate.now for fate in answers.cases[0].fates] if answers.cases else []
+    rows: List[Cells] = [("now", *(place_square(place, short) for place in now))]
+    for case in answers.cases:
+        rows.append((f"{' '.join(short.each(case.down))} down", *(fate_square(fate, reply.tick_time, takes, short) for fate in case.fates)))
+    side = f" on the side of {listed(short.each(answers.side.members))}" if len(reply.sides) > 1 else ""
+    return Table(f"Where each application goes{side}", ("when", *map(bare_name, reply.configuration.names)), rows)
+
+
+def place_square(place: "str | None", short: Short) -> Square:
+    """The square of an application that stays."""
+    return Square(STAYS if place else NONE, short.one(place))
+
+
+def fate_square(fate: Fate, tick_time: int, takes: "int | None", short: Short) -> Square:
+    """The square of an application under a loss."""
+    if fate.failed is not None:
+        fails = f"fails at {short.one(fate.failed.failing.node)}"
+        return Square(GONE, f"nowhere: {fails}" if fate.then is None else f"{arrival(fate.then, fate.wait, short)}, then nowhere: {fails}")
+    if fate.waits:
+        return Square(WAITS, f"down {seconds_of(fate.longest_outage(tick_time, takes) or 0)} s")
+    if is_lost(fate):
+        return Square(GONE, "nowhere")
+    return place_square(fate.then, short) if fate.then == fate.now else Square(MOVES, arrival(fate.then, fate.wait, short))
+
+
+def arrival(place: "str | None", wait: "int | None", short: Short) -> str:
+    """A move to a node, with its wait if it is a failover."""
+    after = f" after {seconds_of(wait)} s" if wait else " at once"
+    return f"-> {short.one(place)}{'' if wait is None else after}"
+
+
+def steps_of(rolling: Rolling) -> Table:
+    """The squares of `rolling`: a row for each application, a column for each step, the first one for the start."""
+    short, held, rows = rolling.configuration.short, rolling.side.page.held, []
+    for app in rolling.configuration.names:
+        place = held[app].runs_at if app in held else None
+        row: List[Union[str, Square]] = [bare_name(app), place_square(place, short)]
+        for step in rolling.steps:
+            square, place = step_square(app, place, step, rolling)
+            row.append(square)
+        rows.append(tuple(row))
+    heads = (f"{number}. {short.one(step.node)} restarts" for number, step in enumerate(rolling.steps, 1))
+    return Table("Where each application runs in each step, and when it is down", ("application", "before", *heads), rows)
+
+
+def step_square(app: str, place: "str | None", step: Step, rolling: Rolling) -> "Tuple[Square, str | None]":
+    """The square of an application in a step, and its place after it."""
+    short = rolling.configuration.short
+    drained, down, back = ([move for move in moves if move.app == app] for moves in (step.drained, step.down, step.back))
+    texts = [arrival(move.node, None, short) for move in drained]
+    texts += [arrival(move.node, move.milliseconds if move.how == "failover" else None, short) for move in down]
+    if app in step.waiting:
+        texts.append(f"down {seconds_of(rolling.takes or 0)} s" if app in step.resumed or back else "down")
+    if app in step.nowhere:
+        texts.append("nowhere")
+    texts += [f"then {arrival(move.node, None, short)}" for move in back]
+    if not texts:
+        return place_square(place, short), place
+    is_gone = app in step.nowhere or (app in step.waiting and app not in step.resumed)
+    ends = [move.node for move in (*drained, *down, *back)]
+    after = None if is_gone and not back else ends[-1] if ends else place
+    return Square(GONE if app in step.nowhere else WAITS if app in step.waiting else MOVES, ", ".join(texts)), after
+
+
+def sides_of(reply: SplitReply) -> Table:
+    """The squares of a split: a row for each side, and one for the end."""
+    short, copies = reply.configuration.short, {each.app: len(each.copies) for each in reply.healed}
+    rows: List[Cells] = [("before", *(place_square(fate.now, short) for fate in reply.parts[0].case.fates if reply.parts))]
+    for part in reply.parts:
+        rows.append((f"side of {' '.join(short.each(part.nodes))}", *(side_square(fate, copies[fate.app], short) for fate in part.case.fates)))
+    rows.append(("healed, once all have rebooted", *(place_square(each.back, short) for each in reply.healed)))
+    return Table("Where each application runs on each side", ("when", *map(bare_name, reply.configuration.names)), rows)
+
+
+def side_square(fate: Fate, copies: int, short: Short) -> Square:
+    """The square of an application on a side, with the number of its copies on all sides."""
+    if fate.then is None:
+        return Square(NONE, "not here" if copies else "-")
+    text = short.one(fate.then) if fate.then == fate.now else arrival(fate.then, fate.wait, short)
+    if copies > 1:
+        return Square(TWICE, f"{text}, runs {'twice' if copies == 2 else f'{copies} times'}")
+    return Square(STAYS if fate.then == fate.now else MOVES, text)

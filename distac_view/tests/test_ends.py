@@ -1,0 +1,295 @@
+"""`ends`: the ends of a race, with a script of each that the program plays."""
+
+from __future__ import annotations
+
+import json
+import os
+import re
+import signal
+import subprocess
+import sys
+import tempfile
+import time
+import unittest
+from collections import Counter
+from pathlib import Path
+from typing import Any, Dict, List
+from unittest import mock
+
+from json_schema import documented
+from support import EXAMPLES, PROGRAM, TOP, Said, distac, hear_signals, run_view, view
+from distac_view.answering.race_ends import Search, expected_by, reply_of
+from distac_view.asking.races import load_race, pages_in
+from distac_view.cli import ends as ends_command
+from distac_view.common.interrupts import Stop
+from distac_view.common.texts import text_of
+
+RACE, OPERATORS = str(EXAMPLES / "race.live"), str(EXAMPLES / "two-operators.live")
+FEW = ("--schedules", "90")
+MOST_SECONDS = 60
+REQUESTS = ("boot", "crash", "down", "permit", "start", "stop", "drain", "takeover", "tick")
+FIVE = "[{kernel,[{distributed,[{a,[n1@h,n2@h,n3@h,n4@h,n5@h]}]}]}].\n--\n1 boot n1@h 0\n4 boot n5@h 0\nphase\n1 down n5@h nowhere\n"
+# A live line, the column of its fault, and a part of the sentence.
+FAULTS = (
+    ("5 boot main@h 0", 1, "BadNumber: a caller is 1, 2, 3 or 4"),
+    ("01 boot main@h 0", 1, "BadNumber: a caller is 1, 2, 3 or 4"),
+    ("1 boot main 0", 8, "UnknownActor: the configuration has no node main"),
+    ("2  tick main@h x", 16, "BadNumber: a moment is a number"),
+    ("1 tick main@h", 14, "BadCount: there are too few words: this line is written tick NODE NOW"),
+    ("1 ship main@h east@h", 3, "BadWord: a live line is CALLER"),
+    ("1", 2, "BadCount: a live line is CALLER"),
+    ("boot main@h 0", 1, "BadWord: no live line begins with boot: a live line is CALLER"),
+    ("phase 2", 7, "BadCount"),
+    ("phase\r", 1, "BadWord: a carriage return"),
+    ("   ", 1, "BadWord"),
+    ("feed 0g", 7, "BadHex"),
+)
+
+
+class Room(unittest.TestCase):
+    """A temporary folder."""
+
+    def setUp(self) -> None:
+        room = tempfile.TemporaryDirectory()
+        self.addCleanup(room.cleanup)
+        self.room = Path(room.name)
+
+    def path(self, text: str) -> str:
+        """A file of a text."""
+        path = self.room / "some.live"
+        path.write_bytes(text.encode("utf-8", "surrogateescape"))
+        return str(path)
+
+
+class Ends(Room):
+    """The ends that are found, and their scripts."""
+
+    def test_the_example(self) -> None:
+        said = view("ends", OPERATORS)
+        self.assertEqual((said.status, said.errors), (0, ""))
+        self.assertEqual(said.output, Path(OPERATORS).with_suffix(".ends").read_text())
+
+    def test_a_script_with_one_end(self) -> None:
+        said = view("ends", str(EXAMPLES / "live-three-nodes.distac"), "--schedules", "12")
+        self.assertEqual((said.status, said.errors), (0, ""))
+        self.assertIn("12 schedules (4 uniform, 4 PCT and 4 POS) of live-three-nodes.distac, seed 1: 1 end\n", said.output)
+        self.assertIn("\nits final pages:\n", said.output)
+
+    def test_the_same_seed_gives_the_same_answer(self) -> None:
+        said = [self.in_process(f"{number}", "--seed", "7") for number in (0, 1)]
+        self.assertEqual(said[0], said[1])
+        self.assertNotEqual(said[0].output, self.in_process("0", "--seed", "8").output)
+
+    def in_process(self, hashes: str, *words: str) -> Said:
+        """The answer of an own process, with a seed of Python's hashes."""
+        with mock.patch.dict(os.environ, PYTHONHASHSEED=hashes):
+            return run_view("ends", RACE, *FEW, *words)
+
+    def test_kept_scripts_are_played_to_their_pages(self) -> None:
+        said = view("ends", RACE, *FEW, "--keep", str(self.room / "kept" / "here"), "--json")
+        answer = json.loads(said.output)
+        self.assertGreater(len(answer["ends"]), 4)
+        for number, end in enumerate(answer["ends"], 1):
+            for name, field in ((f"end-{number}.distac", "script"), (f"end-{number}-whole.distac", "whole")):
+                path = self.room / "kept" / "here" / name
+                self.assertEqual(path.read_text(), end[field])
+                played = distac().sim(path.read_bytes())
+                self.assertFalse(played.is_fault)
+                for line in (*end["differing"], *answer["common"]):
+                    self.assertGreaterEqual(played.lines.count(line["line"]), 1, line)
+
+    def test_each_message_is_heard_by_its_own_number(self) -> None:
+        for end in self.ends(RACE):
+            for text in (end["script"], end["whole"]):
+                lines = [line for line in text.split("--\n", 1)[1].splitlines() if not line.startswith("%")]
+                shipped, heard = 0, []
+                for line in lines:
+                    shipped += line.startswith("ship ")
+                    if line.startswith("hear "):
+                        heard.append(int(line.split()[2]))
+                        self.assertLessEqual(heard[-1], shipped, text)
+                self.assertEqual(len(heard), len(set(heard)), text)
+
+    def ends(self, path: str) -> List[Dict[str, Any]]:
+        """The ends of a race as JSON."""
+        found: List[Dict[str, Any]] = json.loads(view("ends", path, *FEW, "--json").output)["ends"]
+        return found
+
+    def test_whole_schedules_have_all_requests(self) -> None:
+        asked = Counter(line.partition(" ")[2] for line in Path(RACE).read_text().splitlines() if line[:1].isdigit())
+        for end in self.ends(RACE):
+            lines = Counter(line for line in end["whole"].splitlines() if line.startswith(REQUESTS))
+            self.assertEqual(lines, asked)
+
+    def test_no_event_of_a_small_script_can_be_left_out(self) -> None:
+        from schedules import replayed
+
+        race = load_race(distac(), RACE)
+        for number, run in zip(range(12), race.runs(3)):
+            pages = pages_in(run.pages)
+            small, is_smallest = race.shrunk(run.events, pages, 1, lambda: False)
+            self.assertTrue(is_smallest, number)
+            self.assertEqual(pages_in(replayed(race.config, small).pages), pages)
+            for at in range(len(small)):
+                self.assertNotEqual(pages_in(replayed(race.config, small[:at] + small[at + 1 :]).pages), pages, number)
+
+    def test_runs_are_those_of_their_events(self) -> None:
+        from schedules import replayed
+
+        race = load_race(distac(), RACE)
+        for _, run in zip(range(60), race.runs(5)):
+            self.assertEqual(replayed(race.config, run.events).pages, run.pages)
+
+    def test_more_nodes_than_threads(self) -> None:
+        said = view("ends", self.path(FIVE), "--schedules", "3")
+        self.assertEqual(said.status, 0, said)
+        self.assertIn("- distac live itself would refuse this file, since it runs 4 nodes at most and not 5\n", said.output)
+        self.assertEqual(view("ends", self.path(FIVE), "--schedules", "3", "--json").status, 0)
+
+    def test_names_outside_of_the_configuration(self) -> None:
+        text = FIVE.replace("{a,", "{unknown,") + "phase\n1 start n1@h other n1@h\n"
+        end = self.ends(self.path(text))[0]
+        self.assertIn("\nstart n1@h unknown_ n1@h\n", end["whole"])
+        self.assertIn("\ndown n5@h unknown\n", end["whole"])
+
+
+class Answers(Room):
+    """Statuses, faults, JSON and pages."""
+
+    def test_expected_lines(self) -> None:
+        for words, status in (
+            (("node main@h up 1",), 0),
+            (("app shop holder (main|east)@h", "node"), 1),
+            (("app shop holder",), 0),
+            (("app shop hold",), 1),
+            (("app shop holder main@h",), 1),
+            ((".*verdict (kept|halted|start|takeover) .*",), 0),
+        ):
+            said = view("ends", RACE, *FEW, "--expect", *words)
+            self.assertEqual(said.status, status, said)
+            self.assertEqual("  not as expected: " in said.output, status == 1)
+            self.assertEqual("isn't as expected: " in said.errors, status == 1)
+        self.assertIn("is it misspelt?", view("ends", RACE, *FEW, "--expect", "app shoop").output)
+        self.assertEqual(view("ends", RACE, "--expect", "(").status, 2)
+
+    def test_what_meets_an_expectation(self) -> None:
+        on, off = ("node a@h 1", "node a@h up 1", "app s holder a@h 1"), ("node b@h off",)
+        self.assertTrue(expected_by("app s holder a@h").is_met((on, off)))
+        self.assertTrue(expected_by("node b@h off").is_met((on, off)))
+        self.assertFalse(expected_by("app s holder a").is_met((on, off)))
+        self.assertFalse(expected_by("app s").is_met((off, off)))
+        self.assertFalse(expected_by("node a@h 1").is_met((on, ("node b@h 1", "node b@h up 1"))))
+        self.assertTrue(expected_by("app 's+' holder").is_met((("node a@h 1", "app 's+' holder none"),)))
+
+    def test_faults(self) -> None:
+        for line, column, sentence in FAULTS:
+            said = view("ends", self.path(Path(RACE).read_text() + line + "\n"))
+            self.assertEqual(said.status, 2, said)
+            number = Path(RACE).read_text().count("\n") + 1
+            self.assertIn(f"some.live:{number}:{column}: ", said.output, line)
+            self.assertIn(sentence, said.output, line)
+        for text, sentence in (("nothing", "NoScript"), ("[].\n--\nphase\n", "config"), ("x" * 3_000_000, "TooLong")):
+            said = view("ends", self.path(text))
+            self.assertEqual(said.status, 2, said)
+        spaced = view("ends", self.path("[{kernel,[{distributed,[{a,['a b@h']}]}]}].\n--\n"))
+        self.assertEqual((spaced.status, spaced.output), (2, ""))
+        self.assertIn("no line of a script can name the node 'a b@h'", spaced.errors)
+        for words in (("--schedules", "0"), ("--seed", "x"), ("--json", "-o", "-"), ("--keep", "/no/such/folder\0")):
+            self.assertEqual(view("ends", RACE, "--schedules", "1", *words).status, 2, words)
+
+    def test_a_program_that_differs(self) -> None:
+        program = self.room / "program"
+        program.write_text(f'#!/bin/sh\n"{PROGRAM}" "$@" | sed "s/halted/kept/"\n')
+        program.chmod(0o755)
+        said = view("ends", RACE, *FEW, program=str(program))
+        self.assertEqual(said.status, 2, said)
+        self.assertIn(", NOT played by the program\n", said.output)
+        self.assertIn(", played by the program\n", said.output)
+        self.assertIn("didn't play its script", said.errors)
+
+    def test_the_models_alone(self) -> None:
+        said = run_view("ends", RACE, "--models", *FEW, program="/no/such/program")
+        self.assertEqual(said.status, 0)
+        self.assertIn(", played by the models\n", said.output)
+        self.assertIn("- the models alone played all scripts, and nothing of them is proved\n", said.output)
+        self.assertIn("the models answer", said.errors)
+
+    def test_the_last_line(self) -> None:
+        last = view("ends", RACE, *FEW).output.splitlines()[-1]
+        self.assertIn("the search is not verified, and other ends may exist", last)
+
+    def test_the_chance_of_more(self) -> None:
+        said = view("ends", RACE, "--schedules", "1").output
+        self.assertIn("- 1 end came once in 1 schedules, so one more schedule would show another one with a chance of some 100.0%", said)
+        said = view("ends", str(EXAMPLES / "live-failover.distac"), "--schedules", "6").output
+        self.assertIn("- each end came more than once in 6 schedules", said)
+
+    def test_json(self) -> None:
+        for words in ((), ("--expect", "app shop holder main@h")):
+            said = view("ends", RACE, *FEW, "--json", *words)
+            self.assertEqual(documented().faults_of(said.output), [], said.output)
+            answer = json.loads(said.output)
+            self.assertEqual(sum(end["schedules"] for end in answer["ends"]), 90)
+            self.assertEqual(said.status, 1 if words else 0)
+
+    def test_a_stored_answer(self) -> None:
+        (self.room / "race.question").write_text(f"ends {RACE} --schedules 6 --expect 'app shop holder main@h'")
+        self.assertEqual(view("expect", str(self.room), "--write").status, 0)
+        self.assertTrue((self.room / "race.answer").read_text().startswith("status 1\n6 schedules (2 uniform, 2 PCT and 2 POS)"))
+        self.assertEqual(view("expect", str(self.room)).output, "1 of 1 answers are as stored\n")
+        (self.room / "race.question").write_text(f"ends {RACE} --schedules 6 --keep here")
+        self.assertIn("would write a file", view("expect", str(self.room)).errors)
+
+    def test_a_page(self) -> None:
+        said, page = view("ends", RACE, *FEW), view("ends", RACE, *FEW, "-o", "-").output
+        text = re.sub(r"<[^>]*>", "", page.replace("<wbr>", "")).replace("\u00a0", " ")
+        for line in said.output.replace("in each end", "In each end").splitlines():
+            self.assertIn(re.sub(r"^(end \d+: |- )|:$", "", line.strip())[:60], text)
+
+    def test_ctrl_c_prints_what_was_found(self) -> None:
+        status, output, errors = next(filter(lambda said: said[1], map(self.interrupted_after, (4, 10, 25))))
+        self.assertEqual((status, errors), (130, b""))
+        self.assertRegex(text_of(output), r"- Ctrl-C ended the search after \d+ of 4000000 schedules\n")
+        self.assertIn("end 1: ", text_of(output))
+
+    def interrupted_after(self, seconds: int) -> "tuple[int, bytes, bytes]":
+        """The status and the streams of a long search that gets Ctrl-C. On a busy machine it may not have begun."""
+        words = [sys.executable, str(TOP / "distac-view"), "ends", RACE, "--schedules", "4000000"]
+        surroundings, pipe = {**os.environ, "DISTAC": PROGRAM}, subprocess.PIPE
+        with subprocess.Popen(words, env=surroundings, stdout=pipe, stderr=pipe, preexec_fn=hear_signals) as process:
+            time.sleep(seconds)
+            process.send_signal(signal.SIGINT)
+            try:
+                output, errors = process.communicate(timeout=MOST_SECONDS)
+            finally:
+                process.kill()
+        return process.returncode, output, errors
+
+    def test_a_stop_within_this_process(self) -> None:
+        asked = distac()
+        played, calls = asked.asked, [""][:0]
+
+        def interrupted(word: str, source: bytes) -> "tuple[bytes, int]":
+            if not calls:
+                signal.raise_signal(signal.SIGINT)
+            calls.append(word)
+            return played(word, source)
+
+        search = Search(load_race(asked, RACE), 5, 1, [])
+        asked.asked = interrupted
+        reply = reply_of(asked, search)
+        self.assertEqual((reply.played, reply.is_stopped, reply.ends[-1].is_smallest), (5, True, False))
+        with self.assertRaises(KeyboardInterrupt):
+            ends_command.judged(reply)
+
+    def test_a_second_ctrl_c_ends_the_program(self) -> None:
+        before = signal.getsignal(signal.SIGINT)
+        with self.assertRaises(KeyboardInterrupt), Stop() as stop:
+            signal.raise_signal(signal.SIGINT)
+            self.assertTrue(stop.is_wished)
+            signal.raise_signal(signal.SIGINT)
+        self.assertEqual(signal.getsignal(signal.SIGINT), before)
+
+
+if __name__ == "__main__":
+    unittest.main()
