@@ -1,4 +1,5 @@
-"""The rows of `distac sim` and `distac live` in examples/rows, and their examples: each an input, its output and its status."""
+"""The rows of `distac check`, `sim` and `live` in examples/rows, and the scripts among the examples: each an input, its
+output and its status."""
 
 from __future__ import annotations
 
@@ -7,9 +8,9 @@ from dataclasses import dataclass
 from pathlib import Path
 
 TOP = Path(__file__).resolve().parent.parent
-SIM, LIVE = "sim", "live"
+CHECK, SIM, LIVE = "check", "sim", "live"
 # The folders of rows for each command, with the status of their rows.
-FOLDERS = {SIM: {"sim": 0, "sim-faults": 1}, LIVE: {"live": 0, "live-faults": 1}}
+FOLDERS = {command: {command: 0, f"{command}-faults": 1} for command in (CHECK, SIM, LIVE)}
 
 
 @dataclass(frozen=True)
@@ -31,17 +32,17 @@ def row_of(path: Path, name: str, status: int, command: str) -> Row:
 def rows(top: Path, command: str) -> Iterator[Row]:
     """The rows of a command."""
     for folder, status in FOLDERS[command].items():
-        for path in sorted((top / "examples" / "rows" / folder).glob("*.distac")):
+        for path in sorted((top / "examples" / "rows" / folder).glob("*.config" if command == CHECK else "*.distac")):
             yield row_of(path, f"{folder}/{path.stem}", status, command)
 
 
 def examples(top: Path, command: str) -> Iterator[Row]:
-    """The examples of a command."""
+    """The examples of `sim` or `live`."""
     for path in sorted((top / "examples").glob("*.distac")):
         if path.name.startswith("live-") == (command == LIVE):
             yield row_of(path, path.stem, 0, command)
 
 
 def all_rows(top: Path) -> list[Row]:
-    """The rows and then the examples of each command."""
-    return [row for command in FOLDERS for read in (rows, examples) for row in read(top, command)]
+    """The rows and then the examples of `sim` and `live`."""
+    return [row for command in (SIM, LIVE) for read in (rows, examples) for row in read(top, command)]

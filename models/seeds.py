@@ -1,8 +1,7 @@
 """The initial inputs of a fuzzer for each command, and the words of its formats.
 
-The inputs are the examples, the rows of examples/rows, the worked examples, and random ones. Those of `feed` are the
-bytes of packets under one configuration. The words come from the tables of docs/FORMATS.md and its grammar of
-configurations.
+The inputs are the examples, the rows of examples/rows, and random ones. Those of `feed` are the bytes of packets under
+one configuration. The words come from the tables of docs/FORMATS.md and its grammar of configurations.
 """
 
 from __future__ import annotations
@@ -36,12 +35,6 @@ def examples(pattern: str) -> Iterator[bytes]:
         yield path.read_bytes()
 
 
-def worked_script(row: worked.Row) -> bytes:
-    """The input of a worked example."""
-    boots = [f"boot {node} 0" for node in worked.whole(row.booted.replace(" ", ";"))]
-    return row.config + PARTED + "\n".join([*boots, *worked.whole(row.script)]).encode()
-
-
 def texts() -> Iterator[bytes]:
     """Configurations."""
     yield from examples("*.config")
@@ -54,7 +47,6 @@ def scripts() -> Iterator[bytes]:
     """Inputs of `sim`."""
     yield from (source for source in examples("*.distac") if b"\nphase" not in source)
     yield from examples("rows/sim/*.distac")
-    yield from map(worked_script, worked.ROWS)
     yield from (random_scripts.random_script(1, number) for number in range(40))
 
 
@@ -62,7 +54,6 @@ def live_scripts() -> Iterator[bytes]:
     """Inputs of `live`."""
     yield from examples("live-*.distac")
     yield from examples("rows/live*/*.distac")
-    yield from (row.config + PARTED + "\n".join(worked.whole(row.script)).encode() for row in worked.LIVE_ROWS)
     yield from (random_live.random_live(1, number) for number in range(25))
 
 
