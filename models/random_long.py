@@ -40,7 +40,6 @@ def names(letter: bytes, count: int, end: bytes = b"") -> list[bytes]:
 
 
 def in_order(random: Random, pairs: Sequence[Pair]) -> list[Pair]:
-    """The pairs in one of the orders."""
     order = random.choice(ORDERS)
     return random.sample(pairs, len(pairs)) if order == "mixed" else sorted(pairs, reverse=order == "falling")
 
@@ -214,7 +213,6 @@ class Keys:
         self.givers = self.maker.nodes[: random.choice((1, 2))]
 
     def give(self, verb: bytes, pairs: Sequence[Pair]) -> None:
-        """A line for each pair."""
         for app, node in pairs:
             truth = [self.random.choice((b"true", b"false"))] if verb == b"permit" else []
             words = (self.random.choice(self.givers), self.maker.apps[app], self.maker.nodes[node])
@@ -282,7 +280,6 @@ MAKERS: dict[str, Callable[[Random], bytes]] = {"still": still, "reboots": reboo
 
 
 def random_long(kind: str, seed: int, number: int) -> bytes:
-    """The input of a kind and a number under a seed."""
     return MAKERS[kind](Random(f"{kind} {seed} {number}"))
 
 

@@ -30,7 +30,6 @@ def row_of(path: Path, name: str, status: int, command: str) -> Row:
 
 
 def rows(top: Path, command: str) -> Iterator[Row]:
-    """The rows of a command."""
     for folder, status in FOLDERS[command].items():
         for path in sorted((top / "examples" / "rows" / folder).glob("*.config" if command == CHECK else "*.distac")):
             yield row_of(path, f"{folder}/{path.stem}", status, command)

@@ -36,7 +36,6 @@ def examples(pattern: str) -> Iterator[bytes]:
 
 
 def texts() -> Iterator[bytes]:
-    """Configurations."""
     yield from examples("*.config")
     yield from examples("rows/check*/*.config")
     yield from (text for text, _ in worked.TEXTS)
@@ -51,14 +50,12 @@ def scripts() -> Iterator[bytes]:
 
 
 def live_scripts() -> Iterator[bytes]:
-    """Inputs of `live`."""
     yield from examples("live-*.distac")
     yield from examples("rows/live*/*.distac")
     yield from (random_live.random_live(1, number) for number in range(25))
 
 
 def fed_in(source: bytes) -> Iterator[bytes]:
-    """The bytes fed by a script."""
     for digits in re.findall(rb"^feed ((?:[0-9a-f]{2})+)$", source, re.MULTILINE):
         yield bytes.fromhex(digits.decode())
 

@@ -98,7 +98,6 @@ Packet = Union[Message, Operation]
 
 
 def u(size: int, number: int) -> bytes:
-    """A number in so many bytes."""
     return number.to_bytes(size, "big")
 
 
@@ -118,11 +117,9 @@ class Writer:
         return u(1, origin.node) + self.inc(origin.inc)
 
     def dot(self, dot: Dot) -> bytes:
-        """A dot."""
         return self.origin(dot.origin) + u(8, dot.n)
 
     def key(self, key: Key) -> bytes:
-        """A key."""
         return u(2, key.app) + u(1, key.node) + self.inc(key.inc)
 
     def context(self, rows: Rows) -> bytes:
@@ -130,7 +127,6 @@ class Writer:
         return u(2, len(rows)) + b"".join(self.row(origin, *rows[origin]) for origin in sorted(rows))
 
     def row(self, origin: Origin, unbroken: int, further: list[int]) -> bytes:
-        """The dots of one origin."""
         return self.origin(origin) + u(8, unbroken) + u(4, len(further)) + b"".join(u(8, n) for n in further)
 
     def votes(self, about: bytes, values: dict[Dot, bool]) -> bytes:
@@ -138,11 +134,9 @@ class Writer:
         return about + u(4, len(values)) + b"".join(self.dot(dot) + u(1, values[dot]) for dot in sorted(values))
 
     def starts(self, key: Key, dots: set[Dot]) -> bytes:
-        """The standing starts of a key."""
         return self.key(key) + u(4, len(dots)) + b"".join(map(self.dot, sorted(dots)))
 
     def life(self, node: int, life: Life) -> bytes:
-        """The life of a node."""
         return u(1, node) + self.inc(life.inc) + u(1, life.is_down)
 
     def claim(self, app: int, claim: Claim) -> bytes:
@@ -150,7 +144,6 @@ class Writer:
         return u(2, app) + u(8, claim.term) + self.origin(claim.origin) + u(1, claim.how) + u(1, claim.source + 1)
 
     def state(self, state: SpelledState) -> bytes:
-        """A state."""
         parts = [self.context(state.heard), self.context(state.known), u(4, len(state.permits))]
         parts += [self.votes(self.key(key), state.permits[key]) for key in sorted(state.permits)]
         parts.append(u(4, len(state.starts)))
@@ -165,18 +158,15 @@ class Writer:
         return b"".join(parts)
 
     def head(self, config: Config, kind: int) -> bytes:
-        """The head of every packet."""
         return MAGIC + u(1, self.version) + u(8, config.mark) + u(1, kind)
 
     def message(self, config: Config, message: Message) -> bytes:
-        """A message."""
         ack = b"\0" if message.ack is None else b"\1" + self.origin(message.ack[0]) + u(8, message.ack[1])
         found = self.head(config, message.kind) + self.origin(message.sender) + u(1, message.to)
         found += self.inc(message.only) + u(8, message.up_to) + ack
         return found if message.body is None else found + self.state(message.body)
 
     def operation(self, config: Config, operation: Operation) -> bytes:
-        """A single operation."""
         act = operation.act
         found = self.head(config, SINGLE) + self.dot(operation.dot) + u(1, ACT_CODES[type(act)])
         if isinstance(act, Up):
@@ -191,7 +181,6 @@ class Writer:
 
 
 def state_bytes(state: Meaning, version: int = SECOND) -> bytes:
-    """A state."""
     return Writer(version).state(SpelledState.of(state))
 
 
@@ -235,15 +224,12 @@ class Fields:
         return self.number(size, 0, past - 1, "BadName")
 
     def node(self) -> int:
-        """A node."""
         return self.name(1, len(self.config.nodes))
 
     def app(self) -> int:
-        """An application."""
         return self.name(2, len(self.config.apps))
 
     def inc(self) -> int:
-        """An incarnation."""
         return self.number(INC_SIZES[self.version], 1, MOST_INCS[self.version])
 
     def only(self, kind: int) -> int:
@@ -251,7 +237,6 @@ class Fields:
         return self.number(INC_SIZES[self.version], 0, 0) if kind == WHOLE else self.inc()
 
     def truth(self) -> bool:
-        """A boolean."""
         return bool(self.number(1, 0, 1))
 
     def origin(self) -> Origin:
@@ -259,7 +244,6 @@ class Fields:
         return Origin(self.node(), self.inc())
 
     def dot(self) -> Dot:
-        """A dot."""
         origin = self.origin()
         return Dot(origin.node, origin.inc, self.number(8, 1, MOST_NUMBER))
 
@@ -269,7 +253,6 @@ class Fields:
             raise WireFault("NotInList", at)
 
     def key(self) -> Key:
-        """A key."""
         at = self.at
         key = Key(self.app(), self.node(), self.inc())
         self.listed(key.app, key.node, at)
@@ -284,7 +267,6 @@ class Fields:
         return how, source - 1
 
     def end(self) -> None:
-        """The end of the bytes."""
         if self.at < len(self.data):
             raise WireFault("Trailing", self.at)
 
@@ -372,7 +354,6 @@ def read_standing(fields: Fields, known: Rows, has_value: bool) -> dict[Dot, boo
 
 
 def read_lives(fields: Fields) -> dict[int, Life]:
-    """The lives of all nodes."""
     lives: dict[int, Life] = {}
     last = None
     for _ in range(fields.count(1)):
@@ -451,7 +432,6 @@ def read_act(fields: Fields, dot: Dot) -> Act:
 
 
 def read_claim(fields: Fields, dot: Dot) -> ClaimAct:
-    """The claim of an operation."""
     at = fields.at
     app, term = fields.app(), fields.number(8, 1, MOST_NUMBER)
     how, source = fields.how_and_source()
@@ -468,7 +448,6 @@ def is_operation(operation: Operation) -> bool:
 
 
 def read_operation(fields: Fields) -> Operation:
-    """A single operation."""
     at = fields.at
     dot = fields.dot()
     operation = Operation(dot, read_act(fields, dot))
@@ -478,7 +457,6 @@ def read_operation(fields: Fields) -> Operation:
 
 
 def read_message(fields: Fields, kind: int) -> Message:
-    """A message of a kind."""
     sender, to, only = fields.origin(), fields.node(), fields.only(kind)
     up_to = fields.number(8, 0, MOST_NUMBER)
     ack = (fields.origin(), fields.number(8, 0, MOST_NUMBER)) if fields.truth() else None

@@ -40,7 +40,6 @@ Faulty = Tuple[str, bytes, Fault]
 
 
 def fault_of(read: Callable[[], object]) -> Fault | None:
-    """The fault of a reading."""
     try:
         read()
     except WireFault as fault:
@@ -49,7 +48,6 @@ def fault_of(read: Callable[[], object]) -> Fault | None:
 
 
 def faults_agree(of: str, read: Callable[[bytes], object], faulty: Iterable[Faulty]) -> Iterator[Check]:
-    """Checks of the faults of some bytes."""
     for name, data, expected in faulty:
         yield f"{of}, {name}", fault_of(partial(read, data)) == expected
 
@@ -60,7 +58,6 @@ def with_byte(data: bytes, at: int, byte: int) -> bytes:
 
 
 def script_under(config: bytes, *lines: str) -> bytes:
-    """A script under a configuration."""
     return config + b"--\n" + "".join(f"{line}\n" for line in lines).encode()
 
 

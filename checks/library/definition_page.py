@@ -107,7 +107,6 @@ def said_of(one: Definition, module: Module) -> str:
 
 
 def rows_of(module: Module, chosen: Set[Definition], sources: DefinitionSources) -> Iterator[Row]:
-    """The rows of a module."""
     for group in groups_of(module, chosen):
         shown = tuple(one for one in group if one in chosen)
         source = next((sources.of(one) for one in shown if sources.of(one)), "")
@@ -141,7 +140,6 @@ class Page:
         self.chosen = chosen_of(modules, sources, resting)
 
     def lines(self) -> Iterator[str]:
-        """The whole page."""
         yield from (*INTRODUCTION.strip().replace("COUNTS", self.counts()).split("\n"), "", *NAMES.strip().split("\n"))
         for layer, crates in self.modules.crates.layers.items():
             parts = [line for crate in crates for line in self._of_crate(crate)]
