@@ -38,6 +38,7 @@ from arguments import at_least
 from kinds import Kinds
 from mutations import Mutation, mutations_of
 from row_files import LIVE, SIM, TOP, Row, all_rows
+from streams import printed
 
 MODELS = Path(__file__).resolve().parent
 REASONS = MODELS / "unseen.txt"
@@ -247,4 +248,4 @@ def main() -> int:
 
 
 if __name__ == "__main__":
-    sys.exit(main())
+    sys.exit(printed("mutated.py", main))

@@ -41,6 +41,7 @@ from check import Config, read_config, spelled
 from live import CALLER, CALLER_SHAPES, MOST_NODES, READ, Asked, LiveReader, Run, Thread, asked_in, run_live
 from random_scripts import ODD_WORDS, PlayingMaker, decorated, odd_input, some_config, weighted, with_fault
 from simulator import ACTOR, APP, NODE, NUMBER, TRUTH, VERB, ScriptFault, read_lines
+from streams import printed, written
 from world import World
 
 Who = Tuple[int, int]
@@ -559,9 +560,8 @@ def main() -> int:
     words = parser.parse_args()
     if words.shuffles:
         return 1 if play_shuffled(words.seed, words.number, words.shuffles) else 0
-    sys.stdout.buffer.write(random_live(words.seed, words.number))
-    return 0
+    return written("random_live.py", random_live(words.seed, words.number), 0)
 
 
 if __name__ == "__main__":
-    sys.exit(main())
+    sys.exit(printed("random_live.py", main))

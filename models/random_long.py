@@ -19,6 +19,7 @@ from typing import Tuple
 from check import read_config
 from meaning import Dot, Key, Origin
 from random_scripts import decorated
+from streams import print_input
 from wire import SECOND, WHOLE, Message, Writer, packet_bytes, u
 
 Pair = Tuple[int, int]
@@ -284,4 +285,4 @@ def random_long(kind: str, seed: int, number: int) -> bytes:
 
 
 if __name__ == "__main__":
-    sys.stdout.buffer.write(random_long(sys.argv[1], int(sys.argv[2]), int(sys.argv[3])))
+    sys.exit(print_input("random_long.py", random_long, MAKERS))

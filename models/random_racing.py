@@ -20,6 +20,7 @@ from check import read_config
 from live import MOST_NODES
 from random_live import merged
 from random_scripts import Maker, decorated, some_config, weighted
+from streams import print_input
 from world import World
 
 MOST_LINES = 6
@@ -78,4 +79,4 @@ def random_racing(seed: int, number: int) -> bytes:
 
 
 if __name__ == "__main__":
-    sys.stdout.buffer.write(random_racing(int(sys.argv[1]), int(sys.argv[2])))
+    sys.exit(print_input("random_racing.py", random_racing))

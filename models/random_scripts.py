@@ -17,6 +17,7 @@ from check import MOST_INPUT, Config, ConfigFault, read_config, spelled
 from random_packets import changed_bytes, random_packet
 from random_texts import random_text
 from simulator import LineReader, Player
+from streams import print_input
 from world import World
 
 CONFIGS = (
@@ -563,4 +564,4 @@ def random_packets(seed: int, number: int) -> bytes:
 
 
 if __name__ == "__main__":
-    sys.stdout.buffer.write(random_script(int(sys.argv[1]), int(sys.argv[2])))
+    sys.exit(print_input("random_scripts.py", random_script))

@@ -13,6 +13,8 @@ from collections.abc import Callable
 from random import Random
 from typing import List
 
+from streams import print_input
+
 Tokens = List[bytes]
 
 NODES = (b"c1@h", b"c2@h", b"c3@h", b"a@b", b"b@h", b"'n-1@h.example'", b"'N'", b"''", b"'fun'", b"z9@Z_", b"'c1@h'")
@@ -344,4 +346,4 @@ def random_text(seed: int, number: int) -> bytes:
 
 
 if __name__ == "__main__":
-    sys.stdout.buffer.write(random_text(int(sys.argv[1]), int(sys.argv[2])))
+    sys.exit(print_input("random_texts.py", random_text))

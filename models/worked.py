@@ -20,6 +20,7 @@ from racing import fault_of_run
 from random_live import outputs
 from row_files import CHECK, FOLDERS, LIVE, SIM, TOP, rows
 from simulator import simulate
+from streams import printed
 from wire import FIRST, MAGIC, SECOND, WireFault, Writer, is_operation, packet_bytes, read_packet, read_state, rows_of
 from wire import state_bytes
 from world import World
@@ -496,4 +497,4 @@ def main() -> int:
 
 
 if __name__ == "__main__":
-    sys.exit(main())
+    sys.exit(printed("worked.py", main))
