@@ -1,5 +1,4 @@
-"""The rows of `distac check`, `sim` and `live` in examples/rows, and the scripts among the examples: each an input, its
-output and its status."""
+"""The rows of each command in examples/rows, and the examples: each an input, its output and its status."""
 
 from __future__ import annotations
 
@@ -8,9 +7,9 @@ from dataclasses import dataclass
 from pathlib import Path
 
 TOP = Path(__file__).resolve().parent.parent
-CHECK, SIM, LIVE = "check", "sim", "live"
+CHECK, SIM, LIVE, RECORD = "check", "sim", "live", "record"
 # The folders of rows for each command, with the status of their rows.
-FOLDERS = {command: {command: 0, f"{command}-faults": 1} for command in (CHECK, SIM, LIVE)}
+FOLDERS = {command: {command: 0, f"{command}-faults": 1} for command in (CHECK, SIM, LIVE, RECORD)}
 
 
 @dataclass(frozen=True)
@@ -24,6 +23,11 @@ class Row:
     command: str = SIM
 
 
+def inputs_in(folder: Path, command: str) -> list[Path]:
+    """The inputs for a command in a folder."""
+    return sorted(folder.glob("*.config" if command == CHECK else "*.distac"))
+
+
 def row_of(path: Path, name: str, status: int, command: str) -> Row:
     """The row of an input, whose output is stored next to it."""
     return Row(name, path.read_bytes(), path.with_suffix(".out").read_bytes(), status, command)
@@ -31,13 +35,13 @@ def row_of(path: Path, name: str, status: int, command: str) -> Row:
 
 def rows(top: Path, command: str) -> Iterator[Row]:
     for folder, status in FOLDERS[command].items():
-        for path in sorted((top / "examples" / "rows" / folder).glob("*.config" if command == CHECK else "*.distac")):
+        for path in inputs_in(top / "examples" / "rows" / folder, command):
             yield row_of(path, f"{folder}/{path.stem}", status, command)
 
 
 def examples(top: Path, command: str) -> Iterator[Row]:
-    """The examples of `sim` or `live`."""
-    for path in sorted((top / "examples").glob("*.distac")):
+    """The examples of `check`, `sim` or `live`."""
+    for path in inputs_in(top / "examples", command):
         if path.name.startswith("live-") == (command == LIVE):
             yield row_of(path, path.stem, 0, command)
 

@@ -8,15 +8,14 @@ from __future__ import annotations
 
 import re
 from collections.abc import Callable, Iterator
-from pathlib import Path
 
 import random_live
 import random_scripts
 import random_texts
 import worked
 from check import read_config
+from row_files import CHECK, LIVE, SIM, TOP, examples, rows
 
-TOP = Path(__file__).resolve().parent.parent
 FORMATS = TOP / "docs" / "FORMATS.md"
 PARTED = b"--\n"
 # Longer inputs make a fuzzer slow.
@@ -29,29 +28,25 @@ MARK = read_config(PACKETS_UNDER).mark.to_bytes(8, "big")
 # Inputs
 
 
-def examples(pattern: str) -> Iterator[bytes]:
-    """The examples with these names."""
-    for path in sorted(TOP.glob(f"examples/{pattern}")):
-        yield path.read_bytes()
+def played(command: str) -> Iterator[bytes]:
+    """The examples and rows of a command."""
+    return (row.source for read in (examples, rows) for row in read(TOP, command))
 
 
 def texts() -> Iterator[bytes]:
-    yield from examples("*.config")
-    yield from examples("rows/check*/*.config")
+    yield from played(CHECK)
     yield from (text for text, _ in worked.TEXTS)
     yield from (random_texts.random_text(1, number) for number in range(40))
 
 
 def scripts() -> Iterator[bytes]:
     """Inputs of `sim`."""
-    yield from (source for source in examples("*.distac") if b"\nphase" not in source)
-    yield from examples("rows/sim/*.distac")
+    yield from played(SIM)
     yield from (random_scripts.random_script(1, number) for number in range(40))
 
 
 def live_scripts() -> Iterator[bytes]:
-    yield from examples("live-*.distac")
-    yield from examples("rows/live*/*.distac")
+    yield from played(LIVE)
     yield from (random_live.random_live(1, number) for number in range(25))
 
 

@@ -18,7 +18,7 @@ from meaning import NORMAL, Claim, ClaimAct, Dot, Down, Drain, Key, Meaning, Ope
 from placement import load, verdict
 from racing import fault_of_run
 from random_live import outputs
-from row_files import CHECK, FOLDERS, LIVE, SIM, TOP, rows
+from row_files import CHECK, LIVE, SIM, TOP, rows
 from simulator import simulate
 from streams import printed
 from wire import FIRST, MAGIC, SECOND, WireFault, Writer, is_operation, packet_bytes, read_packet, read_state, rows_of
@@ -71,7 +71,7 @@ ORDERS = 20
 def row_checks() -> Iterator[Check]:
     """The rows of examples/rows, those of `live` in some orders of their threads."""
     models: dict[str, Callable[[bytes], tuple[bytes, int]]] = {CHECK: check, SIM: simulate, LIVE: run_live}
-    for row in (row for command in FOLDERS for row in rows(TOP, command)):
+    for row in (row for command in models for row in rows(TOP, command)):
         holds = models[row.command](row.source) == (row.output, row.status)
         is_racing = row.command == LIVE and not row.status
         yield row.name, holds and (not is_racing or outputs(row.source, ORDERS, 1) == {row.output})
