@@ -5,7 +5,7 @@ There are two versions. The second has drains, and incarnations of eight bytes i
 
 from __future__ import annotations
 
-from collections.abc import Callable
+from collections.abc import Callable, Iterator
 from dataclasses import dataclass
 from typing import Dict, List, Tuple, TypeVar, Union
 
@@ -195,6 +195,9 @@ def packet_bytes(config: Config, packet: Packet, version: int = SECOND) -> bytes
 
 # Reading
 
+# What stands in ascending order.
+K = TypeVar("K", int, Dot, Key, Origin)
+
 
 class Fields:
     """Reads the fields of a version in turn. Positions count from the very first byte."""
@@ -266,44 +269,30 @@ class Fields:
             raise WireFault("BadNumber", self.at - 1)
         return how, source - 1
 
+    def ascending(self, count: int, read: Callable[[], K], last: K | None = None) -> Iterator[K]:
+        """So many items, each above the one before it. What belongs to an item is read before the next one."""
+        for _ in range(count):
+            at = self.at
+            item = read()
+            if last is not None and not last < item:
+                raise WireFault("BadOrder", at)
+            last = item
+            yield item
+
     def end(self) -> None:
         if self.at < len(self.data):
             raise WireFault("Trailing", self.at)
 
 
-K = TypeVar("K", Key, Origin)
-
-
-def above(found: object, last: object | None, at: int) -> None:
-    """Refuses an item that isn't above the previous one."""
-    if last is not None and not last < found:  # type: ignore[operator]
-        raise WireFault("BadOrder", at)
-
-
 def read_context(fields: Fields) -> Rows:
     """The written form of a set of dots: for each origin the length of its unbroken run, and its further counters."""
     rows: Rows = {}
-    last = None
-    for _ in range(fields.count(2)):
-        at = fields.at
-        origin = fields.origin()
-        above(origin, last, at)
-        last = origin
+    for origin in fields.ascending(fields.count(2), fields.origin):
         unbroken = fields.number(8, 0, MOST_NUMBER)
         count = fields.number(4, 0 if unbroken else 1, 2**32 - 1)
-        rows[origin] = (unbroken, read_further(fields, unbroken, count))
+        further = fields.ascending(count, lambda: fields.number(8, 1, MOST_NUMBER), unbroken + 1)
+        rows[origin] = (unbroken, list(further))
     return rows
-
-
-def read_further(fields: Fields, unbroken: int, count: int) -> list[int]:
-    """An origin's counters after the first gap."""
-    further: list[int] = []
-    for _ in range(count):
-        at = fields.at
-        counter = fields.number(8, 1, MOST_NUMBER)
-        above(counter, further[-1] if further else unbroken + 1, at)
-        further.append(counter)
-    return further
 
 
 def has_dot(rows: Rows, dot: Dot) -> bool:
@@ -327,48 +316,22 @@ def is_within(rows: Rows, others: Rows) -> bool:
 
 def read_stores(fields: Fields, read: Callable[[], K], known: Rows, has_value: bool) -> dict[K, dict[Dot, bool]]:
     """The store of each key, or of each node's incarnation: permits or drains with their values, or starts."""
-    stores: dict[K, dict[Dot, bool]] = {}
-    last = None
-    for _ in range(fields.count(4)):
-        at = fields.at
-        about = read()
-        above(about, last, at)
-        last = about
-        stores[about] = read_standing(fields, known, has_value)
-    return stores
+    return {about: read_standing(fields, known, has_value) for about in fields.ascending(fields.count(4), read)}
 
 
 def read_standing(fields: Fields, known: Rows, has_value: bool) -> dict[Dot, bool]:
     """The standing dots of one key, or of one incarnation."""
     standing: dict[Dot, bool] = {}
-    last = None
-    for _ in range(fields.number(4, 1, 2**32 - 1)):
-        at = fields.at
-        dot = fields.dot()
-        above(dot, last, at)
-        last = dot
+    for dot in fields.ascending(fields.number(4, 1, 2**32 - 1), fields.dot):
         if not has_dot(known, dot):
-            raise WireFault("NotKnown", at)
+            raise WireFault("NotKnown", fields.at - len(Writer(fields.version).dot(dot)))
         standing[dot] = fields.truth() if has_value else True
     return standing
-
-
-def read_lives(fields: Fields) -> dict[int, Life]:
-    lives: dict[int, Life] = {}
-    last = None
-    for _ in range(fields.count(1)):
-        at = fields.at
-        node = fields.node()
-        above(node, last, at)
-        last = node
-        lives[node] = Life(fields.inc(), fields.truth())
-    return lives
 
 
 def read_claims(fields: Fields) -> dict[int, Claim]:
     """The greatest claims of all applications."""
     claims: dict[int, Claim] = {}
-    last = None
     for _ in range(fields.count(2)):
         at = fields.at
         app = fields.app()
@@ -376,8 +339,8 @@ def read_claims(fields: Fields) -> dict[int, Claim]:
         origin = fields.origin()
         how, source = fields.how_and_source()
         fields.listed(app, origin.node, at)
-        above(app, last, at)
-        last = app
+        if claims and app <= max(claims):
+            raise WireFault("BadOrder", at)
         claims[app] = Claim(term, origin.node, origin.inc, how, source)
     return claims
 
@@ -390,7 +353,8 @@ def read_parts(fields: Fields) -> SpelledState:
         raise WireFault("NotKnown", fields.at)
     permits = read_stores(fields, fields.key, known, True)
     starts = {key: set(dots) for key, dots in read_stores(fields, fields.key, known, False).items()}
-    lives, claims = read_lives(fields), read_claims(fields)
+    lives = {node: Life(fields.inc(), fields.truth()) for node in fields.ascending(fields.count(1), fields.node)}
+    claims = read_claims(fields)
     drains = read_stores(fields, fields.origin, known, True) if fields.version >= SECOND else {}
     return SpelledState(heard, known, permits, starts, lives, claims, drains)
 
@@ -405,13 +369,7 @@ def read_state(config: Config, data: bytes, version: int = SECOND) -> SpelledSta
 
 def read_over(fields: Fields) -> tuple[Dot, ...]:
     """The dots replaced by an operation."""
-    over: list[Dot] = []
-    for _ in range(fields.count(2)):
-        at = fields.at
-        dot = fields.dot()
-        above(dot, over[-1] if over else None, at)
-        over.append(dot)
-    return tuple(over)
+    return tuple(fields.ascending(fields.count(2), fields.dot))
 
 
 def read_act(fields: Fields, dot: Dot) -> Act:
