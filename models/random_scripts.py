@@ -345,14 +345,14 @@ def very_many_standing_dots(maker: ScriptMaker) -> None:
 def standing(maker: ScriptMaker, count: int) -> None:
     """So many standing starts of one key, or drains of one node, and a line that replaces them."""
     first, other = maker.name_of(maker.nodes[0]), maker.name_of(maker.nodes[-1])
-    app = next((spelled(app.name) for app in maker.apps if app.group_of(maker.nodes[0]) is not None), None)
-    if app is None or first == other:
+    apps = [spelled(app.name) for app in maker.apps if app.group_of(maker.nodes[0]) is not None]
+    if not apps or first == other:
         usual(maker)
         return
     is_drain = maker.random.random() < 0.5
 
     def say(node: bytes, verb: bytes) -> None:
-        maker.add(*((b"drain", node, first, maker.truth()) if is_drain else (verb, node, app, first)))
+        maker.add(*((b"drain", node, first, maker.truth()) if is_drain else (verb, node, apps[0], first)))
 
     maker.add(b"boot", first, b"0")
     said = []
@@ -513,7 +513,7 @@ def odd_input(random: Random, text: bytes, script: bytes) -> bytes:
 
 def some_config(random: Random, seed: int, number: int, is_chosen: Callable[[Config], bool]) -> bytes:
     """A configuration to play with: one of those above, or any small valid one that is chosen."""
-    for other in range(40) if random.random() < 0.3 else ():
+    for other in range(40 if random.random() < 0.3 else 0):
         text = random_text(seed, -1 - number * 40 - other)
         try:
             config = read_config(text)

@@ -6,7 +6,6 @@ import argparse
 import io
 import os
 import sys
-from functools import partial
 from typing import Callable, Collection
 
 UNREAD = b"input fault 3 Read\n"
@@ -33,7 +32,8 @@ def print_input(name: str, make: Callable[..., bytes], kinds: Collection[str] = 
     parser.add_argument("seed", type=int)
     parser.add_argument("number", type=int)
     words = parser.parse_args()
-    return written(name, (partial(make, words.kind) if kinds else make)(words.seed, words.number), 0)
+    kind = [words.kind] if kinds else []
+    return written(name, make(*kind, words.seed, words.number), 0)
 
 
 def written(name: str, output: bytes, status: int) -> int:
