@@ -5,6 +5,7 @@ from __future__ import annotations
 import ast
 import re
 import unittest
+from collections import Counter
 from itertools import permutations
 from pathlib import Path
 from typing import Iterator
@@ -70,8 +71,9 @@ class Modules(unittest.TestCase):
         scripts = [path for path in (TOP / "checks").iterdir() if path.is_file() and path.suffix != ".py"]
         for path in (*MODULES.values(), *sorted(others), *sorted(scripts)):
             text = path.read_text("utf-8")
+            words = Counter(re.findall(r"\w+", text))
             for name in names_bound(ast.parse(text)):
-                self.assertGreater(len(re.findall(rf"\b{re.escape(name)}\b", text)), 1, f"{path.name} imports {name}")
+                self.assertGreater(words[name], 1, f"{path.name} imports {name}")
 
 
 if __name__ == "__main__":
