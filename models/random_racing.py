@@ -24,8 +24,8 @@ from streams import print_input
 from world import World
 
 MOST_LINES = 6
-CROWD = weighted("permit 6 start 8 stop 4 drain 5 takeover 6 tick 6 read 5 down 1")
-GOING = weighted("crash 4 boot 6 down 3 start 5 permit 2 stop 1 drain 2 takeover 2 tick 3 read 4")
+CROWD = weighted("permit 6 start 8 stop 4 drain 5 takeover 7 tick 6 read 5 down 1")
+GOING = weighted("crash 4 boot 6 down 2 start 5 permit 2 stop 1 drain 2 takeover 2 tick 3 read 4")
 CLAIMS = weighted("tick 9 takeover 8 start 5 stop 3 permit 3 drain 4 read 2")
 PROFILES = (CROWD, CROWD, CLAIMS, CLAIMS, GOING)
 

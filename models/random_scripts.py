@@ -68,7 +68,7 @@ class Maker:
 
     # The steps from moment to moment, and how far one can fall back behind the last one.
     STEPS: tuple[int, ...] = (0, 0, 1, 3, 7, 10, 100, 999, 1000, 4999, 5000)
-    BACKS: tuple[int, ...] = (0,) * 48 + (1, 100)
+    BACKS: tuple[int, ...] = (0,) * 46 + (1, 1, 100, 100)
 
     def __init__(self, random: Random, config: Config) -> None:
         self.random = random
