@@ -7,7 +7,7 @@ from dataclasses import dataclass
 
 @dataclass(frozen=True)
 class Note:
-    """A sentence below an answer, with a name that later versions keep, listed in docs/FORMATS.md."""
+    """A sentence below an answer, with a name that later versions keep, listed in docs/json-fields.txt."""
 
     id: str
     text: str

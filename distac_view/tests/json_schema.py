@@ -1,5 +1,5 @@
 #!/usr/bin/env python3
-"""The JSON Schema of all answers, from the tables of docs/FORMATS.md, and a validator for its keywords.
+"""The JSON Schema of all answers, from the tables docs/json-fields.txt, and a validator for its keywords.
 
 python3 distac_view/tests/json_schema.py --write     rewrites docs/distac-view.schema.json
 
@@ -16,8 +16,7 @@ from pathlib import Path
 from typing import Any, Dict, Iterator, List
 
 DOCS = Path(__file__).resolve().parents[2] / "docs"
-FORMATS, SCHEMA = DOCS / "FORMATS.md", DOCS / "distac-view.schema.json"
-HEADING = "## Answers of `distac-view` as JSON\n"
+FIELDS, SCHEMA = DOCS / "json-fields.txt", DOCS / "distac-view.schema.json"
 FIELD = re.compile(r"^\|(?P<objects>[\w, -]*)\| `(?P<field>\w+)` \| (?P<value>[^|]+?) \| (?P<meaning>[^|]+?) \|$", re.MULTILINE)
 NOTE_ID = re.compile(r"^\| `(?P<id>[A-Z]\w+)` \| ", re.MULTILINE)
 KINDS = {"name": "string", "text": "string", "number": "integer", "null": "null"}
@@ -26,20 +25,12 @@ TYPES = {"string": str, "integer": int, "boolean": bool, "array": list, "object"
 Rule = Dict[str, Any]
 
 
-def section() -> str:
-    """The part of docs/FORMATS.md that describes answers."""
-    text = FORMATS.read_text(encoding="utf-8")
-    start = text.index(HEADING) + len(HEADING)
-    end = text.find("\n## ", start)
-    return text[start : None if end < 0 else end]
-
-
 def described() -> Rule:
     """The schema of the documented tables: each object has fields, and each field a value of a kind.
 
     A row can name several objects; one that names none belongs to those above it.
     """
-    text = section()
+    text = FIELDS.read_text(encoding="utf-8")
     objects: List[str] = []
     fields: "Dict[str, Dict[str, tuple[str, str]]]" = {}
     for found in FIELD.finditer(text):
@@ -115,7 +106,7 @@ class Schema:
 
 
 def documented() -> Schema:
-    """The schema stored next to docs/FORMATS.md."""
+    """The stored schema."""
     return Schema(json.loads(SCHEMA.read_text(encoding="utf-8")))
 
 
