@@ -248,7 +248,6 @@ class Reader:
             self.parted(closing, item)
 
     def file(self) -> None:
-        """The whole text."""
         self.want("[")
         self.parted_or_none("]", self.section)
         self.want("stop")
@@ -298,7 +297,6 @@ class Reader:
         self.want("}")
 
     def name(self) -> Token:
-        """A name."""
         token = self.want("atom")
         if len(token.value) > MOST_NAME:
             raise ConfigFault("NameTooLong", token.at)
@@ -315,7 +313,6 @@ class Reader:
         return token.value
 
     def milliseconds(self) -> int:
-        """A number."""
         token = self.want("number")
         digits = token.value.lstrip(b"-").lstrip(b"0") or b"0"
         if token.value[:1] == b"-" and digits != b"0":
@@ -367,7 +364,6 @@ class Reader:
         self.parted("}", member)
 
     def permission(self) -> None:
-        """A permission of an application."""
         self.want("{")
         name = self.name()
         self.want(",")
@@ -388,7 +384,6 @@ class Reader:
             self.draft.sync_timeout = self.milliseconds()
 
     def term(self) -> None:
-        """A skipped term."""
         if self.peek().kind not in ("atom", "number", "string", "[", "{"):
             raise ConfigFault("BadShape", self.peek().at)
         token = self.take()
@@ -448,7 +443,6 @@ class Config:
         return b"[{kernel,[%s]}].\n" % b",".join(parts)
 
     def entry_text(self, app: App) -> bytes:
-        """The text of an application."""
         groups = [
             self.names_text(group) if len(group) == 1 else b"{%s}" % self.names_text(group) for group in app.groups
         ]
@@ -473,7 +467,6 @@ def spelled(name: bytes) -> bytes:
 
 
 def config_of(draft: Draft) -> Config:
-    """The configuration of a draft."""
     nodes = tuple(sorted(draft.nodes))
     number = {name: place for place, name in enumerate(nodes)}
     permissions: dict[bytes, bool] = {}

@@ -39,7 +39,6 @@ def source_of(command: str, found: bytes) -> bytes:
 
 @lru_cache(None)
 def kept(command: str) -> tuple[bytes, ...]:
-    """The kept inputs."""
     path = FOLDER / f"{command}.txt"
     return tuple(map(bytes.fromhex, path.read_text().split())) if path.exists() else ()
 

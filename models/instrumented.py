@@ -44,8 +44,8 @@ def made(path: Path, than: float, words: list[str], source: bytes = b"") -> Path
     """A file newer than its sources: the kept one, or one that a command now makes."""
     if path.exists() and path.stat().st_mtime >= than:
         return path
-    print(f"compiling {path.name}", file=sys.stderr, flush=True)
     with tempfile.TemporaryDirectory(dir=folders.own(KEPT)) as room:
+        print(f"compiling {path.name}", file=sys.stderr, flush=True)
         ran = processes.run([*words, str(path), room], source=source, is_joined=True)
     if ran.status:
         sys.exit(f"{path.name} wasn't compiled: {ran.output.decode(errors='replace')}")

@@ -125,7 +125,6 @@ class Reading:
         return self.kinds.classes.get(kind.name, {}) if kind is not None else {}
 
     def of(self, node: ast.AST) -> Optional[Kind]:
-        """The kind of an expression."""
         if isinstance(node, ast.Name):
             return self.of_name(node)
         if isinstance(node, ast.Attribute):

@@ -49,13 +49,11 @@ class LiveReader(LineReader):
         return (CALLER, VERB, *CALLER_SHAPES[words[1]]) if words[1] in CALLER_SHAPES else None
 
     def fault_of_word(self, kind: str, word: bytes) -> str | None:
-        """The fault of a word."""
         if kind == CALLER:
             return None if word in CALLERS else "BadNumber"
         return super().fault_of_word(kind, word)
 
     def value_of(self, kind: str, word: bytes) -> int | bool | bytes:
-        """The value of a correct word."""
         return int(word) if kind == CALLER else super().value_of(kind, word)
 
 
@@ -69,7 +67,6 @@ class Asked:
 
     @property
     def node(self) -> int:
-        """Its node."""
         return int(self.values[0])
 
 

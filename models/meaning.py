@@ -26,7 +26,6 @@ class Dot(NamedTuple):
 
     @property
     def origin(self) -> Origin:
-        """Its issuer."""
         return Origin(self.node, self.inc)
 
 
@@ -56,7 +55,6 @@ class Claim(NamedTuple):
 
     @property
     def origin(self) -> Origin:
-        """Its claimant."""
         return Origin(self.node, self.inc)
 
 
@@ -151,11 +149,9 @@ class Meaning:
         return None if life is None or life.is_down else life.inc
 
     def standing_permits(self, key: Key) -> tuple[Dot, ...]:
-        """The standing permits of a key."""
         return tuple(sorted(self.permits.get(key, ())))
 
     def standing_starts(self, key: Key) -> tuple[Dot, ...]:
-        """The standing starts of a key."""
         return tuple(sorted(self.starts.get(key, ())))
 
     def standing_drains(self, about: Origin) -> tuple[Dot, ...]:
@@ -164,7 +160,6 @@ class Meaning:
 
 
 def meaning_of(operations: Iterable[Operation]) -> Meaning:
-    """The meaning of a set of operations."""
     listed = list(operations)
     found = Meaning()
     found.heard = {operation.dot for operation in listed}

@@ -38,6 +38,7 @@ from arguments import at_least
 from kinds import Kinds
 from mutations import Mutation, mutations_of
 from row_files import LIVE, SIM, TOP, Row, all_rows
+from streams import printed
 
 MODELS = Path(__file__).resolve().parent
 REASONS = MODELS / "unseen.txt"
@@ -75,19 +76,16 @@ class Reason:
 
 @lru_cache(None)
 def source_of(module: str) -> str:
-    """The text of a module of the model."""
     return (MODELS / f"{module}.py").read_text(encoding="utf-8")
 
 
 @lru_cache(None)
 def code_of(module: str) -> types.CodeType:
-    """The unchanged code of a module."""
     code: types.CodeType = compile(source_of(module), f"{module}.py", "exec")
     return code
 
 
 def all_mutations() -> list[Mutation]:
-    """All mutants."""
     kinds = Kinds({module: source_of(module) for module in MODULES})
     return [mutation for module in CHANGED for mutation in mutations_of(f"{module}.py", source_of(module), kinds)]
 
@@ -250,4 +248,4 @@ def main() -> int:
 
 
 if __name__ == "__main__":
-    sys.exit(main())
+    sys.exit(printed("mutated.py", main))

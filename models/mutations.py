@@ -105,7 +105,6 @@ def mutations_of(file: str, text: str, kinds: Optional[Kinds] = None) -> list[Mu
 
 
 def on_one_line(text: str) -> str:
-    """A text in one line."""
     return " ".join(text.split())
 
 
@@ -141,7 +140,6 @@ class Walk:
         self.function = "module"
 
     def mutations(self) -> Iterator[Mutation]:
-        """All changes."""
         for function, edit in self.walk(ast.parse(self.text), None):
             line = self.text.count("\n", 0, edit.start) + 1
             old, new = edit.texts or self.shown(edit)

@@ -70,7 +70,6 @@ def load(config: Config, meaning: Meaning, app: int, node: int) -> int:
 
 
 def eligible_of_group(config: Config, meaning: Meaning, app: int, group: int) -> list[int]:
-    """The eligible nodes of a group."""
     return [node for node in config.apps[app].groups[group] if is_eligible(config, meaning, app, node)]
 
 

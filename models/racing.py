@@ -150,7 +150,6 @@ def after_all(config: Config, rows: list[Row], moments: set[Moment]) -> set[Mome
 
 
 def one_of(names: list[bytes]) -> bytes:
-    """A pattern for any of these texts."""
     return b"(?:%s)" % b"|".join(map(re.escape, names))
 
 
@@ -205,7 +204,6 @@ class Checked:
         return match
 
     def phase(self, number: int, phase: Phase, run: Run) -> None:
-        """Checks the output of a phase."""
         self.take(rb"phase %d\n" % number, f"phase {number}")
         rows: defaultdict[tuple[int, int], Row] = defaultdict(list)
         for asked in sorted(phase.asked, key=lambda it: (it.node, it.caller)):

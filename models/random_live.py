@@ -31,24 +31,24 @@ from __future__ import annotations
 import argparse
 import sys
 from collections import defaultdict
+from collections.abc import Sequence
 from dataclasses import dataclass, field
 from random import Random
 from typing import NamedTuple, Tuple
 
 import placement
-from check import Config, ConfigFault, read_config, spelled
+from check import Config, read_config, spelled
 from live import CALLER, CALLER_SHAPES, MOST_NODES, READ, Asked, LiveReader, Run, Thread, asked_in, run_live
-from random_packets import changed_bytes, random_packet
-from random_scripts import CONFIGS, ODD_WORDS, decorated, odd_input, weighted, with_fault
-from random_texts import random_text
+from random_scripts import ODD_WORDS, PlayingMaker, decorated, odd_input, some_config, weighted, with_fault
 from simulator import ACTOR, APP, NODE, NUMBER, TRUTH, VERB, ScriptFault, read_lines
+from streams import printed, written
 from world import World
 
 Who = Tuple[int, int]
 
-CROWD = weighted("permit 6 start 7 stop 3 drain 5 read 3 takeover 2 down 1 boot 2 odd 1")
+CROWD = weighted("permit 6 start 7 stop 3 drain 5 read 3 takeover 4 down 1 boot 2 odd 1")
 GOING = weighted("crash 4 down 5 boot 4 start 3 permit 2 stop 1 drain 3 read 1 takeover 1")
-LONE = weighted("tick 9 start 4 permit 3 stop 1 drain 4 takeover 2 read 1 down 1")
+LONE = weighted("tick 9 start 4 permit 3 stop 1 drain 4 takeover 4 read 1 down 1")
 
 ODD_LIVE_WORDS = (*ODD_WORDS, *b"0 1 4 5 01 1' read phase feed ship hear page share 12345678901234567890123".split())
 ODD_OF_KIND = {
@@ -109,7 +109,6 @@ class OpenPhase:
         return all(callers <= {who} for callers in touched)
 
     def add(self, who: Who, line: bytes, touch: Touch) -> None:
-        """Adds a line."""
         self.said.setdefault(who, []).append(line)
         for thing in touch.reads:
             self.readers[thing].add(who)
@@ -138,39 +137,30 @@ class OpenPhase:
 
     def lines(self, random: Random) -> list[bytes]:
         """The lines in an order that preserves that of each caller, and that of the feeds."""
-        rows = [list(lines) for lines in (*self.said.values(), self.feeds)]
-        turns = [row for row in rows for _ in row]
-        random.shuffle(turns)
-        return [row.pop(0) for row in turns]
+        return merged(random, [*self.said.values(), self.feeds])
 
 
-class LiveMaker:
+def merged(random: Random, rows: Sequence[Sequence[bytes]]) -> list[bytes]:
+    """The lines of all rows in an order that preserves that of each."""
+    left = {at: iter(row) for at, row in enumerate(rows)}
+    order = [at for at, row in enumerate(rows) for _ in row]
+    random.shuffle(order)
+    return [next(left[at]) for at in order]
+
+
+class LiveMaker(PlayingMaker):
     """Makes a script phase by phase, with the model playing along. A line that violates a condition is left out."""
 
     def __init__(self, random: Random, config: Config) -> None:
-        self.random = random
-        self.config = config
+        super().__init__(random, config)
         self.run = Run(config)
         self.reader = LiveReader(config)
-        self.nodes = [node for node, name in enumerate(config.nodes) if b" " not in name]
-        self.apps = [at for at, app in enumerate(config.apps) if b" " not in app.name]
-        self.lines: list[bytes] = []
-        self.now = 0
         self.is_settled = True
         self.open = OpenPhase([])
 
     @property
     def world(self) -> World:
-        """The current world."""
         return self.run.world
-
-    def on(self) -> list[int]:
-        """The nodes that run."""
-        return [node for node in self.nodes if self.world.is_on(node)]
-
-    def off(self) -> list[int]:
-        """The nodes that are off."""
-        return [node for node in self.nodes if not self.world.is_on(node)]
 
     # The conditions
 
@@ -318,86 +308,34 @@ class LiveMaker:
         if not self.is_settled:
             self.rest()
 
-    # Words
-
-    def name_of(self, node: int) -> bytes:
-        """A node's name."""
-        return spelled(self.config.nodes[node])
-
-    def who(self, node: int) -> Who:
-        """A caller of a node."""
-        return node, self.random.choice((1, 1, 1, 2, 2, 3, 4))
-
-    def some_node(self) -> int:
-        """A node, usually a running one."""
-        on = self.on()
-        return self.random.choice(on if on and self.random.random() < 0.95 else self.nodes)
-
-    def pair(self) -> tuple[bytes, bytes]:
-        """An application and a node, usually of its list."""
-        roll = self.random.random()
-        if roll < 0.03 or not self.apps:
-            return b"zz", self.name_of(self.some_node())
-        app = self.config.apps[self.random.choice(self.apps)]
-        listed = [node for node in app.nodes() if node in self.nodes]
-        if roll < 0.06:
-            return spelled(app.name), self.random.choice((b"zz@h", b"'Zz'"))
-        return spelled(app.name), self.name_of(self.random.choice(listed if listed and roll < 0.95 else self.nodes))
-
-    def moment(self) -> bytes:
-        """A moment, usually later than the previous one."""
-        waits = [app.timeout for app in self.config.apps if app.timeout < 10**6]
-        self.now += self.random.choice((0, 0, 1, 3, 10, 999, 5000, self.random.choice(waits or [0])))
-        back = self.random.choice((1, 100)) if self.random.random() < 0.04 else 0
-        return b"%d" % max(0, self.now - back)
-
     # Lines of a kind
 
+    def who(self, node: int) -> Who:
+        return node, self.random.choice((1, 1, 1, 2, 2, 3, 4))
+
+    def usual(self) -> Who:
+        """A caller of a usual node."""
+        return self.who(self.usual_node())
+
     def line(self, who: Who, verb: str) -> None:
-        """A line of a kind."""
-        if verb in ("permit", "start", "stop"):
-            values = [self.random.choice((b"true", b"true", b"false"))] if verb == "permit" else []
-            self.say(who, verb.encode(), *self.pair(), *values)
-        elif verb == "drain":
-            self.say(who, b"drain", self.pair()[1], self.random.choice((b"true", b"true", b"false")))
-        elif verb == "takeover":
-            self.say(who, b"takeover", self.pair()[0])
-        elif verb in ("tick", "boot"):
-            self.say(who, verb.encode(), self.moment())
-        elif verb == "down":
-            off = self.off()
-            about = self.random.choice(off if off and self.random.random() < 0.7 else self.nodes)
-            self.say(who, b"down", self.name_of(about))
-        else:
-            self.say(who, verb.encode())
+        self.say(who, verb.encode(), *self.words(verb))
 
     def any_line(self, profile: dict[str, int]) -> None:
         """A line of a profile, of any caller."""
-        verb = self.random.choices(list(profile), list(profile.values()))[0]
-        off = self.off()
-        node = self.some_node()
+        verb, off = self.verb(profile), self.off()
         if verb == "boot" and off and self.random.random() < 0.9:
             self.come(self.random.choice(off))
         elif verb == "odd":
             self.line(self.who(self.random.choice(self.nodes)), self.random.choice(("tick", "crash", "down", "boot")))
         else:
-            self.line(self.who(node), verb)
+            self.line(self.usual(), verb)
 
     def come(self, node: int) -> None:
         """A node boots, and usually starts all that it may run."""
         who = self.who(node)
-        if not self.say(who, b"boot", self.moment()):
-            return
-        for app in self.apps:
-            if self.config.apps[app].group_of(node) is not None and self.random.random() < 0.6:
-                self.say(who, b"start", spelled(self.config.apps[app].name), self.name_of(node))
-
-    def feed(self) -> None:
-        """The bytes of a packet, usually with a small change."""
-        data = random_packet(self.random, self.world)
-        for _ in range(self.random.choice((0, 1, 1, 2))):
-            data = changed_bytes(self.random, data)
-        self.open.feeds.append(b"feed " + (data or b"D").hex().encode())
+        if self.say(who, b"boot", self.moment()):
+            for app in self.starts(node, 0.6):
+                self.say(who, b"start", app, self.name_of(node))
 
     # Phases
 
@@ -424,58 +362,67 @@ class LiveMaker:
         found = {placement.candidate(self.config, state, app) for app in range(len(self.config.apps))}
         return [node for node in on if node in found]
 
-    def lone(self) -> None:
-        """One caller has many lines, usually ticks. Other nodes only tick."""
+    def claimer(self) -> Who:
+        """A caller of a node that should claim something, usually."""
         candidates = self.candidates()
         chosen = candidates and self.random.random() < 0.85
-        who = self.who(self.random.choice(candidates) if chosen else self.some_node())
-        self.say(who, b"tick", self.moment())
+        return self.who(self.random.choice(candidates) if chosen else self.usual_node())
+
+    def tick(self, who: Who) -> None:
+        """A tick alone in its phase."""
+        self.line(who, "tick")
+        self.end()
+
+    def lone(self) -> None:
+        """One caller has many lines, usually ticks. Other nodes only tick."""
+        who = self.claimer()
+        self.line(who, "tick")
         for _ in range(self.random.choice((0, 0, 1, 4, 8))):
-            self.line(who, self.random.choices(list(LONE), list(LONE.values()))[0])
+            self.line(who, self.verb(LONE))
         for node in self.on():
             if self.random.random() < 0.5:
-                self.say(self.who(node), b"tick", self.moment())
+                self.line(self.who(node), "tick")
         if self.random.random() < 0.15:
-            self.line(self.who(self.some_node()), self.random.choice(("crash", "read")))
+            self.line(self.usual(), self.random.choice(("crash", "read")))
+        self.end()
+
+    def some_holder(self) -> int:
+        """A node, usually one that runs an application."""
+        return self.holder() if self.random.random() < 0.8 else self.usual_node()
+
+    def few(self, *counts: int) -> None:
+        """So many lines of many callers, which end a phase."""
+        for _ in range(self.random.choice(counts)):
+            self.any_line(CROWD)
         self.end()
 
     def loss(self) -> None:
         """A node goes down, usually one that runs an application. The others learn of it and tick, or it comes back, or
         both."""
-        holders = [node for node in self.on() if node in self.holders()]
-        node = self.random.choice(holders) if holders and self.random.random() < 0.8 else self.some_node()
+        node = self.some_holder()
         self.line(self.who(node), "crash")
-        for _ in range(self.random.choice((0, 0, 3, 6))):
-            self.any_line(CROWD)
-        self.end()
+        self.few(0, 0, 3, 6)
         others = [other for other in self.on() if other != node]
         if others and self.random.random() < 0.7:
             self.say(self.who(self.random.choice(others)), b"down", self.name_of(node))
             self.end()
             for other in self.random.choices(others, k=self.random.choice((1, 2, 3, 4))):
-                self.say(self.who(other), b"tick", self.moment())
-                self.end()
+                self.tick(self.who(other))
         if self.random.random() < 0.6:
             self.come_back(node)
 
     def drained(self) -> None:
         """A node is drained, usually one that runs an application. Others take over or tick, and the drain may end."""
-        holders = [node for node in self.on() if node in self.holders()]
-        node = self.random.choice(holders) if holders and self.random.random() < 0.8 else self.some_node()
-        self.say(self.who(self.some_node()), b"drain", self.name_of(node), b"true")
-        for _ in range(self.random.choice((0, 0, 3))):
-            self.any_line(CROWD)
-        self.end()
+        node = self.some_holder()
+        self.say(self.usual(), b"drain", self.name_of(node), b"true")
+        self.few(0, 0, 3)
         if self.random.random() < 0.5:
-            self.line(self.who(self.some_node()), "takeover")
+            self.line(self.usual(), "takeover")
             self.end()
         for _ in range(self.random.choice((1, 2, 3))):
-            candidates = self.candidates()
-            chosen = candidates and self.random.random() < 0.85
-            self.say(self.who(self.random.choice(candidates) if chosen else self.some_node()), b"tick", self.moment())
-            self.end()
+            self.tick(self.claimer())
         if self.random.random() < 0.4:
-            self.say(self.who(self.some_node()), b"drain", self.name_of(node), b"false")
+            self.say(self.usual(), b"drain", self.name_of(node), b"false")
         elif self.random.random() < 0.5:
             self.line(self.who(node), "crash")
         self.end()
@@ -489,11 +436,6 @@ class LiveMaker:
             self.line(self.who(node), self.random.choice(("start", "permit", "stop", "drain", "takeover", "down")))
         self.end()
 
-    def holders(self) -> set[int]:
-        """The nodes that hold applications, according to a running node."""
-        states = [self.world.state(node) for node in self.on()[:1]]
-        return {claim.node for state in states for claim in state.claims.values()}
-
     def rest(self) -> None:
         """Running nodes are only read."""
         for _ in range(self.random.choice((0, 1, 3))):
@@ -501,11 +443,10 @@ class LiveMaker:
         self.end()
 
     def story(self) -> None:
-        """Some phases."""
         self.arrive()
         for _ in range(self.random.choice((0, 1, 3, 6, 9))):
             if self.random.random() < 0.15:
-                self.feed()
+                self.open.feeds.append(self.feed_line(self.world))
             crowds, losses = (self.crowd, self.crowd, self.arrive), (self.loss, self.loss, self.drained, self.drained)
             self.random.choice((*crowds, self.lone, self.lone, self.lone, *losses))()
 
@@ -514,22 +455,9 @@ class LiveMaker:
 
 
 def live_config(random: Random, seed: int, number: int) -> bytes:
-    """A configuration to run: one of the chosen ones, or any valid one. Few have too many nodes, and then not by
-    much."""
-    if random.random() < 0.7:
-        return random.choice(CONFIGS)
-    has_too_many = random.random() < 0.1
-    for other in range(40):
-        text = random_text(seed, -1 - number * 40 - other)
-        try:
-            config = read_config(text)
-        except ConfigFault:
-            continue
-        is_small = len(text) < 4_000 and len(config.apps) < 12 and len(config.nodes) <= 16 and b"--" not in text
-        is_chosen = is_small and has_too_many == (len(config.nodes) > MOST_NODES)
-        if is_chosen and any(b" " not in name for name in config.nodes):
-            return text + b"\n"
-    return random.choice(CONFIGS)
+    """A configuration to run. Few have too many nodes, and then not by much."""
+    nodes = range(MOST_NODES + 1, 17) if random.random() < 0.1 else range(1, MOST_NODES + 1)
+    return some_config(random, seed, number, lambda config: len(config.nodes) in nodes)
 
 
 def odd_line(random: Random, config: Config) -> bytes:
@@ -564,7 +492,6 @@ def is_faulty(config: Config, lines: list[bytes]) -> bool:
 
 
 def random_live(seed: int, number: int) -> bytes:
-    """The input of a number under a seed."""
     random = Random(f"live {seed} {number}")
     text = live_config(random, seed, number)
     config = read_config(text)
@@ -633,9 +560,8 @@ def main() -> int:
     words = parser.parse_args()
     if words.shuffles:
         return 1 if play_shuffled(words.seed, words.number, words.shuffles) else 0
-    sys.stdout.buffer.write(random_live(words.seed, words.number))
-    return 0
+    return written("random_live.py", random_live(words.seed, words.number), 0)
 
 
 if __name__ == "__main__":
-    sys.exit(main())
+    sys.exit(printed("random_live.py", main))

@@ -19,6 +19,7 @@ from typing import Tuple
 from check import read_config
 from meaning import Dot, Key, Origin
 from random_scripts import decorated
+from streams import print_input
 from wire import SECOND, WHOLE, Message, Writer, packet_bytes, u
 
 Pair = Tuple[int, int]
@@ -40,7 +41,6 @@ def names(letter: bytes, count: int, end: bytes = b"") -> list[bytes]:
 
 
 def in_order(random: Random, pairs: Sequence[Pair]) -> list[Pair]:
-    """The pairs in one of the orders."""
     order = random.choice(ORDERS)
     return random.sample(pairs, len(pairs)) if order == "mixed" else sorted(pairs, reverse=order == "falling")
 
@@ -214,7 +214,6 @@ class Keys:
         self.givers = self.maker.nodes[: random.choice((1, 2))]
 
     def give(self, verb: bytes, pairs: Sequence[Pair]) -> None:
-        """A line for each pair."""
         for app, node in pairs:
             truth = [self.random.choice((b"true", b"false"))] if verb == b"permit" else []
             words = (self.random.choice(self.givers), self.maker.apps[app], self.maker.nodes[node])
@@ -282,9 +281,8 @@ MAKERS: dict[str, Callable[[Random], bytes]] = {"still": still, "reboots": reboo
 
 
 def random_long(kind: str, seed: int, number: int) -> bytes:
-    """The input of a kind and a number under a seed."""
     return MAKERS[kind](Random(f"{kind} {seed} {number}"))
 
 
 if __name__ == "__main__":
-    sys.stdout.buffer.write(random_long(sys.argv[1], int(sys.argv[2]), int(sys.argv[3])))
+    sys.exit(print_input("random_long.py", random_long, MAKERS))

@@ -37,7 +37,6 @@ def some_dot(random: Random, world: World) -> Dot:
 
 
 def some_key(random: Random, world: World) -> Key:
-    """A key."""
     app = random.randint(0, len(world.config.apps) - (random.random() < 0.9))
     return Key(app, some_node(random, world), some_inc(random))
 

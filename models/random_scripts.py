@@ -10,13 +10,14 @@ Usage: python3 random_scripts.py SEED NUMBER
 from __future__ import annotations
 
 import sys
-from collections.abc import Callable
+from collections.abc import Callable, Iterator, Sequence
 from random import Random
 
 from check import MOST_INPUT, Config, ConfigFault, read_config, spelled
 from random_packets import changed_bytes, random_packet
 from random_texts import random_text
 from simulator import LineReader, Player
+from streams import print_input
 from world import World
 
 CONFIGS = (
@@ -40,11 +41,12 @@ def weighted(text: str) -> dict[str, int]:
     return {verb: int(weight) for verb, weight in zip(words[::2], words[1::2])}
 
 
-CALM = weighted("share 10 tick 16 start 6 stop 1 permit 3 drain 4 crash 1 boot 1 down 2 takeover 4 page 2")
+CALM = weighted("share 10 tick 16 start 6 stop 2 permit 3 drain 4 crash 1 boot 1 down 2 takeover 4 page 2")
 LETTERS = weighted("ship 14 hear 18 start 4 permit 3 drain 2 boot 1 crash 1 tick 4 bytes 2 down 1 same 1")
 HANDS = weighted("hand 16 start 6 stop 4 permit 6 drain 6 page 3 state 2 ship 3 hear 3 boot 1 tick 1")
 FEEDS = weighted("feed 16 start 3 permit 3 drain 3 tick 2 ship 3 bytes 3 share 1")
-PAUSES = weighted("tick 24 crash 2 down 2 boot 1 share 8 start 4 permit 2 drain 2 page 2 takeover 1")
+PAUSES = weighted("tick 24 crash 2 down 2 boot 1 share 8 start 4 stop 1 permit 2 drain 2 page 2 takeover 1")
+BURST = weighted("permit 4 drain 2 start 4")
 DRAINS = weighted("drain 16 tick 12 share 8 start 3 permit 1 stop 1 takeover 4 crash 1 boot 1 hand 2 page 3 state 1")
 ALL = dict.fromkeys(
     "boot crash down permit start stop drain takeover tick ship hear hand share page state same bytes feed".split(), 1
@@ -61,20 +63,125 @@ ODD_WORDS = (
 )
 
 
-class ScriptMaker:
-    """Makes a script, with the model playing along."""
+class Maker:
+    """Makes lines under a configuration, with words chosen at random. A name with a space can't be one of them."""
+
+    # The steps from moment to moment, and how far one can fall back behind the last one.
+    STEPS: tuple[int, ...] = (0, 0, 1, 3, 7, 10, 100, 999, 1000, 4999, 5000)
+    BACKS: tuple[int, ...] = (0,) * 46 + (1, 1, 100, 100)
 
     def __init__(self, random: Random, config: Config) -> None:
         self.random = random
         self.config = config
-        self.player = Player(config)
-        self.reader = LineReader(config)
+        self.nodes = [node for node, name in enumerate(config.nodes) if b" " not in name]
+        self.apps = [app for app in config.apps if b" " not in app.name]
         self.lines: list[bytes] = []
         self.now = 0
 
+    def name_of(self, node: int) -> bytes:
+        """A node's name as a word."""
+        return spelled(self.config.nodes[node])
+
+    def usual_node(self) -> int:
+        return self.random.choice(self.nodes)
+
+    def about(self, listed: Sequence[int] = ()) -> bytes:
+        """The node that a line is about: usually one of these, rarely an unknown one."""
+        roll = self.random.random()
+        if roll < 0.03:
+            return self.random.choice((b"zz@h", b"'Zz'"))
+        return self.name_of(self.random.choice(listed if listed and roll < 0.9 else self.nodes))
+
+    def pair(self) -> tuple[bytes, bytes]:
+        """An application, rarely an unknown one, and a node, usually of its list."""
+        if not self.apps or self.random.random() < 0.02:
+            return b"zz", self.about()
+        app = self.random.choice(self.apps)
+        return spelled(app.name), self.about([node for node in app.nodes() if node in self.nodes])
+
+    def truth(self) -> bytes:
+        """A truth value, usually the one that stops something."""
+        return self.random.choice((b"true", b"true", b"false"))
+
+    def moment(self) -> bytes:
+        """A moment, usually later than the previous one."""
+        self.now += self.random.choice(self.STEPS)
+        return b"%d" % max(0, self.now - self.random.choice(self.BACKS))
+
+    def words(self, verb: str) -> Sequence[bytes]:
+        """The words of a line after its node."""
+        if verb == "permit":
+            return (*self.pair(), self.truth())
+        if verb in ("start", "stop"):
+            return self.pair()
+        if verb == "takeover":
+            return self.pair()[:1]
+        if verb == "drain":
+            return self.about([self.usual_node()]), self.truth()
+        if verb == "down":
+            return (self.about(),)
+        return (self.moment(),) if verb in ("boot", "tick") else ()
+
+    def starts(self, node: int, rate: float) -> Iterator[bytes]:
+        """The applications that a node may run, each at this rate."""
+        for app in self.apps:
+            if app.group_of(node) is not None and self.random.random() < rate:
+                yield spelled(app.name)
+
+    def verb(self, profile: dict[str, int]) -> str:
+        return self.random.choices(list(profile), list(profile.values()))[0]
+
+    def feed_line(self, world: World) -> bytes:
+        """A line with the bytes of a packet, usually with a small change."""
+        data = random_packet(self.random, world)
+        for _ in range(self.random.choice((0, 0, 1, 1, 1, 2))):
+            data = changed_bytes(self.random, data)
+        return b"feed " + (data or b"D").hex().encode()
+
+
+class PlayingMaker(Maker):
+    """Makes lines that do something, because a model plays along."""
+
     @property
     def world(self) -> World:
-        """The current world."""
+        raise NotImplementedError
+
+    def on(self) -> list[int]:
+        """The nodes that run."""
+        return [node for node in self.nodes if self.world.is_on(node)]
+
+    def off(self) -> list[int]:
+        """The nodes that are off."""
+        return [node for node in self.nodes if not self.world.is_on(node)]
+
+    def usual_node(self) -> int:
+        """A node, usually a running one."""
+        on = self.on()
+        return self.random.choice(on if on and self.random.random() < 0.94 else self.nodes)
+
+    def words(self, verb: str) -> Sequence[bytes]:
+        """The words of a line after its node. Reports are usually true."""
+        off = self.off() if verb == "down" else []
+        return (self.about(off),) if off and self.random.random() < 0.8 else super().words(verb)
+
+    def holder(self) -> int:
+        """A running node that holds an application according to the first one, or a usual node."""
+        on = self.on()
+        claims = [claim for node in on[:1] for claim in self.world.state(node).claims.values()]
+        holders = sorted({claim.node for claim in claims}.intersection(on))
+        return self.random.choice(holders) if holders else self.usual_node()
+
+
+class ScriptMaker(PlayingMaker):
+    """Makes a script, with the model playing along."""
+
+    def __init__(self, random: Random, config: Config) -> None:
+        super().__init__(random, config)
+        self.player = Player(config)
+        self.reader = LineReader(config)
+
+    @property
+    def world(self) -> World:
         return self.player.world
 
     def add(self, *words: bytes) -> None:
@@ -83,56 +190,38 @@ class ScriptMaker:
         self.lines.append(line)
         self.player.play(self.reader.read(line, 1))
 
-    # Words
-
-    def name_of(self, node: int) -> bytes:
-        """A node's name as a word. A name with a space can't be one and is replaced by another node's."""
-        names = [name for name in (self.config.nodes[node], *self.config.nodes) if b" " not in name]
-        return spelled(names[0])
+    # Lines
 
     def node(self) -> bytes:
-        """A node."""
-        return self.name_of(self.random.randrange(len(self.config.nodes)))
-
-    def on(self) -> bytes:
         """A node, usually a running one."""
-        running = [node for node in range(len(self.config.nodes)) if self.world.is_on(node)]
-        if running and self.random.random() < 0.93:
-            return self.name_of(self.random.choice(running))
-        return self.node()
+        return self.name_of(self.usual_node())
 
-    def about(self, app: int) -> bytes:
-        """The node that a line is about, usually one of an application's list."""
-        roll = self.random.random()
-        if roll < 0.85 and app < len(self.config.apps):
-            return self.name_of(self.random.choice(self.config.apps[app].nodes()))
-        return self.random.choice((b"zz@h", b"'Zz'")) if roll > 0.97 else self.node()
+    def line(self, verb: str) -> None:
+        if verb in ("boot", "crash", "hear"):
+            {"boot": self.boot, "crash": self.crash, "hear": self.hear}[verb]()
+        elif verb == "feed":
+            self.add(*self.feed_line(self.world).split())
+        elif verb in ("share", "bytes"):
+            self.add(verb.encode(), *self.words(verb))
+        else:
+            self.add(verb.encode(), self.node(), *self.words(verb))
 
-    def app(self) -> tuple[int, bytes]:
-        """An application and its word."""
-        apps = self.config.apps
-        at = self.random.randrange(len(apps))
-        if self.random.random() < 0.02 or b" " in apps[at].name:
-            return len(apps), b"zz"
-        return at, spelled(apps[at].name)
-
-    def moment(self) -> bytes:
-        """A moment, usually later than the previous one."""
-        self.now += self.random.choice((0, 0, 1, 3, 7, 10, 100, 999, 1000, 4999, 5000))
-        back = self.random.choice((1, 100)) if self.random.random() < 0.04 else 0
-        return b"%d" % max(0, self.now - back)
-
-    # Lines
+    def words(self, verb: str) -> Sequence[bytes]:
+        """The words of a line after its node."""
+        if verb in ("hand", "bytes"):
+            return (self.number_near(len(self.world.operations if verb == "hand" else self.world.messages)),)
+        if verb == "ship":
+            return (self.about(),)
+        return (self.node(),) if verb == "same" else super().words(verb)
 
     def boot(self) -> None:
         """A boot, usually of a node that is off."""
-        off = [node for node in range(len(self.config.nodes)) if not self.world.is_on(node)]
-        choose = off and self.random.random() < 0.9
-        self.add(b"boot", self.name_of(self.random.choice(off)) if choose else self.node(), self.moment())
+        off = self.off() if self.random.random() < 0.9 else []
+        self.add(b"boot", self.name_of(self.random.choice(off or self.nodes)), self.moment())
 
     def revive(self) -> None:
         """A node that is off comes up, usually with start wishes for all that it may run."""
-        off = [node for node in range(len(self.config.nodes)) if not self.world.is_on(node)]
+        off = self.off()
         if not off:
             return
         node = self.random.choice(off)
@@ -144,154 +233,84 @@ class ScriptMaker:
 
     def start_all(self, node: int, rate: float) -> None:
         """Start wishes for all that a node may run."""
-        for app in self.config.apps:
-            if app.group_of(node) is not None and b" " not in app.name and self.random.random() < rate:
-                at = self.name_of(node) if self.world.is_on(node) else self.on()
-                self.add(b"start", at, spelled(app.name), self.name_of(node))
+        for app in self.starts(node, rate):
+            self.add(b"start", self.name_of(node) if self.world.is_on(node) else self.node(), app, self.name_of(node))
 
     def crash(self) -> None:
         """A crash, sometimes followed by its report."""
-        node = self.on()
+        node = self.node()
         self.add(b"crash", node)
         if self.random.random() < 0.5:
-            self.add(b"down", self.on(), node)
+            self.add(b"down", self.node(), node)
 
-    def down(self) -> None:
-        """A report that a node is down, usually a true one."""
-        off = [node for node in range(len(self.config.nodes)) if not self.world.is_on(node)]
-        choose = off and self.random.random() < 0.7
-        self.add(b"down", self.on(), self.name_of(self.random.choice(off)) if choose else self.about(len(self.config.apps)))
-
-    def wish(self, verb: bytes) -> None:
-        """A permission, a start wish, or the end of such wishes."""
-        app, word = self.app()
-        words = [verb, self.on(), word, self.about(app)]
-        self.add(*words, *([self.random.choice((b"true", b"true", b"false"))] if verb == b"permit" else []))
-
-    def drain(self) -> None:
-        """A drain or its end, usually of a running node."""
-        self.add(b"drain", self.on(), self.drained(), self.random.choice((b"true", b"true", b"false")))
-
-    def drained(self) -> bytes:
-        """A node to drain, usually a running one."""
-        return self.on() if self.random.random() < 0.7 else self.about(self.random.randrange(len(self.config.apps) + 1))
-
-    def ship(self) -> None:
-        """A ship."""
-        self.add(b"ship", self.on(), self.about(self.random.randrange(len(self.config.apps) + 1)))
-
-    def number_near(self, count: int) -> int:
+    def number_near(self, count: int) -> bytes:
         """A number up to a count, usually near it."""
         roll = self.random.random()
         if count == 0 or roll < 0.02:
-            return self.random.choice((0, count + 1, 2**62))
-        return self.random.randint(max(1, count - 5), count) if roll < 0.7 else self.random.randint(1, count)
+            return b"%d" % self.random.choice((0, count + 1, 2**62))
+        return b"%d" % self.random.randint(max(1, count - 5) if roll < 0.7 else 1, count)
 
     def hear(self) -> None:
         """A delivery, usually to the message's receiver."""
         number = self.number_near(len(self.world.messages))
-        node = self.node()
-        if 1 <= number <= len(self.world.messages) and self.random.random() < 0.92:
-            node = self.name_of(self.world.shipped(number).to)
-        self.add(b"hear", node, b"%d" % number)
-
-    def simple(self, verb: bytes) -> None:
-        """A line of unrelated words."""
-        words: dict[bytes, Callable[[], list[bytes]]] = {
-            b"takeover": lambda: [self.on(), self.app()[1]],
-            b"tick": lambda: [self.on(), self.moment()],
-            b"hand": lambda: [self.on(), b"%d" % self.number_near(len(self.world.operations))],
-            b"share": lambda: [],
-            b"page": lambda: [self.on()],
-            b"state": lambda: [self.on()],
-            b"same": lambda: [self.on(), self.on()],
-            b"bytes": lambda: [b"%d" % self.number_near(len(self.world.messages))],
-        }
-        self.add(verb, *words[verb]())
-
-    def any_line(self, verb: str) -> None:
-        """A line of a verb."""
-        if verb in ("permit", "start", "stop"):
-            self.wish(verb.encode())
-        elif hasattr(self, verb):
-            getattr(self, verb)()
-        else:
-            self.simple(verb.encode())
-
-    def feed_line(self) -> bytes:
-        """A line with the bytes of a packet, usually with a small change."""
-        data = random_packet(self.random, self.world)
-        for _ in range(self.random.choice((0, 0, 1, 1, 1, 2))):
-            data = changed_bytes(self.random, data)
-        return b"feed " + (data or b"D").hex().encode()
-
-    def feed(self) -> None:
-        """The bytes of a packet."""
-        self.add(*self.feed_line().split())
+        node = self.name_of(self.random.choice(self.nodes))
+        if 1 <= int(number) <= len(self.world.messages) and self.random.random() < 0.92:
+            node = self.name_of(self.world.shipped(int(number)).to)
+        self.add(b"hear", node, number)
 
     # Whole scripts
 
     def open(self) -> None:
         """Nodes come up, and usually start and share all that they may."""
-        for node in range(len(self.config.nodes)):
+        for node in self.nodes:
             if self.random.random() < 0.85:
                 self.add(b"boot", self.name_of(node), b"%d" % self.now)
         if self.random.random() < 0.5:
             self.add(b"share")
-        for node in range(len(self.config.nodes)):
+        for node in self.nodes:
             self.start_all(node, 0.8)
         if self.random.random() < 0.7:
             self.add(b"share")
 
     def some(self, profile: dict[str, int], count: int) -> None:
-        """Lines of a profile."""
         for _ in range(count):
-            off = sum(not self.world.is_on(node) for node in range(len(self.config.nodes)))
-            if self.random.random() < 0.25 * off / len(self.config.nodes):
+            if self.random.random() < 0.25 * len(self.off()) / len(self.nodes):
                 self.revive()
-            self.any_line(self.random.choices(list(profile), list(profile.values()))[0])
+            self.line(self.verb(profile))
 
     def close(self) -> None:
         """Shows everything."""
-        for node in range(len(self.config.nodes)):
+        for node in self.nodes:
             self.add(b"page", self.name_of(node))
             self.add(b"state", self.name_of(node))
         self.add(b"bytes", b"%d" % len(self.world.messages))
 
     def tick_all(self) -> None:
         """All nodes tick, and all is shared: once if there are many nodes."""
-        last = len(self.config.nodes) - 1
-        for node in range(last + 1):
+        for node in self.nodes:
             self.add(b"tick", self.name_of(node), self.moment())
-            if last < FEW_NODES or node == last:
+            if len(self.nodes) <= FEW_NODES or node == self.nodes[-1]:
                 self.add(b"share")
-
-    def holder(self) -> bytes:
-        """A node that holds an application according to a running node, or any."""
-        running = [node for node in range(len(self.config.nodes)) if self.world.is_on(node)]
-        holders = {claim.node for node in running for claim in self.world.state(node).claims.values()}
-        return self.name_of(self.random.choice(sorted(holders))) if holders else self.node()
 
     def burst(self, count: int) -> None:
         """Many commands at one node, which then drops its oldest deltas."""
-        node = self.on()
+        node = self.node()
         for _ in range(count):
-            app, word = self.app()
-            about = self.about(app)
-            roll = self.random.random()
-            if roll < 0.4:
-                self.add(b"permit", node, word, about, self.random.choice((b"true", b"false")))
-            elif roll < 0.6:
-                self.add(b"drain", node, about, self.random.choice((b"true", b"false")))
-            else:
-                self.add(b"start", node, word, about)
+            verb = self.verb(BURST)
+            self.add(verb.encode(), node, *self.words(verb))
+
+    def deliver(self, *path: bytes) -> None:
+        """A message from each of these nodes to the next one."""
+        for sender, receiver in zip(path, path[1:]):
+            self.add(b"ship", sender, receiver)
+            self.add(b"hear", receiver, b"%d" % len(self.world.messages))
 
     def exchange(self, count: int) -> None:
         """Ships and deliveries, some of them lost, doubled or late."""
         for _ in range(count):
-            self.ship()
+            self.line("ship")
             for _ in range(self.random.choice((0, 1, 1, 1, 2))):
-                self.hear()
+                self.line("hear")
 
 
 def usual(maker: ScriptMaker) -> None:
@@ -325,52 +344,46 @@ def very_many_standing_dots(maker: ScriptMaker) -> None:
 
 def standing(maker: ScriptMaker, count: int) -> None:
     """So many standing starts of one key, or drains of one node, and a line that replaces them."""
-    first, other = maker.name_of(0), maker.name_of(len(maker.config.nodes) - 1)
-    app = next((app for app in maker.config.apps if app.group_of(0) is not None and b" " not in app.name), None)
-    if app is None or first == other:
+    first, other = maker.name_of(maker.nodes[0]), maker.name_of(maker.nodes[-1])
+    apps = [spelled(app.name) for app in maker.apps if app.group_of(maker.nodes[0]) is not None]
+    if not apps or first == other:
         usual(maker)
         return
     is_drain = maker.random.random() < 0.5
+
+    def say(node: bytes, verb: bytes) -> None:
+        maker.add(*((b"drain", node, first, maker.truth()) if is_drain else (verb, node, apps[0], first)))
+
     maker.add(b"boot", first, b"0")
     said = []
     for _ in range(count):
         maker.add(b"boot", other, b"0")
         maker.add(b"hand", other, b"1")
-        if is_drain:
-            maker.add(b"drain", other, first, maker.random.choice((b"true", b"false")))
-        else:
-            maker.add(b"start", other, spelled(app.name), first)
+        say(other, b"start")
         said.append(len(maker.world.operations))
         maker.add(b"crash", other)
     for number in said:
         maker.add(b"hand", first, b"%d" % number)
     maker.add(b"page", first)
-    if is_drain:
-        maker.add(b"drain", first, first, maker.random.choice((b"true", b"false")))
-    else:
-        maker.add(maker.random.choice((b"start", b"stop")), first, spelled(app.name), first)
+    say(first, maker.random.choice((b"start", b"stop")))
     maker.add(b"page", first)
 
 
 def edge_of_buffer(maker: ScriptMaker) -> None:
     """An acknowledgement, then as many deltas as are kept, or one more or less, and a ship."""
-    words = [(app, node) for app in maker.config.apps for node in app.nodes() if b" " not in app.name]
-    app, node = maker.random.choice(words or [(maker.config.apps[0], 0)])
-    first = maker.name_of(node)
-    other = maker.name_of((node + 1) % len(maker.config.nodes))
-    if not words or first == other:
+    words = [(spelled(app.name), node) for app in maker.apps for node in app.nodes() if node in maker.nodes]
+    if not words or len(maker.nodes) == 1:
         usual(maker)
         return
-    for line in (first, other):
-        maker.add(b"boot", line, b"0")
-    for one, to in ((first, other), (other, first), (first, other), (other, first)):
-        maker.add(b"ship", one, to)
-        maker.add(b"hear", to, b"%d" % len(maker.world.messages))
-    command = maker.random.choice(([b"permit", first, spelled(app.name), first], [b"drain", first, other]))
+    app, node = maker.random.choice(words)
+    first, other = maker.name_of(node), maker.name_of(maker.nodes[maker.nodes.index(node) - 1])
+    for name in (first, other):
+        maker.add(b"boot", name, b"0")
+    command = maker.random.choice(((b"permit", first, app, first), (b"drain", first, other)))
+    maker.deliver(first, other, first, other, first)
     for _ in range(maker.random.choice((254, 255, 256, 257, 258))):
-        maker.add(*command, maker.random.choice((b"true", b"false")))
-    maker.add(b"ship", first, other)
-    maker.add(b"hear", other, b"%d" % len(maker.world.messages))
+        maker.add(*command, maker.truth())
+    maker.deliver(first, other)
     maker.add(b"same", first, other)
 
 
@@ -379,14 +392,13 @@ def disputes(maker: ScriptMaker) -> None:
     maker.open()
     maker.add(b"share")
     for _ in range(maker.random.randint(2, 6)):
-        app, word = maker.app()
-        about = maker.about(app)
-        for node in range(len(maker.config.nodes)):
+        app, about = maker.pair()
+        for node in maker.nodes:
             verb = maker.random.choice((b"permit", b"permit", b"start", b"stop", b"drain", b"drain"))
-            values = [maker.random.choice((b"true", b"false"))] if verb in (b"permit", b"drain") else []
-            maker.add(verb, maker.name_of(node), *([] if verb == b"drain" else [word]), about, *values)
+            words = {b"permit": (app, about, maker.truth()), b"drain": (about, maker.truth())}
+            maker.add(verb, maker.name_of(node), *words.get(verb, (app, about)))
         maker.add(b"share")
-        maker.add(b"page", maker.on())
+        maker.line("page")
         maker.some(CALM, 4)
     maker.close()
 
@@ -396,13 +408,13 @@ def rebooted_holders(maker: ScriptMaker) -> None:
     maker.open()
     for _ in range(maker.random.randint(1, 4)):
         maker.tick_all()
-        node = maker.random.randrange(len(maker.config.nodes))
+        node = maker.random.choice(maker.nodes)
         maker.add(b"crash", maker.name_of(node))
         maker.add(b"boot", maker.name_of(node), maker.moment())
         maker.start_all(node, 0.6)
         maker.add(b"share")
-        for node in range(len(maker.config.nodes)):
-            maker.add(b"page", maker.name_of(node))
+        for other in maker.nodes:
+            maker.add(b"page", maker.name_of(other))
     maker.close()
 
 
@@ -411,25 +423,25 @@ def drained_holders(maker: ScriptMaker) -> None:
     maker.open()
     for _ in range(maker.random.randint(1, 4)):
         maker.tick_all()
-        holder = maker.holder()
-        maker.add(b"drain", maker.on(), holder, b"true")
+        holder = maker.name_of(maker.holder())
+        maker.add(b"drain", maker.node(), holder, b"true")
         if maker.random.random() < 0.3:
-            maker.add(b"drain", maker.on(), holder, b"false")
+            maker.add(b"drain", maker.node(), holder, b"false")
         maker.add(b"share")
         for _ in range(maker.random.choice((0, 1, 2))):
-            maker.simple(b"takeover")
-        maker.add(b"page", maker.on())
+            maker.line("takeover")
+        maker.line("page")
         maker.tick_all()
         roll = maker.random.random()
         if roll < 0.4:
-            maker.add(b"drain", maker.on(), holder, b"false")
+            maker.add(b"drain", maker.node(), holder, b"false")
         else:
             maker.add(b"crash", holder)
-            maker.add(*((b"boot", holder, maker.moment()) if roll < 0.7 else (b"down", maker.on(), holder)))
+            maker.add(*((b"boot", holder, maker.moment()) if roll < 0.7 else (b"down", maker.node(), holder)))
             maker.add(b"share")
-        maker.wish(b"start")
+        maker.line("start")
         maker.add(b"share")
-        maker.add(b"page", maker.on())
+        maker.line("page")
     maker.close()
 
 
@@ -499,18 +511,16 @@ def odd_input(random: Random, text: bytes, script: bytes) -> bytes:
     return random.choice(choices)()
 
 
-def script_config(random: Random, seed: int, number: int) -> bytes:
-    """A configuration to play with: one of the chosen ones, or any valid one."""
-    if random.random() < 0.7:
-        return random.choice(CONFIGS)
-    for other in range(20):
-        text = random_text(seed, -1 - number * 20 - other)
+def some_config(random: Random, seed: int, number: int, is_chosen: Callable[[Config], bool]) -> bytes:
+    """A configuration to play with: one of those above, or any small valid one that is chosen."""
+    for other in range(40 if random.random() < 0.3 else 0):
+        text = random_text(seed, -1 - number * 40 - other)
         try:
             config = read_config(text)
         except ConfigFault:
             continue
         is_small = len(text) < 4_000 and len(config.apps) < 12 and b"--" not in text
-        if is_small and any(b" " not in name for name in config.nodes):
+        if is_small and any(b" " not in name for name in config.nodes) and is_chosen(config):
             return text + b"\n"
     return random.choice(CONFIGS)
 
@@ -529,9 +539,8 @@ KINDS: tuple[tuple[Callable[[ScriptMaker], None], int], ...] = (
 
 
 def random_script(seed: int, number: int) -> bytes:
-    """The input of a number under a seed."""
     random = Random(f"script {seed} {number}")
-    text = script_config(random, seed, number)
+    text = some_config(random, seed, number, lambda _: True)
     maker = ScriptMaker(random, read_config(text))
     kinds, weights = zip(*KINDS)
     random.choices(kinds, weights)[0](maker)
@@ -550,9 +559,9 @@ def random_packets(seed: int, number: int) -> bytes:
     maker = ScriptMaker(random, read_config(text))
     maker.open()
     maker.some(random.choice((CALM, LETTERS, HANDS, DRAINS)), random.choice((5, 20, 40)))
-    feeds = [maker.feed_line() for _ in range(PACKETS)]
+    feeds = [maker.feed_line(maker.world) for _ in range(PACKETS)]
     return text + b"--\n" + b"\n".join(maker.lines + feeds)
 
 
 if __name__ == "__main__":
-    sys.stdout.buffer.write(random_script(int(sys.argv[1]), int(sys.argv[2])))
+    sys.exit(print_input("random_scripts.py", random_script))

@@ -13,6 +13,8 @@ from collections.abc import Callable
 from random import Random
 from typing import List
 
+from streams import print_input
+
 Tokens = List[bytes]
 
 NODES = (b"c1@h", b"c2@h", b"c3@h", b"a@b", b"b@h", b"'n-1@h.example'", b"'N'", b"''", b"'fun'", b"z9@Z_", b"'c1@h'")
@@ -41,12 +43,10 @@ def parted(items: list[Tokens]) -> Tokens:
 
 
 def listed(items: list[Tokens]) -> Tokens:
-    """A list of items."""
     return [b"[", *parted(items), b"]"]
 
 
 def tuple_of(items: list[Tokens]) -> Tokens:
-    """A tuple of items."""
     return [b"{", *parted(items), b"}"]
 
 
@@ -62,7 +62,6 @@ def named(random: Random, kind: str, most: int) -> list[bytes]:
 
 
 def term(random: Random, depth: int = 0) -> Tokens:
-    """Any term."""
     roll = random.random()
     if depth > 4 or roll < 0.5:
         return [random.choice(random.choice((APPS, NUMBERS, STRINGS, NODES)))]
@@ -85,7 +84,6 @@ def node_list(random: Random, nodes: list[bytes]) -> Tokens:
 
 
 def entry(random: Random, app: bytes, nodes: list[bytes]) -> Tokens:
-    """An application."""
     wait = [[random.choice(NUMBERS)]] if random.random() < 0.5 else []
     return tuple_of([[app], *wait, node_list(random, nodes)])
 
@@ -97,7 +95,6 @@ def permission(random: Random, apps: list[bytes]) -> Tokens:
 
 
 def parameters(random: Random) -> list[Tokens]:
-    """The parameters of the kernel."""
     nodes, apps = named(random, "node", 12), named(random, "app", 60)
     found = [tuple_of([[b"distributed"], listed([entry(random, app, nodes) for app in apps])])]
     if random.random() < 0.5:
@@ -342,7 +339,6 @@ MAKERS: tuple[tuple[Callable[[Random], bytes], int], ...] = (
 
 
 def random_text(seed: int, number: int) -> bytes:
-    """The text of a number under a seed."""
     random = Random(f"text {seed} {number}")
     makers, weights = zip(*MAKERS)
     made: bytes = random.choices(makers, weights)[0](random)
@@ -350,4 +346,4 @@ def random_text(seed: int, number: int) -> bytes:
 
 
 if __name__ == "__main__":
-    sys.stdout.buffer.write(random_text(int(sys.argv[1]), int(sys.argv[2])))
+    sys.exit(print_input("random_texts.py", random_text))

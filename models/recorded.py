@@ -24,7 +24,7 @@ from typing import Callable, Dict, List, Optional, Tuple
 import live
 import racing
 from check import Config, Fault
-from live import READ, Asked, LiveReader, Phase, Run, phases_of
+from live import READ, LiveReader, Phase, Run, phases_of
 from racing import OK, Broken, demand
 from simulator import InputFault, Line, LineReader, Player, ScriptFault, Value, parted, read_input
 
@@ -113,7 +113,6 @@ def answer_of(said: List[bytes]) -> bytes:
 
 
 def demand_all(source: bytes, output: bytes, judge: Judge) -> None:
-    """Demands all properties."""
     config, asked = read_input(source, LiveReader)
     phases = phases_of(asked)
     try:

@@ -77,7 +77,6 @@ KINDS: Dict[str, Callable[[random.Random, int], Choose]] = {"uniform": by_chance
 
 
 def kind_of(number: int) -> str:
-    """The kind of the schedule of a number."""
     return list(KINDS)[(number - 1) % len(KINDS)]
 
 
@@ -109,13 +108,11 @@ class Kept(Run):
         return self.chooser(threads)
 
     def answer(self, asked: Asked) -> bytes:
-        """The answer to a caller."""
         if asked.word != READ:
             self.events.append(Event(asked.word, asked.values))
         return super().answer(asked)
 
     def ship(self, link: Link) -> None:
-        """Ships once."""
         shipped = len(self.world.messages)
         super().ship(link)
         if len(self.world.messages) > shipped:
@@ -183,7 +180,6 @@ def replayed(config: Config, events: Iterable[Event]) -> Replay:
 
 
 def line_of(config: Config, word: bytes, values: Tuple[Value, ...]) -> bytes:
-    """A line of a script."""
     return b" ".join([word, *(word_of(config, kind, value) for kind, value in zip(SHAPES[word], values))])
 
 

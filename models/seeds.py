@@ -1,23 +1,21 @@
 """The initial inputs of a fuzzer for each command, and the words of its formats.
 
-The inputs are the examples, the rows of examples/rows, the worked examples, and random ones. Those of `feed` are the
-bytes of packets under one configuration. The words come from the tables of docs/FORMATS.md and its grammar of
-configurations.
+The inputs are the examples, the rows of examples/rows, and random ones. Those of `feed` are the bytes of packets under
+one configuration. The words come from the tables of docs/FORMATS.md and its grammar of configurations.
 """
 
 from __future__ import annotations
 
 import re
 from collections.abc import Callable, Iterator
-from pathlib import Path
 
 import random_live
 import random_scripts
 import random_texts
 import worked
 from check import read_config
+from row_files import CHECK, LIVE, SIM, TOP, examples, rows
 
-TOP = Path(__file__).resolve().parent.parent
 FORMATS = TOP / "docs" / "FORMATS.md"
 PARTED = b"--\n"
 # Longer inputs make a fuzzer slow.
@@ -30,44 +28,29 @@ MARK = read_config(PACKETS_UNDER).mark.to_bytes(8, "big")
 # Inputs
 
 
-def examples(pattern: str) -> Iterator[bytes]:
-    """The examples with these names."""
-    for path in sorted(TOP.glob(f"examples/{pattern}")):
-        yield path.read_bytes()
-
-
-def worked_script(row: worked.Row) -> bytes:
-    """The input of a worked example."""
-    boots = [f"boot {node} 0" for node in worked.whole(row.booted.replace(" ", ";"))]
-    return row.config + PARTED + "\n".join([*boots, *worked.whole(row.script)]).encode()
+def played(command: str) -> Iterator[bytes]:
+    """The examples and rows of a command."""
+    return (row.source for read in (examples, rows) for row in read(TOP, command))
 
 
 def texts() -> Iterator[bytes]:
-    """Configurations."""
-    yield from examples("*.config")
-    yield from examples("rows/check*/*.config")
+    yield from played(CHECK)
     yield from (text for text, _ in worked.TEXTS)
     yield from (random_texts.random_text(1, number) for number in range(40))
 
 
 def scripts() -> Iterator[bytes]:
     """Inputs of `sim`."""
-    yield from (source for source in examples("*.distac") if b"\nphase" not in source)
-    yield from examples("rows/sim/*.distac")
-    yield from map(worked_script, worked.ROWS)
+    yield from played(SIM)
     yield from (random_scripts.random_script(1, number) for number in range(40))
 
 
 def live_scripts() -> Iterator[bytes]:
-    """Inputs of `live`."""
-    yield from examples("live-*.distac")
-    yield from examples("rows/live*/*.distac")
-    yield from (row.config + PARTED + "\n".join(worked.whole(row.script)).encode() for row in worked.LIVE_ROWS)
+    yield from played(LIVE)
     yield from (random_live.random_live(1, number) for number in range(25))
 
 
 def fed_in(source: bytes) -> Iterator[bytes]:
-    """The bytes fed by a script."""
     for digits in re.findall(rb"^feed ((?:[0-9a-f]{2})+)$", source, re.MULTILINE):
         yield bytes.fromhex(digits.decode())
 

@@ -123,7 +123,6 @@ class LineReader:
         return min((fault for fault in faults if fault), key=SCRIPT_FAULTS.index, default=None)
 
     def fault_of_word(self, kind: str, word: bytes) -> str | None:
-        """The fault of a word."""
         if kind in (ACTOR, NODE, APP) and atom_name(word) is None:
             return "BadName"
         if kind == TRUTH and word not in (b"true", b"false"):
@@ -194,7 +193,6 @@ class Printer:
         self.config = world.config
 
     def node(self, node: int) -> bytes:
-        """The name of a node."""
         return spelled(self.config.nodes[node])
 
     def app(self, app: int) -> bytes:
@@ -211,20 +209,17 @@ class Printer:
         return b"issued %d %s %d %d" % (number, self.node(dot.node), dot.inc, dot.n)
 
     def claim(self, number: int) -> bytes:
-        """A claim of a tick."""
         act = self.world.operations[number - 1].act
         if not isinstance(act, ClaimAct):
             raise TypeError(act)
         return b"claim %d %s term %d %s" % (number, self.app(act.app), act.term, self.how(act.how, act.source))
 
     def shipped(self, number: int) -> bytes:
-        """A shipped message."""
         message = self.world.shipped(number)
         heard = "" if message.kind == NOTHING else " %d" % bin(message.body).count("1")
         return f"shipped {number} {BODY_NAMES[message.kind]}{heard}".encode()
 
     def page(self, node: int) -> list[bytes]:
-        """The page of a node."""
         running = self.world.nodes[node].running
         if running is None:
             return [self.off(node)]
@@ -267,7 +262,6 @@ class Printer:
         return b"list" + b"".join(b" %s=%s" % (self.node(node), self.mark(state, app, node)) for node in listed)
 
     def mark(self, state: Meaning, app: int, node: int) -> bytes:
-        """The state of a node in a list."""
         inc = state.live(node)
         if inc is None:
             return b"down"
@@ -304,7 +298,6 @@ class Player:
         }
 
     def play(self, line: Line) -> list[bytes]:
-        """The output for a line."""
         try:
             if line.word in COMMANDS:
                 command: Callable[..., int] = getattr(self.world, line.word.decode())
@@ -318,24 +311,20 @@ class Player:
             return [fault.line()]
 
     def boot(self, node: int, now: int) -> list[bytes]:
-        """A boot."""
         number = self.world.boot(node, now)
         return [b"booted %d op %d" % (self.world.nodes[node].last, number)]
 
     def crash(self, node: int) -> list[bytes]:
-        """A crash."""
         self.world.crash(node)
         return [b"crashed"]
 
     def tick(self, node: int, now: int) -> list[bytes]:
-        """A tick."""
         found = self.world.tick(node, now)
         if isinstance(found, str):
             return [found.encode()]
         return [b"ticked", *(self.text.claim(number) for number in found)]
 
     def state(self, node: int) -> list[bytes]:
-        """The bytes of a state."""
         if not self.world.is_on(node):
             return [self.text.off(node)]
         return [state_bytes(self.world.state(node)).hex().encode()]
@@ -354,12 +343,10 @@ class Player:
         return [b"wire ok"]
 
     def bytes(self, number: int) -> list[bytes]:
-        """The bytes of a message."""
         return [packet_bytes(self.world.config, self.world.message(number)).hex().encode()]
 
 
 def play_all(config: Config, lines: list[Line]) -> bytes:
-    """The output for all lines."""
     player = Player(config)
     return b"".join(text + b"\n" for line in lines for text in player.play(line))
 

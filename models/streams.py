@@ -2,9 +2,11 @@
 
 from __future__ import annotations
 
+import argparse
+import io
 import os
 import sys
-from typing import Callable
+from typing import Callable, Collection
 
 UNREAD = b"input fault 3 Read\n"
 
@@ -19,6 +21,23 @@ def run_model(name: str, play: Callable[[bytes], tuple[bytes, int]]) -> int:
         output, status = UNREAD, 1
     else:
         output, status = play(source)
+    return written(name, output, status)
+
+
+def print_input(name: str, make: Callable[..., bytes], kinds: Collection[str] = ()) -> int:
+    """Prints what a generator makes of the command line's words: of a kind, if there are several, a seed and a number."""
+    parser = argparse.ArgumentParser(prog=name)
+    if kinds:
+        parser.add_argument("kind", choices=list(kinds))
+    parser.add_argument("seed", type=int)
+    parser.add_argument("number", type=int)
+    words = parser.parse_args()
+    kind = [words.kind] if kinds else []
+    return written(name, make(*kind, words.seed, words.number), 0)
+
+
+def written(name: str, output: bytes, status: int) -> int:
+    """Prints an output, and returns this status if it can be written."""
     try:
         with open(1, "wb", closefd=False) as opened:
             opened.write(output)
@@ -34,6 +53,9 @@ def printed(name: str, work: Callable[[], int]) -> int:
     error, unless a pipe's reader has gone."""
     if sys.stdout is None:
         return failed(name, "it is closed")
+    if isinstance(sys.stdout, io.TextIOWrapper):
+        # (in some locales the output has signs without a spelling)
+        sys.stdout.reconfigure(errors="backslashreplace")
     try:
         try:
             return work()

@@ -5,7 +5,7 @@ There are two versions. The second has drains, and incarnations of eight bytes i
 
 from __future__ import annotations
 
-from collections.abc import Callable
+from collections.abc import Callable, Iterator
 from dataclasses import dataclass
 from typing import Dict, List, Tuple, TypeVar, Union
 
@@ -98,7 +98,6 @@ Packet = Union[Message, Operation]
 
 
 def u(size: int, number: int) -> bytes:
-    """A number in so many bytes."""
     return number.to_bytes(size, "big")
 
 
@@ -118,11 +117,9 @@ class Writer:
         return u(1, origin.node) + self.inc(origin.inc)
 
     def dot(self, dot: Dot) -> bytes:
-        """A dot."""
         return self.origin(dot.origin) + u(8, dot.n)
 
     def key(self, key: Key) -> bytes:
-        """A key."""
         return u(2, key.app) + u(1, key.node) + self.inc(key.inc)
 
     def context(self, rows: Rows) -> bytes:
@@ -130,7 +127,6 @@ class Writer:
         return u(2, len(rows)) + b"".join(self.row(origin, *rows[origin]) for origin in sorted(rows))
 
     def row(self, origin: Origin, unbroken: int, further: list[int]) -> bytes:
-        """The dots of one origin."""
         return self.origin(origin) + u(8, unbroken) + u(4, len(further)) + b"".join(u(8, n) for n in further)
 
     def votes(self, about: bytes, values: dict[Dot, bool]) -> bytes:
@@ -138,11 +134,9 @@ class Writer:
         return about + u(4, len(values)) + b"".join(self.dot(dot) + u(1, values[dot]) for dot in sorted(values))
 
     def starts(self, key: Key, dots: set[Dot]) -> bytes:
-        """The standing starts of a key."""
         return self.key(key) + u(4, len(dots)) + b"".join(map(self.dot, sorted(dots)))
 
     def life(self, node: int, life: Life) -> bytes:
-        """The life of a node."""
         return u(1, node) + self.inc(life.inc) + u(1, life.is_down)
 
     def claim(self, app: int, claim: Claim) -> bytes:
@@ -150,7 +144,6 @@ class Writer:
         return u(2, app) + u(8, claim.term) + self.origin(claim.origin) + u(1, claim.how) + u(1, claim.source + 1)
 
     def state(self, state: SpelledState) -> bytes:
-        """A state."""
         parts = [self.context(state.heard), self.context(state.known), u(4, len(state.permits))]
         parts += [self.votes(self.key(key), state.permits[key]) for key in sorted(state.permits)]
         parts.append(u(4, len(state.starts)))
@@ -165,18 +158,15 @@ class Writer:
         return b"".join(parts)
 
     def head(self, config: Config, kind: int) -> bytes:
-        """The head of every packet."""
         return MAGIC + u(1, self.version) + u(8, config.mark) + u(1, kind)
 
     def message(self, config: Config, message: Message) -> bytes:
-        """A message."""
         ack = b"\0" if message.ack is None else b"\1" + self.origin(message.ack[0]) + u(8, message.ack[1])
         found = self.head(config, message.kind) + self.origin(message.sender) + u(1, message.to)
         found += self.inc(message.only) + u(8, message.up_to) + ack
         return found if message.body is None else found + self.state(message.body)
 
     def operation(self, config: Config, operation: Operation) -> bytes:
-        """A single operation."""
         act = operation.act
         found = self.head(config, SINGLE) + self.dot(operation.dot) + u(1, ACT_CODES[type(act)])
         if isinstance(act, Up):
@@ -191,7 +181,6 @@ class Writer:
 
 
 def state_bytes(state: Meaning, version: int = SECOND) -> bytes:
-    """A state."""
     return Writer(version).state(SpelledState.of(state))
 
 
@@ -205,6 +194,9 @@ def packet_bytes(config: Config, packet: Packet, version: int = SECOND) -> bytes
 
 
 # Reading
+
+# What stands in ascending order.
+K = TypeVar("K", int, Dot, Key, Origin)
 
 
 class Fields:
@@ -235,15 +227,12 @@ class Fields:
         return self.number(size, 0, past - 1, "BadName")
 
     def node(self) -> int:
-        """A node."""
         return self.name(1, len(self.config.nodes))
 
     def app(self) -> int:
-        """An application."""
         return self.name(2, len(self.config.apps))
 
     def inc(self) -> int:
-        """An incarnation."""
         return self.number(INC_SIZES[self.version], 1, MOST_INCS[self.version])
 
     def only(self, kind: int) -> int:
@@ -251,7 +240,6 @@ class Fields:
         return self.number(INC_SIZES[self.version], 0, 0) if kind == WHOLE else self.inc()
 
     def truth(self) -> bool:
-        """A boolean."""
         return bool(self.number(1, 0, 1))
 
     def origin(self) -> Origin:
@@ -259,7 +247,6 @@ class Fields:
         return Origin(self.node(), self.inc())
 
     def dot(self) -> Dot:
-        """A dot."""
         origin = self.origin()
         return Dot(origin.node, origin.inc, self.number(8, 1, MOST_NUMBER))
 
@@ -269,7 +256,6 @@ class Fields:
             raise WireFault("NotInList", at)
 
     def key(self) -> Key:
-        """A key."""
         at = self.at
         key = Key(self.app(), self.node(), self.inc())
         self.listed(key.app, key.node, at)
@@ -283,45 +269,30 @@ class Fields:
             raise WireFault("BadNumber", self.at - 1)
         return how, source - 1
 
+    def ascending(self, count: int, read: Callable[[], K], last: K | None = None) -> Iterator[K]:
+        """So many items, each above the one before it. What belongs to an item is read before the next one."""
+        for _ in range(count):
+            at = self.at
+            item = read()
+            if last is not None and not last < item:
+                raise WireFault("BadOrder", at)
+            last = item
+            yield item
+
     def end(self) -> None:
-        """The end of the bytes."""
         if self.at < len(self.data):
             raise WireFault("Trailing", self.at)
-
-
-K = TypeVar("K", Key, Origin)
-
-
-def above(found: object, last: object | None, at: int) -> None:
-    """Refuses an item that isn't above the previous one."""
-    if last is not None and not last < found:  # type: ignore[operator]
-        raise WireFault("BadOrder", at)
 
 
 def read_context(fields: Fields) -> Rows:
     """The written form of a set of dots: for each origin the length of its unbroken run, and its further counters."""
     rows: Rows = {}
-    last = None
-    for _ in range(fields.count(2)):
-        at = fields.at
-        origin = fields.origin()
-        above(origin, last, at)
-        last = origin
+    for origin in fields.ascending(fields.count(2), fields.origin):
         unbroken = fields.number(8, 0, MOST_NUMBER)
         count = fields.number(4, 0 if unbroken else 1, 2**32 - 1)
-        rows[origin] = (unbroken, read_further(fields, unbroken, count))
+        further = fields.ascending(count, lambda: fields.number(8, 1, MOST_NUMBER), unbroken + 1)
+        rows[origin] = (unbroken, list(further))
     return rows
-
-
-def read_further(fields: Fields, unbroken: int, count: int) -> list[int]:
-    """An origin's counters after the first gap."""
-    further: list[int] = []
-    for _ in range(count):
-        at = fields.at
-        counter = fields.number(8, 1, MOST_NUMBER)
-        above(counter, further[-1] if further else unbroken + 1, at)
-        further.append(counter)
-    return further
 
 
 def has_dot(rows: Rows, dot: Dot) -> bool:
@@ -345,49 +316,22 @@ def is_within(rows: Rows, others: Rows) -> bool:
 
 def read_stores(fields: Fields, read: Callable[[], K], known: Rows, has_value: bool) -> dict[K, dict[Dot, bool]]:
     """The store of each key, or of each node's incarnation: permits or drains with their values, or starts."""
-    stores: dict[K, dict[Dot, bool]] = {}
-    last = None
-    for _ in range(fields.count(4)):
-        at = fields.at
-        about = read()
-        above(about, last, at)
-        last = about
-        stores[about] = read_standing(fields, known, has_value)
-    return stores
+    return {about: read_standing(fields, known, has_value) for about in fields.ascending(fields.count(4), read)}
 
 
 def read_standing(fields: Fields, known: Rows, has_value: bool) -> dict[Dot, bool]:
     """The standing dots of one key, or of one incarnation."""
     standing: dict[Dot, bool] = {}
-    last = None
-    for _ in range(fields.number(4, 1, 2**32 - 1)):
-        at = fields.at
-        dot = fields.dot()
-        above(dot, last, at)
-        last = dot
+    for dot in fields.ascending(fields.number(4, 1, 2**32 - 1), fields.dot):
         if not has_dot(known, dot):
-            raise WireFault("NotKnown", at)
+            raise WireFault("NotKnown", fields.at - len(Writer(fields.version).dot(dot)))
         standing[dot] = fields.truth() if has_value else True
     return standing
-
-
-def read_lives(fields: Fields) -> dict[int, Life]:
-    """The lives of all nodes."""
-    lives: dict[int, Life] = {}
-    last = None
-    for _ in range(fields.count(1)):
-        at = fields.at
-        node = fields.node()
-        above(node, last, at)
-        last = node
-        lives[node] = Life(fields.inc(), fields.truth())
-    return lives
 
 
 def read_claims(fields: Fields) -> dict[int, Claim]:
     """The greatest claims of all applications."""
     claims: dict[int, Claim] = {}
-    last = None
     for _ in range(fields.count(2)):
         at = fields.at
         app = fields.app()
@@ -395,8 +339,8 @@ def read_claims(fields: Fields) -> dict[int, Claim]:
         origin = fields.origin()
         how, source = fields.how_and_source()
         fields.listed(app, origin.node, at)
-        above(app, last, at)
-        last = app
+        if claims and app <= max(claims):
+            raise WireFault("BadOrder", at)
         claims[app] = Claim(term, origin.node, origin.inc, how, source)
     return claims
 
@@ -409,7 +353,8 @@ def read_parts(fields: Fields) -> SpelledState:
         raise WireFault("NotKnown", fields.at)
     permits = read_stores(fields, fields.key, known, True)
     starts = {key: set(dots) for key, dots in read_stores(fields, fields.key, known, False).items()}
-    lives, claims = read_lives(fields), read_claims(fields)
+    lives = {node: Life(fields.inc(), fields.truth()) for node in fields.ascending(fields.count(1), fields.node)}
+    claims = read_claims(fields)
     drains = read_stores(fields, fields.origin, known, True) if fields.version >= SECOND else {}
     return SpelledState(heard, known, permits, starts, lives, claims, drains)
 
@@ -424,13 +369,7 @@ def read_state(config: Config, data: bytes, version: int = SECOND) -> SpelledSta
 
 def read_over(fields: Fields) -> tuple[Dot, ...]:
     """The dots replaced by an operation."""
-    over: list[Dot] = []
-    for _ in range(fields.count(2)):
-        at = fields.at
-        dot = fields.dot()
-        above(dot, over[-1] if over else None, at)
-        over.append(dot)
-    return tuple(over)
+    return tuple(fields.ascending(fields.count(2), fields.dot))
 
 
 def read_act(fields: Fields, dot: Dot) -> Act:
@@ -451,7 +390,6 @@ def read_act(fields: Fields, dot: Dot) -> Act:
 
 
 def read_claim(fields: Fields, dot: Dot) -> ClaimAct:
-    """The claim of an operation."""
     at = fields.at
     app, term = fields.app(), fields.number(8, 1, MOST_NUMBER)
     how, source = fields.how_and_source()
@@ -468,7 +406,6 @@ def is_operation(operation: Operation) -> bool:
 
 
 def read_operation(fields: Fields) -> Operation:
-    """A single operation."""
     at = fields.at
     dot = fields.dot()
     operation = Operation(dot, read_act(fields, dot))
@@ -478,7 +415,6 @@ def read_operation(fields: Fields) -> Operation:
 
 
 def read_message(fields: Fields, kind: int) -> Message:
-    """A message of a kind."""
     sender, to, only = fields.origin(), fields.node(), fields.only(kind)
     up_to = fields.number(8, 0, MOST_NUMBER)
     ack = (fields.origin(), fields.number(8, 0, MOST_NUMBER)) if fields.truth() else None

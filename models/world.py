@@ -124,7 +124,6 @@ class World:
     # What is known
 
     def meaning(self, operations: int) -> Meaning:
-        """The meaning of a set of operations."""
         if operations not in self.cached:
             if len(self.cached) >= MOST_CACHED:
                 self.cached.clear()
@@ -133,7 +132,6 @@ class World:
         return self.cached[operations]
 
     def state(self, node: int) -> Meaning:
-        """The state of a running node."""
         return self.meaning(self.running(node).heard)
 
     def running(self, node: int) -> Running:
@@ -154,7 +152,6 @@ class World:
         return Message(shipped.kind, shipped.sender, shipped.to, shipped.only, shipped.up_to, shipped.ack, body)
 
     def shipped(self, number: int) -> Shipped:
-        """The shipped message of a number."""
         if not 1 <= number <= len(self.messages):
             raise NoSuch(b"message", number)
         return self.messages[number - 1]

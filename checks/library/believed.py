@@ -68,7 +68,6 @@ class BelievedPage:
         return f"{counted}; {views}" if self.asked.views else counted
 
     def lines(self) -> Iterator[str]:
-        """The whole page."""
         yield from wrapped(f"What {self.asked.heading} rests on, lowest crate first.", "")
         yield ""
         for crate in self.modules.crates.order():

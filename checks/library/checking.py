@@ -33,7 +33,6 @@ class Check(NamedTuple):
 
 
 def document_list() -> List[Check]:
-    """The checks of documents."""
     documents = document_checks.Documents(HERE)
     modules, sources = Modules(), Sources()
     return [

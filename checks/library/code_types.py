@@ -37,7 +37,6 @@ def text_at(lines: List[str], place: int) -> Tuple[str, ...]:
 
 
 def declarations_in(crate: str, file: pathlib.Path) -> Iterator[Declared]:
-    """The declarations of a file."""
     lines = file.read_text(encoding="utf-8").split("\n")
     for place, line in enumerate(lines):
         match = DECLARATION.match(line)

@@ -137,7 +137,6 @@ class SourceFile:
     """A file of code: its functions and its imports of definitions."""
 
     def __init__(self, crate: str, modules: Tuple[str, ...], file: pathlib.Path) -> None:
-        """Reads the file."""
         self.crate, self.modules, self.file = crate, modules, file
         self.lines = file.read_text(encoding="utf-8").split("\n")
         found = (import_of(line) for line in self.lines if line.strip().startswith("ghost use"))
@@ -196,7 +195,6 @@ class Sources:
                 self._read(crate)
 
     def _read(self, crate: str) -> None:
-        """Reads the sources of one crate."""
         folder = self.root / "crates" / crate / "src"
         shown: List[str] = []
         hidden: List[Tuple[str, ...]] = []

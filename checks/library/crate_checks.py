@@ -2,7 +2,7 @@
 
 import pathlib
 import re
-from typing import Dict, FrozenSet, Iterator, List, Tuple
+from typing import Dict, FrozenSet, Iterator, List
 
 from checks.library.crates import Crates
 from checks.library.spans import SPAN

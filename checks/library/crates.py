@@ -19,7 +19,6 @@ class Crates(NamedTuple):
         return [crate for crates in self.layers.values() for crate in crates]
 
     def layer_of(self, crate: str) -> str:
-        """The layer of a crate."""
         return next(layer for layer, crates in self.layers.items() if crate in crates)
 
     def below(self, crate: str) -> FrozenSet[str]:
@@ -47,7 +46,6 @@ def lines_of(root: pathlib.Path) -> Iterator[str]:
 
 
 def read_crates(root: pathlib.Path = HERE) -> Crates:
-    """Reads crates.txt."""
     layers: Dict[str, List[str]] = {}
     listed: Dict[str, Tuple[str, ...]] = {}
     layer = ""

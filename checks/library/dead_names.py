@@ -40,11 +40,9 @@ class AllModules(Modules):
     """The modules of specs/ and of proofs/, without the files of functions' proofs."""
 
     def all_of(self, crate: str) -> List[Module]:
-        """All modules of a crate."""
         return [module for folder in FOLDERS for module in self._in(crate, folder)]
 
     def _in(self, crate: str, folder: str) -> Iterator[Module]:
-        """The modules of a folder of a crate."""
         top = self.root / "crates" / crate / folder
         for file in sorted(top.glob("**/*.antt")):
             path = ".".join((folder, *file.relative_to(top).with_suffix("").parts))
@@ -135,12 +133,10 @@ class Reached:
 
 
 def imports_in(text: str) -> List[Import]:
-    """The imports of a text."""
     return [one for one in map(import_of, text.split("\n")) if one is not None]
 
 
 def name_of(one: Definition) -> str:
-    """The name of a declaration."""
     match = RULESET.match(one.text[0])
     return match["name"] if match is not None else one.name
 

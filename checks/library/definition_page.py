@@ -6,9 +6,9 @@ from typing import Iterator, List, NamedTuple, Optional, Set, Tuple
 
 from checks.library.contracts import Sources
 from checks.library.definition_sources import DefinitionSources
-from checks.library.definition_texts import INTRODUCTION, NAMES, OF_CRATES
 from checks.library.modules import Definition, Module, Modules
 from checks.library.resting import Resting
+from checks.library.texts import texts_in
 
 # the page marks the definitions that this one rests on
 HEADLINE = ("dac_model_world", "EachIsMeaning")
@@ -107,7 +107,6 @@ def said_of(one: Definition, module: Module) -> str:
 
 
 def rows_of(module: Module, chosen: Set[Definition], sources: DefinitionSources) -> Iterator[Row]:
-    """The rows of a module."""
     for group in groups_of(module, chosen):
         shown = tuple(one for one in group if one in chosen)
         source = next((sources.of(one) for one in shown if sources.of(one)), "")
@@ -139,10 +138,12 @@ class Page:
         self.modules = modules
         self.tags = DefinitionSources(modules.root)
         self.chosen = chosen_of(modules, sources, resting)
+        # the top of the page, the words that definitions use, and a text for each of some crates
+        self.texts = texts_in("definition_texts.txt")
 
     def lines(self) -> Iterator[str]:
-        """The whole page."""
-        yield from (*INTRODUCTION.strip().replace("COUNTS", self.counts()).split("\n"), "", *NAMES.strip().split("\n"))
+        top = self.texts["introduction"].replace("COUNTS", self.counts()), self.texts["names"]
+        yield from "\n".join(top).rstrip().split("\n")
         for layer, crates in self.modules.crates.layers.items():
             parts = [line for crate in crates for line in self._of_crate(crate)]
             yield from ("", f"## {layer}", *parts) if parts else ()
@@ -160,6 +161,6 @@ class Page:
         paths = dict.fromkeys(one.module for one in self.chosen.definitions if one.crate == crate)
         by_path = {module.path: module for module in self.modules.all_of(crate)}
         rows = [row for path in paths for row in rows_of(by_path[path], chosen, self.tags)]
-        says, lists = OF_CRATES.get(crate, "").strip(), list(list_of(rows, self.chosen.marked))
+        says, lists = self.texts.get(crate, "").strip(), list(list_of(rows, self.chosen.marked))
         above = [line for part in (says.split("\n") if says else [], lists) if part for line in ("", *part)]
         return ["", f"### `{crate}`", *above] if above else []

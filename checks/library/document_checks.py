@@ -43,7 +43,6 @@ class Line(NamedTuple):
     text: str
 
     def place(self, root: pathlib.Path) -> str:
-        """Its place."""
         return f"{self.file.relative_to(root)}:{self.number}"
 
 
@@ -72,7 +71,6 @@ class Documents:
     """All documents, and all other files."""
 
     def __init__(self, root: pathlib.Path) -> None:
-        """Reads the documents."""
         self.root = root
         self.files = files_of(root)
         pages = [file for file in self.files if file.suffix == ".md"]

@@ -60,7 +60,6 @@ Word = Union[Definition, CodeType]
 
 
 def import_of(line: str) -> Optional[Import]:
-    """The import in a line."""
     match = IMPORT.match(line)
     if match is None:
         return None
@@ -76,7 +75,6 @@ def import_of(line: str) -> Optional[Import]:
 
 
 def depth_of(line: str) -> int:
-    """The indentation of a line."""
     return len(line) - len(line.lstrip())
 
 
@@ -101,7 +99,6 @@ class Module:
     """A module: its file, declarations and imports."""
 
     def __init__(self, crate: str, path: str, file: pathlib.Path) -> None:
-        """Reads the file."""
         self.crate = crate
         self.path = path
         self.file = file
@@ -125,7 +122,6 @@ class Module:
         self._end()
 
     def _read(self, number: int, line: str) -> None:
-        """Reads one line."""
         bare = line.strip()
         if not bare:
             self._text_or_comment_ends()
@@ -273,7 +269,6 @@ class Modules:
         return None
 
     def find(self, path: Tuple[str, ...], name: str) -> Optional[Word]:
-        """The target of a name of a path."""
         there = self.look(path)
         if there is None:
             return None

@@ -41,7 +41,6 @@ def plain(lines: Tuple[str, ...]) -> str:
 
 
 def wrapped(text: str, first: str, other: str) -> List[str]:
-    """A text wrapped into lines."""
     return textwrap.wrap(text, WIDTH, initial_indent=first, subsequent_indent=other, break_on_hyphens=False, break_long_words=False)
 
 
@@ -49,7 +48,6 @@ class PromisePage:
     """The output of `./believe --promises`."""
 
     def __init__(self, sources: Sources, resting: Resting) -> None:
-        """Reads these sources."""
         self.sources, self.resting = sources, resting
 
     def crates(self) -> List[str]:
@@ -72,7 +70,6 @@ class PromisePage:
                         yield from self._function(one)
 
     def _function(self, one: Function) -> Iterator[str]:
-        """One function."""
         words: List[Word] = self.resting.cited_by_function(one)
         rests = len(self.resting.under(words).definitions)
         name = "::".join((one.of, one.name) if one.of else (*one.modules, one.name))

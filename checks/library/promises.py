@@ -12,6 +12,8 @@ SECTION = "## Crate by crate"
 CARRIED = " By "
 # words in backticks that aren't names of functions, types or modules
 NO_NAMES = frozenset(("requires", "ensures"))
+# a clause in README.md, with the function if it isn't the first one named there
+README_CLAUSE, FIRST_NAMED = re.compile(r"\(clause `(\w+)`(?: of `([\w:]+)`)?\)"), "World::run"
 
 
 class Cited(NamedTuple):
@@ -117,12 +119,20 @@ def faults_of_cited(one: Cited, crate: str, sources: Sources) -> Iterator[str]:
             yield f"{one.name} has no clause {clause}"
 
 
+def faults_of_clauses(text: str, sources: Sources) -> Iterator[str]:
+    """The clauses in README.md that their function lacks."""
+    for found in README_CLAUSE.finditer(text):
+        for fault in faults_of_cited(Cited(found[2] or FIRST_NAMED, (found[1],)), "dac_core", sources):
+            yield f"README.md:{text.count(chr(10), 0, found.start()) + 1}: {fault}"
+
+
 class Promises:
     """The promises of the document."""
 
     def __init__(self, root: pathlib.Path, sources: Sources) -> None:
         """Reads the document."""
         self.text = (root / "docs" / "PROMISES.md").read_text(encoding="utf-8")
+        self.readme = (root / "README.md").read_text(encoding="utf-8")
         self.sources = sources
         self.rows = list(promises_of(self.text))
 
@@ -136,6 +146,7 @@ class Promises:
             for one in row.cited:
                 for fault in faults_of_cited(one, row.crate, self.sources):
                     yield f"docs/PROMISES.md:{row.line}: {fault}"
+        yield from faults_of_clauses(self.readme, self.sources)
 
     def without_row(self) -> Iterator[str]:
         """The public functions that no promise covers, by their name, type or module."""

@@ -72,7 +72,6 @@ class Scope:
                 self.names[here] = (one.path, there)
 
     def meaning(self, word: str, behind: Optional[str]) -> Optional[Word]:
-        """The meaning of a word here."""
         if self.own is not None:
             found = self.own.definitions.get(word) or self.own.constructors.get(word)
             if found is not None:
@@ -117,7 +116,6 @@ class Resting:
     """Follows the citations of clauses and definitions."""
 
     def __init__(self, modules: Modules) -> None:
-        """Uses these modules."""
         self.modules = modules
         self._cited: Dict[Definition, Tuple[Word, ...]] = {}
 

@@ -35,7 +35,6 @@ class Round(NamedTuple):
     texts: Dict[str, str]
 
     def names(self) -> List[str]:
-        """The names of its edits."""
         return [edit.name for edit in self.edits.values()]
 
 

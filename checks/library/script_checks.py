@@ -31,7 +31,6 @@ def first_line(file: pathlib.Path) -> str:
 
 
 def shell_scripts(files: Sequence[pathlib.Path]) -> List[pathlib.Path]:
-    """The scripts for bash."""
     return [one for one in files if not one.suffix and "bash" in first_line(one)]
 
 
@@ -57,7 +56,6 @@ def bash_faults(root: pathlib.Path, files: Sequence[pathlib.Path]) -> Iterator[s
 
 
 def shellcheck_faults(root: pathlib.Path, files: Sequence[pathlib.Path]) -> Iterator[str]:
-    """The warnings of shellcheck."""
     scripts = [str(one.relative_to(root)) for one in shell_scripts(files)]
     status, said = output_of(["shellcheck", "--severity=warning", "--format=gcc"] + scripts, root)
     if status != 0:

@@ -62,7 +62,6 @@ class Views:
                 self._read(crate, file)
 
     def _read(self, crate: str, file: pathlib.Path) -> None:
-        """Reads the views of a file."""
         source = SourceFile(crate, (), file)
         for place, line in enumerate(source.lines):
             match = MODEL.match(line)

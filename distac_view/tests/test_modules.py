@@ -5,6 +5,7 @@ from __future__ import annotations
 import ast
 import re
 import unittest
+from collections import Counter
 from itertools import permutations
 from pathlib import Path
 from typing import Iterator
@@ -66,10 +67,13 @@ class Modules(unittest.TestCase):
             self.assertEqual(is_ours, sorted(is_ours), path.name)
 
     def test_each_import_is_used(self) -> None:
-        for path in (*MODULES.values(), *sorted((PACKAGE / "tests").glob("*.py"))):
+        others = [path for folder in ("models", "checks/library", "distac_view/tests") for path in (TOP / folder).glob("*.py")]
+        scripts = [path for path in (TOP / "checks").iterdir() if path.is_file() and path.suffix != ".py"]
+        for path in (*MODULES.values(), *sorted(others), *sorted(scripts)):
             text = path.read_text("utf-8")
+            words = Counter(re.findall(r"\w+", text))
             for name in names_bound(ast.parse(text)):
-                self.assertGreater(len(re.findall(rf"\b{re.escape(name)}\b", text)), 1, f"{path.name} imports {name}")
+                self.assertGreater(words[name], 1, f"{path.name} imports {name}")
 
 
 if __name__ == "__main__":

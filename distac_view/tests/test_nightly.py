@@ -51,7 +51,6 @@ class Nightly(unittest.TestCase):
         self.git("-c", "user.name=a", "-c", "user.email=a", "commit", "-q", "-m", "all")
 
     def write(self, path: str, text: str) -> Path:
-        """A file."""
         file = self.top / path
         file.parent.mkdir(parents=True, exist_ok=True)
         file.write_text(text)
@@ -66,12 +65,10 @@ class Nightly(unittest.TestCase):
         self.script("../bin/rt", f"echo {name}")
 
     def git(self, *words: str) -> str:
-        """The output of git."""
         done = subprocess.run(["git", *words], cwd=self.top, stdout=subprocess.PIPE, text=True, check=True)
         return done.stdout.strip()
 
     def start(self, *words: str) -> "subprocess.Popen[str]":
-        """Starts the script."""
         surroundings = {**os.environ, "PATH": f"{self.top.parent / 'bin'}:{os.environ['PATH']}"}
         pipe = subprocess.PIPE
         line = [str(self.top / "checks" / "nightly"), *words]

@@ -115,8 +115,7 @@ class OwnCommands(unittest.TestCase):
     def test_unknown_words_are_refused_before_anything_is_done(self) -> None:
         for words, said in REFUSED:
             status, output, errors = say(*words)
-            self.assertNotEqual(status, 0, words)
-            self.assertEqual(output, "", words)
+            self.assertEqual((status, output), (2, ""), words)
             self.assertIn(said, errors, words)
 
     def test_help(self) -> None:
@@ -129,11 +128,12 @@ class OwnCommands(unittest.TestCase):
                 self.assertIn(first_line, output, command)
 
     def test_output_that_cant_be_written(self) -> None:
+        tried = {"checks/mutants --counts dac_tokens": "mutants: standard output", "tests --list": "write error"}
         for where in (">/dev/full", ">&-"):
-            line = f"{TOP}/checks/mutants --counts dac_tokens {where}"
-            done = subprocess.run(line, shell=True, stderr=subprocess.PIPE, text=True, timeout=MOST_SECONDS, check=False)
-            self.assertEqual((done.returncode, done.stderr.count("\n")), (1, 1), where)
-            self.assertTrue(done.stderr.startswith("mutants: standard output can't be written: "), done.stderr[:200])
+            for words, said in tried.items():
+                done = subprocess.run(f"{TOP}/{words} {where}", shell=True, stderr=subprocess.PIPE, text=True, check=False)
+                self.assertEqual(done.returncode, 1, (words, where))
+                self.assertTrue(all(said in line for line in done.stderr.splitlines()), done.stderr[:200])
 
     def test_links_and_folders_that_cd_looks_in(self) -> None:
         cdpath = f".:{TOP.parent}:/"

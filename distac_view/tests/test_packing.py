@@ -42,7 +42,6 @@ class Packed(unittest.TestCase):
         self.file = self.room / "distac-view.pyz"
 
     def pack(self, *words: str) -> None:
-        """Packs into a file."""
         done = ran(PACK, *words)
         self.assertEqual((done.returncode, done.stdout, done.stderr), (0, b"", b""))
 

@@ -40,7 +40,6 @@ def said(*words: str, cwd: Path, path: str = os.environ["PATH"], **more: str) ->
 
 
 def git(folder: Path, *words: str) -> str:
-    """The output of git in a folder."""
     person = ("-c", "user.name=Somebody", "-c", "user.email=somebody@example.org")
     done = said("git", *person, *words, cwd=folder)
     assert done.returncode == 0, done
@@ -97,7 +96,6 @@ class Release(Room):
         return said(sys.executable, str(self.top / "distac_view" / "release.py"), *words, str(self.folder), cwd=self.room, path=path)
 
     def facts(self) -> Dict[str, str]:
-        """The contents of RELEASE."""
         lines = (self.folder / "RELEASE").read_text().splitlines()
         return dict(line.split(": ", 1) for line in lines)
 
