@@ -209,7 +209,8 @@ class ScriptMaker(PlayingMaker):
     def words(self, verb: str) -> Sequence[bytes]:
         """The words of a line after its node."""
         if verb in ("hand", "bytes"):
-            return (self.number_near(len(self.world.operations if verb == "hand" else self.world.messages)),)
+            count = len(self.world.operations) if verb == "hand" else len(self.world.messages)
+            return (self.number_near(count),)
         if verb == "ship":
             return (self.about(),)
         return (self.node(),) if verb == "same" else super().words(verb)
