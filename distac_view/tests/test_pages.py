@@ -166,7 +166,9 @@ class Pages(unittest.TestCase):
                 for fate, cell in zip(case["applications"], cells):
                     place = fate["then"] or ("nowhere" if fate["now"] else "-")
                     after = f" after {fate['milliseconds'] // 1000} s" if fate["how"] == "failover" and fate["milliseconds"] else ""
-                    self.assertEqual(cell, place if fate["then"] == fate["now"] or not fate["then"] else f"-> {place}{after}", (words, fate))
+                    wanted = place if fate["then"] == fate["now"] or not fate["then"] else f"-> {place}{after}"
+                    hangs = ", or OTP hangs" if fate["application"] in case["may_hang"] else ""
+                    self.assertEqual(cell, wanted + hangs, (words, fate))
 
     def test_each_square_of_a_restart(self) -> None:
         for words in QUESTIONS[4:6]:
@@ -176,7 +178,8 @@ class Pages(unittest.TestCase):
                 for step, square in zip(answer["steps"], squares):
                     moves = [move for name in ("drained", "down", "back") for move in step[name] if move["application"] == app]
                     self.assertEqual(square.count("->"), len(moves), (app, square))
-                    self.assertEqual((app in step["nowhere"], app in step["waiting"]), ("nowhere" in square, "down" in square), square)
+                    said = ("nowhere" in square, "down" in square, "hangs" in square)
+                    self.assertEqual(said, (app in step["nowhere"], app in step["waiting"], app in step["may_hang"]), square)
                     if moves:
                         place = moves[-1]["to"]
                         self.assertIn(f"-> {place}", square)
@@ -194,7 +197,8 @@ class Pages(unittest.TestCase):
             self.assertEqual(name, f"side of {' '.join(part['nodes'])}")
             for fate, app, place, square, each in zip(part["applications"], heads[1:], before[1:], squares, answer["healed"]):
                 self.assertEqual((fate["application"], fate["now"]), (app, place))
-                self.assertEqual(square.endswith(", runs twice"), fate["then"] in each["copies"] and len(each["copies"]) == 2)
+                self.assertEqual(", runs twice" in square, fate["then"] in each["copies"] and len(each["copies"]) == 2)
+                self.assertEqual(square.endswith(", or OTP hangs"), fate["application"] in part["may_hang"])
                 self.assertIn(fate["then"] or "not here", square)
 
     def test_the_headlines_come_first(self) -> None:
