@@ -382,7 +382,7 @@ class Plays(unittest.TestCase):
         program.is_asked = lambda: asked.append(1)
         reply = reply_on(program, checked_of(text), Question("x"))
         self.assertEqual((len(reply.cases), program.cases, program.cases_done), (9, 9, 9))
-        self.assertLessEqual(len(asked), 9 + 6)
+        self.assertLessEqual(len(asked), 9 + 5)
 
 
 if __name__ == "__main__":
