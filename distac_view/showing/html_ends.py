@@ -2,7 +2,7 @@
 
 from __future__ import annotations
 
-from typing import Iterator, List
+from typing import Iterator, List, Union
 
 from distac_view.answering.race_ends import End, Reply, notes_on
 from distac_view.common.texts import shown
@@ -26,7 +26,7 @@ def table_of(reply: Reply) -> Table:
     rows: List[Cells] = []
     for number, end in enumerate(reply.ends, 1):
         lines = "; ".join(map(line_text, reply.differing(end))) or "the only end"
-        said = Square("no", f"{lines} - not as expected") if end.unmet else lines
+        said: Union[str, Square] = Square("no", f"{lines} - not as expected") if end.unmet else lines
         rows.append((f"end {number}", str(end.count), said))
     return Table("Each end", ("end", "schedules", "last pages"), rows, range(1, 2), True)
 

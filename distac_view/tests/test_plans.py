@@ -433,7 +433,7 @@ class Now(Files):
     def test_what_distac_moves_at_once(self) -> None:
         said = view("what-if", self.shop, "--now", "billing=shop2@h", "--down", "shop3@h")
         self.assertIn("Here shop1@h takes over billing at once: OTP leaves it at shop2@h until shop1@h starts it.", said.output)
-        self.assertIn("By --now reports, mail and audit run nowhere: no node starts it.", said.output)
+        self.assertIn("By --now reports, mail and audit run nowhere. A node that comes back starts it if it is the first of its list", said.output)
 
     def test_the_part_before_the_host(self) -> None:
         whole = json.loads(view("what-if", self.shop, "--json", "--now", "mail=shop2@h", "billing=shop1@h", "--down", "shop1@h").output)
@@ -463,6 +463,16 @@ class Now(Files):
         self.assertEqual(fates["billing"], ("shop2@h", "shop2@h", "shop1@h"))
         self.assertEqual(view("what-if", self.shop, *now, "--back", "shop2").status, 2)
         self.assertIn("has to be one of --down, or off by --now", view("what-if", self.shop, "--back", "shop1").errors)
+
+    def test_what_no_node_started(self) -> None:
+        """As in OTP 25: a node that comes back starts it if it is the first one, and else waits for nodes before it."""
+        rows = (("shop2@h mail\nshop3@h reports\n", "shop1", "shop1@h"), ("shop1@h audit\nshop2@h mail\n", "shop3", None))
+        for text, back, place in rows:
+            fates = self.fates("--now", self.path("now", text), "--back", back)
+            self.assertEqual(fates["billing"], (None, None, place), back)
+        tuples = (("shop1@h billing\nshop3@h reports\n", "shop2", "shop2@h"), ("shop1@h billing\nshop2@h audit\n", "shop3", None))
+        for text, back, place in tuples:
+            self.assertEqual(self.fates("--now", self.path("now", text), "--back", back)["mail"], (None, None, place), back)
 
     def test_what_was_lost_with_all_its_nodes(self) -> None:
         """As in OTP 25: the first of its nodes that comes back starts it."""
