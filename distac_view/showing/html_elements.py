@@ -22,8 +22,8 @@ def text_in(text: str) -> str:
 
 
 def with_arrows(text: str) -> str:
-    """A text with arrows of one sign, each on the line of its target."""
-    return text.replace("-> ", "\N{RIGHTWARDS ARROW}\N{NO-BREAK SPACE}").replace("->", "\N{RIGHTWARDS ARROW}")
+    """A text with arrows of one sign."""
+    return text.replace("->", "\N{RIGHTWARDS ARROW}")
 
 
 def wrapped(text: str) -> str:

@@ -80,6 +80,7 @@ SCENARIOS = (
     Scenario("equal times, one node of a tuple left", (("a1", "400", "[{cp1,cp2},cp3]"), ("a2", "400", "[cp1,cp2,cp3]")), cases=FIRST_DOWN),
     Scenario("equal times, a tuple behind a list", (("a1", "400", "[cp1,cp2,{cp3}]"), ("a2", "400", "[cp1,cp2]")), cases=FIRST_DOWN),
     Scenario("equal times, and a later list", (("a1", "400", TUPLE), ("a2", "400", TUPLE), ("a3", "2000", LIST)), cases=FIRST_DOWN),
+    Scenario("equal times, no node in both lists", (("a1", "400", "[cp1,cp2]"), ("a2", "400", "[cp1,cp3]")), cases=FIRST_DOWN),
     Scenario("20 ms apart", (("a1", "400", TUPLE), ("a2", "420", TUPLE)), cases=FIRST_DOWN),
     Scenario("100 ms apart, starts of 1000 ms", (("a1", "400", TUPLE), ("a2", "500", TUPLE)), start_takes=1000, cases=FIRST_DOWN),
 )

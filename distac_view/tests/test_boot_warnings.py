@@ -24,7 +24,7 @@ WARNED = (
     ("{app,[{receive,1}]}," + PLACED % "", "NotErlang", "receive is a word of Erlang's own"),
     ("{app,[{p,'\u00e9'}]}," + PLACED % "", "", ""),
     ("{app,[{p,\"\\xg\"}]}," + PLACED % "", "NotErlang", "no character has this number"),
-    ((PLACED % "").replace("700,[y@h,x@h", "500,[y@h,x@h,z@h"), "EqualTimes", "a and b have the same time and may run at x@h together"),
+    ((PLACED % "").replace("700,[y@h,x@h", "500,[x@h,y@h,z@h"), "EqualTimes", "a and b have the same time and may run at x@h together"),
     ("{kernel,[{distributed,[{a,1,['s@${HOST_A}','s@${HOST_B:-h}']}]}]}", "Template", "s@${HOST_A}' is left of a template"),
 )
 FINE = (

@@ -161,15 +161,14 @@ class Hangs(Files):
         self.assertIn("; OTP may hang: a and b; back:", view("rolling", fleet).output)
 
     def test_later_ones_stay_down_too(self) -> None:
-        """A later application isn't restarted if its nodes hang, as was seen with OTP 25, and is if another node comes first."""
-        rows = (("[n1@h,n2@h,n3@h]", True), ("[n1@h,n4@h,n2@h]", False), ("[n1@h,{n3@h,n4@h}]", True), ("[n1@h,{n4@h,n5@h}]", False))
-        for nodes, is_stuck in rows:
-            path = self.path("later.config", FLEET.replace("{c,5000,[n2@h,n3@h,n1@h]}", "{c,7000,%s},{d,6000,[n1@h,n5@h]}" % nodes))
+        """As in OTP 25, if all nodes start all applications: also those that another node would restart."""
+        for nodes in ("[n1@h,n2@h,n3@h]", "[n1@h,n4@h,n2@h]", "[n1@h,{n3@h,n4@h}]", "[n1@h,{n4@h,n5@h}]"):
+            path = self.path("later.config", FLEET.replace("{c,5000,[n2@h,n3@h,n1@h]}", "{c,7000,%s},{d,3000,[n1@h,n5@h]}" % nodes))
             said = json.loads(view("what-if", path, "--down", "n1", "--json").output)
-            names = ["a", "b", "c"] if is_stuck else ["a", "b"]
-            self.assertEqual(said["cases"][0]["may_hang"], names, nodes)
+            self.assertEqual(said["cases"][0]["may_hang"], ["a", "b", "c"], nodes)
             text = next(note["text"] for note in said["notes"] if note["id"] == "EqualTimes")
-            self.assertIn("only some of a, b and c: " if is_stuck else "only one of a and b: ", text)
+            self.assertIn("may hang, and restart only some of a, b and c: ", text)
+            self.assertIn("While it hangs, n1@h can't start its applications again.", text)
 
     def test_it_can_fail(self) -> None:
         fleet, cured = self.path("fleet.config", FLEET), self.path("cured.config", FLEET.replace("b,5000", "b,6000"))
@@ -254,7 +253,8 @@ class Rolls(Files):
         then = view("what-if", self.shop, "--then", new, "--takes", "4000").output
         self.assertRegex(then, r"~ billing +shop1 down +it waits -> shop2\n")
         answer = json.loads(view("what-if", self.shop, "--takes", "4000", "--down", "shop1@h", "--json").output)
-        self.assertEqual([fate["waits"] for fate in answer["cases"][0]["applications"]], [True, False, False, False])
+        fates = [(fate["waits"], fate["longest_outage"]) for fate in answer["cases"][0]["applications"]]
+        self.assertEqual(fates, [(True, 4000), (False, None), (False, None), (False, 4000)])
 
     def test_a_mandatory_node_bars_a_boot(self) -> None:
         path = self.path("gate.config", GATED_SHOP)
@@ -309,24 +309,25 @@ class Changed(Files):
 
     def test_what_no_answer_shows(self) -> None:
         old = self.path("old.config", FULL_SHOP)
-        rows: "tuple[tuple[str, str, str, str | None], ...]" = (
+        rows: "tuple[tuple[str, str, str, str], ...]" = (
             ("mandatory,[shop1@h,shop2@h,shop3@h]", "mandatory,[]", "~ all nodes  sync_nodes_mandatory  [shop1@h,shop2@h,shop3@h] -> []", "OtherGates"),
             ("optional,[]", "optional,[shop1@h]", "~ all nodes  sync_nodes_optional  [] -> [shop1@h]", "OtherGates"),
             ("timeout,30000", "timeout,300000", "~ all nodes  sync_nodes_timeout  30000 -> 300000", "OtherGates"),
-            ("net_ticktime,20", "net_ticktime,60", "~ reports    shop3 down  away for at most 28 s -> 78 s", None),
+            ("net_ticktime,20", "net_ticktime,60", "~ reports    shop3 down  away for at most 28 s -> 78 s", ""),
             ("shop2@h,shop3@h]},{reports", "shop2@h]},{reports", "~ billing  shop2 down  one loss from nothing", "NoRollingChange"),
             ("billing,8000", "billing,8001", "~ billing  shop1 down  shop2 after 8000 ms -> shop2 after 8001 ms", "MixedTimes"),
             ("{audit,", "{fax,[shop1@h]},{audit,", "+ fax (application)", "AddedMayRunTwice"),
             (",{audit,0,[shop1@h,shop2@h]}", "", "- audit (application)", "GoneRunsEverywhere"),
+            ("shop3@h}]},{audit,0,[shop1@h,shop2@h]}", "shop4@h}]}", "- audit (application)", "NoRollingChange GoneRunsEverywhere"),
         )
-        for before, behind, line, note in rows:
+        for before, behind, line, notes in rows:
             self.assertIn(before, FULL_SHOP)
             words = ("what-if", old, "--then", self.path("new.config", FULL_SHOP.replace(before, behind)))
             said, answer = view(*words), json.loads(view(*words, "--json").output)
             lines = [re.sub(" {2,}", "  ", row) for row in said.output.splitlines()]
             self.assertEqual(said.status, 1, said)
             self.assertIn(re.sub(" {2,}", "  ", line), lines)
-            self.assertEqual([each["id"] for each in answer["notes"]], [note] if note else [])
+            self.assertEqual([each["id"] for each in answer["notes"]], notes.split())
 
     def test_what_a_rollout_fails_on(self) -> None:
         old = self.path("old.config", FULL_SHOP)
