@@ -74,6 +74,8 @@ FAILING = (
     Walk("fails, list, transient", TWO, ((DOWN, "cp1"),), {}, {"cp2": "a1"}, "transient"),
     Walk("fails, tuple", (("a1", 400, TUPLE),), ((DOWN, "cp1"),), {}, {"cp2": "a1"}),
     Walk("fails, tuple, permanent", (("a1", 400, TUPLE),), ((DOWN, "cp1"),), {}, {"cp2": "a1"}, "permanent"),
+    Walk("fails, then a later node", TWO, ((DOWN, "cp3"), (DOWN, "cp1"), (BACK, "cp3")), {}, {"cp2": "a1"}),
+    Walk("fails, a tuple before it", (("a1", 400, "[{cp1,cp3},cp2]"),), ((DOWN, "cp3"), (DOWN, "cp1"), (BACK, "cp1")), {}, {"cp2": "a1"}),
     Walk("fails at the return", (("a1", 400, LIST),), ((DOWN, "cp1"), (BACK, "cp1")), {}, {"cp1": "a1"}),
     Walk("fails at the return, permanent", (("a1", 400, LIST),), ((DOWN, "cp1"), (BACK, "cp1")), {}, {"cp1": "a1"}, "permanent"),
 )

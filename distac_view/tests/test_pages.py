@@ -7,7 +7,6 @@ import hashlib
 import json
 import os
 import re
-import tempfile
 import unittest
 from html import unescape
 from html.parser import HTMLParser
@@ -15,7 +14,7 @@ from pathlib import Path
 from typing import Any, Dict, List, Tuple
 from unittest import mock
 
-from support import EXAMPLES, PROGRAM, Said, run_view, view
+from support import EXAMPLES, PROGRAM, InRoom, Said, run_view, view
 from distac_view.asking.program import NAMED
 from distac_view.common.version import version_line
 from distac_view.showing.html_elements import wrapped
@@ -75,15 +74,13 @@ class Text(HTMLParser):
         return [text for tag in tags for text in self.found.get(tag, [])]
 
 
-class Pages(unittest.TestCase):
+class Pages(InRoom):
     """The contents of each page."""
 
     def setUp(self) -> None:
-        room = tempfile.TemporaryDirectory()
-        self.addCleanup(room.cleanup)
-        self.room = Path(room.name)
-        (self.room / "fleet.config").write_text(FLEET)
-        (self.room / "other.config").write_text(FLEET.replace("8000", "9000").replace("audit", "mirror").replace("c@h,'shop-1", "'shop-1"))
+        super().setUp()
+        self.write("fleet.config", FLEET)
+        self.write("other.config", FLEET.replace("8000", "9000").replace("audit", "mirror").replace("c@h,'shop-1", "'shop-1"))
 
     def words(self, words: Tuple[str, ...]) -> List[str]:
         """A command line with file names."""
@@ -277,7 +274,7 @@ class Pages(unittest.TestCase):
             self.assertEqual(view(*words, "-o", "/no/such/folder/page.html").status, 2)
         self.assertEqual((self.room / "fleet.config").read_text(), FLEET)
         page.write_text("kept")
-        (self.room / "broken.config").write_text(FLEET[:-3])
+        self.write("broken.config", FLEET[:-3])
         self.assertEqual(view("load", str(self.room / "broken.config"), "-o", str(page)).status, 2)
         self.assertEqual(page.read_text(), "kept")
 

@@ -4,7 +4,6 @@ from __future__ import annotations
 
 import json
 import re
-import tempfile
 import unittest
 from typing import List, Sequence, Tuple
 from itertools import combinations, permutations
@@ -13,7 +12,7 @@ from random import Random
 from unittest import mock
 
 from json_schema import documented
-from support import EXAMPLES, IS_STAND_IN, distac, view
+from support import EXAMPLES, IS_STAND_IN, InRoom, distac, view
 from test_starts import checked_of, random_places
 from test_what_if import random_config
 from distac_view.answering import load as loads
@@ -52,19 +51,16 @@ def random_side(random: Random) -> Side:
     return opened_now(distac(), checked, random_places(random, checked))
 
 
-class Files(unittest.TestCase):
+class Files(InRoom):
     """Tests with files of configurations."""
 
     def setUp(self) -> None:
-        self.room = tempfile.TemporaryDirectory()
-        self.addCleanup(self.room.cleanup)
+        super().setUp()
         self.shop = self.path("shop.config", SHOP)
 
     def path(self, name: str, text: str) -> str:
         """A file of a text."""
-        path = Path(self.room.name) / name
-        path.write_text(text)
-        return str(path)
+        return str(self.write(name, text))
 
 
 class Loads(Files):

@@ -10,7 +10,7 @@ from pathlib import Path
 from typing import Dict, List, Tuple
 from xml.etree import ElementTree
 
-from support import EXAMPLES, view
+from support import EXAMPLES, InRoom, view
 from distac_view.reading.configuration import Application, Configuration
 from distac_view.reading.script_file import script_of
 from distac_view.showing.html_frame import DARK, LIGHT, PAPER
@@ -62,19 +62,12 @@ class Elements(HTMLParser):
         return next(place for place, (name, its) in enumerate(self.found) if name == tag and attributes.items() <= its.items())
 
 
-class Pages(unittest.TestCase):
+class Pages(InRoom):
     """The contents of each page."""
-
-    def setUp(self) -> None:
-        room = tempfile.TemporaryDirectory()
-        self.addCleanup(room.cleanup)
-        self.room = Path(room.name)
 
     def written(self, text: str) -> Path:
         """A script of a text."""
-        path = self.room / "script"
-        path.write_text(text)
-        return path
+        return self.write("script", text)
 
     def test_each_line_stands_in_one_picture(self) -> None:
         for path in [*SCRIPTS, self.written(many_applications(9))]:
