@@ -36,6 +36,8 @@ from distac_view.reading.configuration import configuration_of
 from distac_view.reading.equal_times import pairs_among
 
 NEVER = 3_600_000
+# The time after which a node won't boot any more, on a very busy machine.
+MOST_SECONDS = 60.0
 # The time until a node starts its applications, on a busy machine.
 BOOT_SECONDS = 1.5
 
@@ -301,7 +303,7 @@ def compare_boot(what: str, text: str, boots: bool, score: Score) -> None:
         path.write_text(text.replace("DISTRIBUTED", listed))
         said = run_view("gather", *(f"{node}={path}" for node in NODES), "--strict")
         is_fine = said.status == 0 or "InfiniteTime" in said.errors
-        has_booted = cluster.boot(NODES[0], "node").ask("nodes", 10.0) is not None
+        has_booted = cluster.boot(NODES[0], "node").ask("nodes", MOST_SECONDS) is not None
     is_equal = is_fine == has_booted == boots
     score.add("agree" if is_equal else "differ", "" if is_equal else f"boot with {what}: gather {is_fine}, OTP {has_booted}")
     print(f"boot with {what}: gather says {is_fine}, OTP {has_booted}", flush=True)
@@ -328,10 +330,13 @@ def compare_mixed(what: str, entries: tuple[str, str], score: Score) -> None:
         notes = json.loads(run_view("what-if", str(paths[0]), "--then", str(paths[1]), "--json").output)["notes"]
         ids = {note["id"] for note in notes}
         nodes = [cluster.boot(node, node) for node in NODES[:2]]
-        time.sleep(1)
+        for node in nodes:
+            node.ask("nodes", MOST_SECONDS)
         for node in nodes:
             node.order("start a1 a2" if "a2" in "".join(entries) else "start a1")
-        time.sleep(2 * LATE_SECONDS)
+        for node in nodes:
+            node.answer("started", LATE_SECONDS)
+        time.sleep(LATE_SECONDS)
         has_ended = len(cluster.up()) < 2
         runs_twice = len(cluster.where(["a2"])["a2"]) > 1
     is_twice = bool({"AddedMayRunTwice", "GoneRunsEverywhere"} & ids)
