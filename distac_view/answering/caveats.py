@@ -77,7 +77,8 @@ def now_notes(side: Side) -> Iterator[Note]:
             yield Note("MovesAtOnce", shown(text))
     unused = side.cluster.unused
     if unused:
-        yield Note("NotRunning", shown(f"By --now {few_of(unused)} {'runs' if len(unused) == 1 else 'run'} nowhere: no node starts it."))
+        text = f"By --now {few_of(unused)} {'runs' if len(unused) == 1 else 'run'} nowhere"
+        yield Note("NotRunning", shown(f"{text}. A node that comes back starts it if it is the first of its list that is up, and else waits for that one without end."))
     lost = [held.app for held in nowhere_at_first(side) if held.app not in unused]
     if lost:
         yield Note("LostWithNodes", shown(f"No node that is up can run {few_of(lost)}: one that comes back starts it."))

@@ -89,9 +89,9 @@ def row_of(side: Side, course: Course) -> Row:
     return row_by(course.loss.down, side, held, hanging(side, course))
 
 
-def hanging(side: Side, course: Course) -> list[str]:
-    """The applications that OTP may fail to restart in a loss."""
-    return names_that_hang(course, side.nodes, side.cluster.configuration)
+def hanging(side: Side, *courses: Course) -> list[str]:
+    """The applications that OTP may fail to restart in one loss, or in independent ones together."""
+    return names_that_hang(courses, side.nodes, side.cluster.configuration)
 
 
 def row_by(down: list[str], side: Side, held: dict[str, Held], may_hang: list[str]) -> Row:
@@ -139,8 +139,7 @@ def put_together(side: Side, one: Course, other: Course) -> Row:
         first, second = (held_on(course.then, side.cluster.configuration)[name] for course in (one, other))
         moved = first if first.runs_at != start[name].runs_at else second
         held[name] = without_marks(moved, first, second)
-    may_hang = {*hanging(side, one), *hanging(side, other)}
-    return row_by(down, side, held, [name for name in start if name in may_hang])
+    return row_by(down, side, held, hanging(side, one, other))
 
 
 def without_marks(moved: Held, first: Held, second: Held) -> Held:

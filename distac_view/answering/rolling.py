@@ -251,7 +251,7 @@ class Planner:
         moves = moves_of(standing.page, drained), moves_of(page, course.claims), back
         away = [held.app for held in page.held.values() if held.runs_at and not runs_at(course.then, held.app)]
         nowhere = [app for app in away if app not in course.waiting]
-        may_hang = names_that_hang(course, cluster.nodes, cluster.configuration)
+        may_hang = names_that_hang([course], cluster.nodes, cluster.configuration)
         return Step(node, *moves, nowhere, waiters, may_hang, course.waiting), Standing(end, course.back)
 
 

@@ -220,7 +220,7 @@ def case_of(side: Side, course: Course) -> Case:
     failed = course.failed if isinstance(course, FailingCourse) else []
     old = side.cluster
     waiters = [*course.cluster.ended[len(old.ended) :], *course.cluster.waiting]
-    hanging = names_that_hang(course, side.nodes, old.configuration)
+    hanging = names_that_hang([course], side.nodes, old.configuration)
     return Case(course.loss.down, [with_failure(fate, failed) for fate in fates], course.loss.back, waiters, hanging, failed)
 
 

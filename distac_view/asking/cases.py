@@ -8,12 +8,15 @@ isn't at rest after its lines, the case is played again step by step.
 from __future__ import annotations
 
 from dataclasses import dataclass
+
 from distac_view.asking.cluster import GAVE_UP, HELD_BACK, Cluster, come_to_rest, longest_wait, share_all, take_round, take_rounds
 from distac_view.asking.drafts import Draft, named_on, takers_of, waits_of
 from distac_view.asking.program import Distac
 from distac_view.asking.script_builder import Miscounted
 from distac_view.asking.sim_output import Answered
 from distac_view.asking.snapshots import CLAIM, Held, Page, page_of
+from distac_view.reading.configuration import Application
+from distac_view.reading.equal_times import first_group
 
 LAST_ROUNDS = 2
 
@@ -184,7 +187,17 @@ def later_moments(cluster: Cluster, at_once: Page, loss: Loss, begin: int) -> li
 def boot_again(cluster: Cluster, loss: Loss, begin: int) -> None:
     """Nodes come up again, after their time or once all waits are over, and everything is started there."""
     cluster.story.now = cluster.story.now + 1 if loss.takes is None else begin + loss.takes
+    cluster.unused = [each.name for each in cluster.configuration.applications if each.name in cluster.unused and waits_on(each, cluster, loss)]
     cluster.boot(loss.back, loss.not_started)
+
+
+def waits_on(application: Application, cluster: Cluster, loss: Loss) -> bool:
+    """Whether nodes that come back wait for others to start an application that runs nowhere, as in OTP: for all nodes
+    of its list if a tuple comes first, and else for the first one."""
+    up = {node for node in (*cluster.nodes, *loss.back) if (node, application.name) not in cluster.forbidden}
+    group = first_group(application, up)
+    awaited = up.intersection(application.nodes if len(group) > 1 else group)
+    return not awaited <= set(loss.back).difference(loss.not_started)
 
 
 def claims_in(cluster: Cluster, start: int, end: int | None = None) -> list[Claimed]:

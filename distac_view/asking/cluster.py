@@ -160,13 +160,16 @@ def take_rounds(distac: Distac, cluster: Cluster) -> None:
             return
 
 
-def come_to_rest(distac: Distac, cluster: Cluster) -> None:
+def come_to_rest(distac: Distac, cluster: Cluster, has_claimed: bool = False) -> None:
     """All waits end, and the cluster comes to rest. If a node gives up meanwhile, the others wait once more, and so do
-    failovers after a start gate, because a node counts them from there."""
+    failovers after a start gate, because a node counts them from there. If nodes have just claimed all, no wait begins
+    now, and the round in which waits begin is left out."""
     ended = -1
     while ended != len(cluster.ended):
         ended = len(cluster.ended)
-        take_round(distac, cluster)
+        if not has_claimed:
+            take_round(distac, cluster)
+        has_claimed = False
         for _ in range(2 if cluster.waiting else 1):
             cluster.story.now += longest_wait(cluster.configuration)
             take_rounds(distac, cluster)

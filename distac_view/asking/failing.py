@@ -18,6 +18,7 @@ from distac_view.common.names import bare_name
 from distac_view.common.problems import Problem
 from distac_view.common.texts import shown
 from distac_view.reading.configuration import Configuration
+from distac_view.reading.equal_times import waited_for
 
 
 @dataclass(frozen=True)
@@ -155,22 +156,16 @@ class Play:
             self.ended += nodes
 
     def failed_by(self, claim: Claimed) -> Failed | None:
-        """The start that fails by a claim, if it does. A node of a later or equal place in the list than one that is up
-        and failed waits for that one."""
+        """The start that fails by a claim, if it does. A node waits for one that failed and is up, if that one is first in
+        the list, or if a tuple is."""
         milliseconds = self.cluster.story.now - self.begin
         failing = self.failing.get((claim.app, claim.node))
         if failing is not None:
             return Failed(failing, claim.how, milliseconds, self.is_back)
-        earlier = self.nowhere.get(claim.app)
-        if earlier is None or earlier.node not in self.cluster.nodes or not self.precedes(earlier, claim.node):
+        earlier, up = self.nowhere.get(claim.app), {node for node in self.cluster.nodes if (node, claim.app) not in self.cluster.forbidden}
+        if earlier is None or earlier.node not in waited_for(application_of(claim.app, self.cluster.configuration), claim.node, up):
             return None
         return Failed(Failing(claim.app, claim.node, False), claim.how, milliseconds, self.is_back, earlier.node)
-
-    def precedes(self, earlier: Failing, node: str) -> bool:
-        """Whether a node that failed is in an earlier group of the list than another one, or in its group."""
-        groups = application_of(earlier.app, self.cluster.configuration).groups
-        first, second = (next(place for place, group in enumerate(groups) if each in group) for each in (earlier.node, node))
-        return first <= second
 
     def fail(self, failed: Failed) -> None:
         """An application is stopped at all nodes of its list that are up: it runs nowhere."""

@@ -70,12 +70,14 @@ def opened(distac: Distac, checked: Checked, not_started: list[str]) -> Side:
     cluster = Cluster(new_story(checked), [], forbidden=forbidden_in(checked))
     nodes = checked.configuration.nodes
     batches = batches_of(checked.configuration.applications)
+    unseen = None
     if len(batches) > 1:
         cluster.boot(nodes, nodes)
-        cluster = started_unseen(distac, cluster, batches, not_started) or started_in_turn(distac, cluster, batches, not_started)
+        unseen = started_unseen(distac, cluster, batches, not_started)
+        cluster = unseen or started_in_turn(distac, cluster, batches, not_started)
     else:
         cluster.boot(nodes, not_started)
-    come_to_rest(distac, cluster)
+    come_to_rest(distac, cluster, unseen is not None)
     return Side(cluster, cluster.page(distac), nodes, unsaid=checked.configuration.names)
 
 

@@ -2,6 +2,7 @@
 
 from __future__ import annotations
 
+from os.path import commonprefix
 from typing import Iterable
 
 
@@ -10,19 +11,11 @@ def is_near(one: str, other: str) -> bool:
     swapped."""
     if one == other or abs(len(one) - len(other)) > 1:
         return False
-    start = common_start(one, other)
+    start = len(commonprefix([one, other]))
     one, other = one[start:], other[start:]
     if len(one) == len(other):
         return one[1:] == other[1:] or (one[:2] == other[1::-1] and one[2:] == other[2:])
     return one[1:] == other or one == other[1:]
-
-
-def common_start(one: str, other: str) -> int:
-    """The length of the common prefix."""
-    for place, (left, right) in enumerate(zip(one, other)):
-        if left != right:
-            return place
-    return min(len(one), len(other))
 
 
 def near_to(name: str, names: Iterable[str]) -> "str | None":
@@ -46,7 +39,7 @@ def differ_by_letters(one: str, other: str) -> bool:
     """Whether two names of sufficient length are similar, and don't differ in a digit."""
     if min(len(one), len(other)) < 3 or not is_near(one, other):
         return False
-    start = common_start(one, other)
-    end = common_start(one[start:][::-1], other[start:][::-1])
+    start = len(commonprefix([one, other]))
+    end = len(commonprefix([one[start:][::-1], other[start:][::-1]]))
     changed = one[start : len(one) - end] + other[start : len(other) - end]
     return not any(sign.isdigit() for sign in changed)

@@ -1,11 +1,11 @@
 """Applications that OTP's own controller may fail to restart: those with equal waits, if their nodes wait for each
 other.
 
-If a node goes down, OTP restarts its applications one after another, at each node of their lists at once. The node that
-restarts the first one tells the others only when it is free. If it turns to the next one at once, it may wait for those
-others: for their loads if it has a tuple before it, or for the first of them in the list. Meanwhile they wait for its
-message, so all of them hang. If the times differ by more than the first application takes to start, the node is free
-between the two.
+If a node goes down, OTP restarts its applications one after another, at each node that has started them at once. The
+node that restarts the first one tells the others only when it is free. If it turns to the next one at once, it may wait
+for those others: for their loads if it has a tuple before it, or for the one that restarts it. Meanwhile they wait for
+its message, so all of them hang. If the times differ by more than the first application takes to start, the node is
+free between the two.
 """
 
 from __future__ import annotations
@@ -40,15 +40,11 @@ def pairs_that_hang(configuration: Configuration) -> list[Pair]:
 
 
 def hang_without(one: Application, other: Application, node: str, configuration: Configuration) -> bool:
-    """Whether two applications that run at a node may hang after it goes down.
-
-    Then all other nodes are left, or all except those before it in a list, because otherwise the applications wouldn't
-    be at this one.
-    """
+    """Whether two applications that run at a node may hang after it goes down. The nodes before it in a list are down
+    already, because otherwise the applications wouldn't be at this one."""
     if node not in one.nodes or node not in other.nodes:
         return False
-    others = set(configuration.nodes).difference([node])
-    return any(hang_together(one, other, left) for left in (others, others - before(one, node) - before(other, node)))
+    return hang_together(one, other, set(configuration.nodes) - {node} - before(one, node) - before(other, node))
 
 
 def before(application: Application, node: str) -> set[str]:
@@ -65,41 +61,25 @@ def pairs_among(lost: Iterable[Application], left: Iterable[str]) -> list[tuple[
 
 
 def hang_together(one: Application, other: Application, left: Iterable[str]) -> bool:
-    """Whether two applications that fail over at one moment may hang."""
-    return bool(nodes_that_hang(one, other, set(left)))
-
-
-def nodes_that_hang(one: Application, other: Application, left: set[str]) -> set[str]:
-    """The nodes that may wait for each other if two applications fail over at one moment, in either order. Waits of
-    weeks don't count."""
+    """Whether two applications that fail over at one moment may hang, restarted in either order. Waits of weeks don't
+    count."""
     if one.timeout != other.timeout or one.timeout == FOREVER:
-        return set()
-    return hung_in_turn(one, other, left) | hung_in_turn(other, one, left)
+        return False
+    return hang_in_turn(one, other, set(left)) or hang_in_turn(other, one, set(left))
 
 
-def hung_in_turn(first: Application, second: Application, left: set[str]) -> set[str]:
-    """The nodes that hang if one that restarted the first application waits, for the second one, for a node that waits
-    for its message."""
-    found: set[str] = set()
-    for node in first_group(first, left).intersection(left).intersection(second.nodes):
-        waiting = left.intersection(first.nodes).difference([node])
-        if waiting & waited_for(second, node, left):
-            found |= {node, *waiting}
-    return found
-
-
-def is_stuck(application: Application, left: set[str], hung: set[str]) -> bool:
-    """Whether the nodes that would restart an application hang, or wait for one that does."""
-    group = first_group(application, left)
-    return bool(hung & left.intersection(application.nodes if len(group) > 1 else group))
+def hang_in_turn(first: Application, second: Application, left: set[str]) -> bool:
+    """Whether one that restarted the first application waits, for the second one, for another node. All others wait for
+    its message: those of the list, and those outside it, if they have started the application too."""
+    return any(waited_for(second, node, left) for node in first_group(first, left).intersection(left))
 
 
 def waited_for(application: Application, node: str, left: set[str]) -> set[str]:
-    """The nodes that a node waits for before an application is restarted: all if there is a tuple, else the first one
-    of the list."""
+    """The nodes that a node waits for before an application is restarted: all of a list with a tuple first, else the
+    first one."""
     group = first_group(application, left)
-    others = left.intersection(application.nodes if len(group) > 1 else group)
-    return set() if len(group) == 1 and node in group else others.difference([node])
+    is_asking = len(group) > 1 and node in application.nodes
+    return left.intersection(application.nodes if is_asking else group).difference([node])
 
 
 def first_group(application: Application, left: set[str]) -> set[str]:

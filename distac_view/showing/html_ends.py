@@ -2,11 +2,11 @@
 
 from __future__ import annotations
 
-from typing import Iterator
+from typing import Iterator, List, Union
 
 from distac_view.answering.race_ends import End, Reply, notes_on
 from distac_view.common.texts import shown
-from distac_view.showing.html_elements import Table, bullets, paragraphs, section, text_in
+from distac_view.showing.html_elements import Cells, Square, Table, bullets, paragraphs, section, text_in
 from distac_view.showing.html_frame import page_of
 from distac_view.showing.html_plans import notes_section
 from distac_view.showing.print_ends import counted, head_of, line_text, script_head, verdict_of
@@ -15,9 +15,20 @@ from distac_view.showing.provenance import Asked
 
 def ends_page(reply: Reply, asked: Asked) -> str:
     """The page of `ends`."""
+    glance = section("At a glance", table_of(reply).text if reply.ends else "")
     ends = "".join(end_section(reply, number, end) for number, end in enumerate(reply.ends, 1))
     common = section("In each end" if len(reply.ends) > 1 else "Final pages", bullets(map(line_text, reply.common())))
-    return page_of(f"Ends of a race: {asked.files[0].name}", asked, "".join([ends, common, notes_section(notes_on(reply))]), head_of(reply))
+    return page_of(f"Ends of a race: {asked.files[0].name}", asked, "".join([glance, ends, common, notes_section(notes_on(reply))]), head_of(reply))
+
+
+def table_of(reply: Reply) -> Table:
+    """A row for each end: how often it came, and the lines in which it differs, or that it isn't as expected."""
+    rows: List[Cells] = []
+    for number, end in enumerate(reply.ends, 1):
+        lines = "; ".join(map(line_text, reply.differing(end))) or "the only end"
+        said: Union[str, Square] = Square("no", f"{lines} - not as expected") if end.unmet else lines
+        rows.append((f"end {number}", str(end.count), said))
+    return Table("Each end", ("end", "schedules", "last pages"), rows, range(1, 2), True)
 
 
 def end_section(reply: Reply, number: int, end: End) -> str:

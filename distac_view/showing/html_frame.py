@@ -50,7 +50,7 @@ dd { margin: 0; grid-column: 2; }
   .wide tbody tr { border-bottom: 1px solid var(--rule); padding: 6px 0; }
   .wide tbody :is(td, th), .wide tr > :last-child { display: inline-block; min-width: 0; white-space: normal; }
   .wide tbody :is(td, th) { padding: 0 14px 2px 0; border: 0; }
-  .wide tbody th { display: block; position: static; font-weight: bold; }
+  .wide tbody th { display: block; position: static; font-weight: bold; text-align: left; }
   .wide :is(td, th):empty { display: none; }
   .wide [data-head]::before { content: attr(data-head) ":\\00a0"; content: attr(data-head) ":\\00a0" / ""; color: var(--soft); font-weight: normal; }
 }

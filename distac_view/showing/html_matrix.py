@@ -17,7 +17,7 @@ from distac_view.showing.headlines import is_lost, rolling_headlines, split_head
 from distac_view.showing.html_elements import Cells, Square, Table, paragraphs, section, text_in
 
 MOST_COLUMNS, MOST_ROWS = 24, 32
-STAYS, MOVES, WAITS, GONE, TWICE, NONE = "stays", "moves", "waits", "gone", "twice", "none"
+STAYS, MOVES, WAITS, HANGS, GONE, TWICE, NONE = "stays", "moves", "waits", "hangs", "gone", "twice", "none"
 STYLE = """
 .glance { --soon: color-mix(in srgb, var(--said) 40%, var(--back)); --twice: color-mix(in srgb, var(--dead) 14%, var(--back)); }
 .glance .wide table { border-collapse: separate; border-spacing: 4px; }
@@ -27,6 +27,7 @@ STYLE = """
 .glance .wide td { -webkit-print-color-adjust: exact; print-color-adjust: exact; }
 .glance .wide tbody .none { border-color: transparent; }
 .glance .wide tbody .moves { border: 2px solid var(--line); background: var(--soon); }
+.glance .wide tbody .hangs { border: 3px dotted var(--dead); background: var(--soon); }
 .glance .wide tbody .waits { border: 2px dashed var(--text);
   background: repeating-linear-gradient(135deg, var(--back) 0 7px, var(--soon) 7px 9px); }
 .glance .wide tbody .twice { border: 4px double var(--dead);
@@ -40,7 +41,7 @@ STYLE = """
 }
 @media print {
   .glance .wide table { border-spacing: 2px; table-layout: fixed; width: 100%; }
-  .glance .wide :is(td, th), .glance .wide tr > :last-child { padding: 2px 4px; overflow-wrap: anywhere; }
+  .glance .wide :is(td, th), .glance .wide tr > :last-child { padding: 2px 3px; font-size: 8pt; overflow-wrap: anywhere; }
   .glance .wide tbody td { min-width: 0; }
 }
 """
@@ -74,7 +75,8 @@ def losses_of(answers: Answers, reply: Reply) -> Table:
     now = [fate.now for fate in answers.cases[0].fates] if answers.cases else []
     rows: List[Cells] = [("now", *(place_square(place, short) for place in now))]
     for case in answers.cases:
-        rows.append((f"{' '.join(short.each(case.down))} down", *(fate_square(fate, reply.tick_time, takes, short) for fate in case.fates)))
+        squares = (hanging(fate_square(fate, reply.tick_time, takes, short), fate.app in case.may_hang) for fate in case.fates)
+        rows.append((f"{' '.join(short.each(case.down))} down", *squares))
     side = f" on the side of {listed(short.each(answers.side.members))}" if len(reply.sides) > 1 else ""
     return Table(f"Where each application goes{side}", ("when", *map(bare_name, reply.configuration.names)), rows)
 
@@ -94,6 +96,11 @@ def fate_square(fate: Fate, tick_time: int, takes: "int | None", short: Short) -
     if is_lost(fate):
         return Square(GONE, "nowhere")
     return place_square(fate.then, short) if fate.then == fate.now else Square(MOVES, arrival(fate.then, fate.wait, short))
+
+
+def hanging(square: Square, may_hang: bool) -> Square:
+    """A square of an application that OTP may fail to restart says so."""
+    return Square(HANGS, f"{square.text}, or OTP hangs") if may_hang else square
 
 
 def arrival(place: "str | None", wait: "int | None", short: Short) -> str:
@@ -132,7 +139,8 @@ def step_square(app: str, place: "str | None", step: Step, rolling: Rolling) -> 
     is_gone = app in step.nowhere or (app in step.waiting and app not in step.resumed)
     ends = [move.node for move in (*drained, *down, *back)]
     after = None if is_gone and not back else ends[-1] if ends else place
-    return Square(GONE if app in step.nowhere else WAITS if app in step.waiting else MOVES, ", ".join(texts)), after
+    square = Square(GONE if app in step.nowhere else WAITS if app in step.waiting else MOVES, ", ".join(texts))
+    return hanging(square, app in step.may_hang), after
 
 
 def sides_of(reply: SplitReply) -> Table:
@@ -140,7 +148,9 @@ def sides_of(reply: SplitReply) -> Table:
     short, copies = reply.configuration.short, {each.app: len(each.copies) for each in reply.healed}
     rows: List[Cells] = [("before", *(place_square(fate.now, short) for fate in reply.parts[0].case.fates if reply.parts))]
     for part in reply.parts:
-        rows.append((f"side of {' '.join(short.each(part.nodes))}", *(side_square(fate, copies[fate.app], short) for fate in part.case.fates)))
+        hung = part.case.may_hang
+        squares = (hanging(side_square(fate, copies[fate.app], short), fate.app in hung) for fate in part.case.fates)
+        rows.append((f"side of {' '.join(short.each(part.nodes))}", *squares))
     rows.append(("healed, once all have rebooted", *(place_square(each.back, short) for each in reply.healed)))
     return Table("Where each application runs on each side", ("when", *map(bare_name, reply.configuration.names)), rows)
 

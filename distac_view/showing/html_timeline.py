@@ -2,16 +2,14 @@
 
 from __future__ import annotations
 
-from typing import Iterator
-
 from distac_view.asking.sim_output import Answered
 from distac_view.common.names import bare_name
 from distac_view.common.texts import cut
-from distac_view.showing.html_elements import region, text_in
+from distac_view.showing.html_elements import Cells, Table, region, text_in
 from distac_view.showing.html_frame import page_of
 from distac_view.showing.provenance import Asked
 from distac_view.showing.svg_timeline import HEAD, LAST_GAP, ROW, ROWS_OF_PART, Drawing, color_of, moment_of
-from distac_view.showing.timeline import Timeline
+from distac_view.showing.timeline import Claimed, Timeline
 
 # The room on a printed page, in pixels of the style, and the scale of its pictures relative to a screen.
 PAGE_HEIGHT, PAGE_WIDTH, PRINT_SCALE = 718, 1046, 0.85
@@ -61,9 +59,8 @@ svg .lost path, svg .refused path { stroke: var(--bad); }
 svg marker path { fill: none; stroke: context-stroke; stroke-width: 1.4; }
 .legend span { display: inline-block; margin: 0 16px 4px 0; max-width: 100%; }
 .legend svg { display: inline; vertical-align: -3px; }
-.claims, .lines { max-height: 15em; overflow: auto; margin: 0 0 12px; }
-.claims td { white-space: nowrap; }
-.lines { max-height: 80vh; }
+.claims .wide { max-height: 15em; overflow: auto; }
+.lines { max-height: 80vh; overflow: auto; margin: 0 0 12px; }
 .lines td { padding-bottom: 4px; border-bottom: 1px solid var(--stripe); }
 .lines td:nth-child(3) { min-width: 14em; }
 .lines .note { color: var(--soft); font-style: italic; }
@@ -75,12 +72,17 @@ svg marker path { fill: none; stroke: context-stroke; stroke-width: 1.4; }
   .part > svg { grid-area: 1 / 1; }
   .part > .numbers { display: block; position: sticky; left: 0; z-index: 1; background: var(--back); }
 }
+@media screen and (max-width: 600px) {
+  .claims .wide { max-height: none; }
+  .lanes { transform: translateX(-WORDS); }
+  .words { transform: translateX(LANES); }
+}
 @media print {
   @page { size: A4 landscape; margin: 10mm; }
   .drawing > .head { display: none; }
   details:not([open]) { display: none; }
   svg .again { display: inline; }
-  .claims { max-height: none; overflow: visible; }
+  .claims .wide { max-height: none; overflow: visible; }
   tr, .legend span { break-inside: avoid; }
   .part { break-inside: avoid; margin: 0 0 4mm; }
   .part .head { display: block; position: static; width: auto; }
@@ -115,6 +117,7 @@ def page_text(timeline: Timeline, left_out: str, asked: Asked) -> str:
         lines_table(timeline),
     ]
     style = STYLE.replace("WIDTH", f"{drawing.width + SIDES:.0f}px")
+    style = style.replace("WORDS", f"{drawing.lanes_left - drawing.script_left:.0f}px").replace("LANES", f"{drawing.answer_left - drawing.lanes_left:.0f}px")
     return page_of(f"Timeline: {asked.files[0].name}", asked, "\n".join(parts), left_out, style)
 
 
@@ -159,22 +162,17 @@ def arrow_sample(kind: str, marker: str) -> str:
 
 def claims_table(timeline: Timeline) -> str:
     """All claims, in the order of the script."""
-    rows = "".join(claim_rows(timeline))
+    rows = [claim_row(timeline, claim) for claim in timeline.claims]
     if not rows:
         return "<h2>No tick claims anything.</h2>"
-    ends = "".join(f'<th scope="col" class="end">{head}</th>' for head in ("line", "moment"))
-    heads = "".join(f'<th scope="col">{head}</th>' for head in ("application", "node", "term", "how"))
-    table = f'<table aria-labelledby="claims"><thead><tr>{ends}{heads}</tr></thead><tbody>{rows}</tbody></table>'
-    return f'<h2 id="claims">Claims of ticks</h2><div class="claims" role="region" aria-labelledby="claims" tabindex="0">{table}</div>'
+    heads = ("line", "moment", "application", "node", "term", "how")
+    return f'<h2>Claims of ticks</h2><div class="claims">{Table("Claims of ticks", heads, rows, range(2)).text}</div>'
 
 
-def claim_rows(timeline: Timeline) -> Iterator[str]:
-    """The rows of the table of claims."""
-    for claim in timeline.claims:
-        number = timeline.rows[claim.row].line.number
-        first = f'<td class="end">{number}</td><td class="end">{claim.moment} ms</td>'
-        names = f"<td>{text_in(bare_name(claim.app))}</td><td>{text_in(bare_name(claim.node))}</td>"
-        yield f"<tr>{first}{names}<td>{claim.term}</td><td>{text_in(how_in(claim.how))}</td></tr>"
+def claim_row(timeline: Timeline, claim: Claimed) -> Cells:
+    """A row of the table of claims."""
+    number = timeline.rows[claim.row].line.number
+    return (str(number), f"{claim.moment} ms", bare_name(claim.app), bare_name(claim.node), str(claim.term), how_in(claim.how))
 
 
 def how_in(how: str) -> str:

@@ -7,7 +7,7 @@ that extends over several parts is drawn whole in each of them, and each shows i
 from __future__ import annotations
 
 from dataclasses import dataclass
-from typing import Iterator
+from typing import Iterable, Iterator
 
 from distac_view.asking.sim_output import Answered
 from distac_view.common.names import bare_name, bare_names
@@ -101,8 +101,8 @@ class Drawing:
         )
         words = f'<text x="{self.script_left:.0f}" y="22" class="soft">line of the script</text>'
         words += f'<text x="{self.moment_right:.0f}" y="22" class="soft end">moment</text>'
-        words += f'<text x="{self.answer_left:.0f}" y="22" class="soft">answer</text>'
-        return svg(self.width, HEAD, words + names, f"columns: line, moment, {', '.join(bare_names(self.lanes))}, answer")
+        answer = f'<text x="{self.answer_left:.0f}" y="22" class="soft">answer</text>'
+        return svg(self.width, HEAD, grouped("words", [words]) + answer + grouped("lanes", [names]), f"columns: line, moment, {', '.join(bare_names(self.lanes))}, answer")
 
     def parts(self, first: int) -> Iterator[str]:
         """The pictures of all rows: one of so many rows, and those after it."""
@@ -114,18 +114,17 @@ class Drawing:
     def part(self, part: Part) -> str:
         """The picture of some rows, with lanes, bars and arrows."""
         timeline = self.timeline
-        shapes = [
-            *self.rows(part),
+        lanes = [
             *(self.band(band) for band in timeline.bands if part.has(band.start, band.end)),
             *(self.bar(bar, part) for bar in timeline.bars if part.has(bar.start, bar.end)),
             *(self.share(share) for share in timeline.shares if share.row in part),
             *(arrow for message in timeline.messages.values() for arrow in self.arrows(message, part)),
             *(self.hand(hand) for hand in timeline.hands if hand.row in part),
-            *(self.note(row, timeline.rows[row]) for row in part.rows if not timeline.rows[row].line.is_event),
         ]
+        notes = [self.note(row, timeline.rows[row]) for row in part.rows if not timeline.rows[row].line.is_event]
         below = LAST_GAP if part.stop == len(timeline.rows) else 0
         label = f"{self.span(part.start, part.stop)}, with the lanes of {', '.join(bare_names(self.lanes))}"
-        inside = "\n".join(shape for shape in shapes if shape)
+        inside = "\n".join([*self.rows(part), grouped("lanes", lanes), grouped("words", notes)])
         height, top = len(part.rows) * ROW + below, part.start * ROW
         return svg(self.width, height, inside, label, top) + self.numbers(part, height, top)
 
@@ -154,9 +153,10 @@ class Drawing:
         if not one.line.is_event:
             return
         line = text_in(cut(shown(one.line.text), MOST_SCRIPT))
-        yield f'<text x="{self.script_left:.0f}" y="{base}">{line}{title(self.story(one))}</text>'
+        words = [f'<text x="{self.script_left:.0f}" y="{base}">{line}{title(self.story(one))}</text>']
         if moment_of(one):
-            yield f'<text x="{self.moment_right:.0f}" y="{base}" class="moment end">{moment_of(one)}</text>'
+            words.append(f'<text x="{self.moment_right:.0f}" y="{base}" class="moment end">{moment_of(one)}</text>')
+        yield grouped("words", words)
         kind = "refusal" if one.first.startswith(("refused ", "no ")) else "answer"
         answer = text_in(cut(shown(answer_text(one)), MOST_ANSWER))
         yield f'<text x="{self.answer_left:.0f}" y="{base}" class="{kind}">{answer}{title(self.story(one))}</text>'
@@ -301,6 +301,12 @@ def box(left: float, top: float, width: float, height: float, kind: str, inside:
     styled = f' style="{style}"' if style else ""
     place = f'x="{left:.1f}" y="{top}" width="{width}" height="{height}"'
     return f'<rect {place} rx="3" class="{kind}"{styled}>{inside}</rect>'
+
+
+def grouped(kind: str, shapes: Iterable[str]) -> str:
+    """Shapes of one kind: on a narrow screen the lanes are drawn before the words."""
+    inside = "\n".join(filter(None, shapes))
+    return f'<g class="{kind}">{inside}</g>' if inside else ""
 
 
 def title(text: str) -> str:

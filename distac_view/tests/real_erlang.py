@@ -3,7 +3,7 @@
 
 python3 distac_view/tests/real_erlang.py [--only NAME ..] [--groups NAME ..] [--runs N] [--seconds N]
 
-The last lines are a table: how many observations of each group agree, differ, or were announced by a note.
+The last lines are a table: how many observations of each group agree, were announced by a note, or differ.
 
 It requires `erl`, `erlc` and `epmd` in PATH, as in Debian's package erlang-base, and runs the program that the
 environment variable DISTAC names, or else the models. It isn't part of the tests, because it takes minutes and depends
@@ -20,21 +20,24 @@ import tempfile
 import time
 from collections import Counter
 from dataclasses import dataclass
-from itertools import chain
+from functools import partial
 from pathlib import Path
-from typing import Any, Dict
+from typing import Any, Callable, Dict
 
 sys.dont_write_bytecode = True
 sys.path.insert(0, str(Path(__file__).resolve().parent))
 
 from erlang_nodes import Cluster, is_installed, release_of_otp
-from real_events import GROUPS, compare_splits, compare_walks
+import real_splits
+from real_events import WALKS, compare_split, take
 from real_shared import LATE_SECONDS, NODES, SINGLE, Score, bare, boot, seen, wait_for, whole
 from support import run_view
 from distac_view.reading.configuration import configuration_of
 from distac_view.reading.equal_times import pairs_among
 
 NEVER = 3_600_000
+# The time after which a node won't boot any more, on a very busy machine.
+MOST_SECONDS = 60.0
 # The time until a node starts its applications, on a busy machine.
 BOOT_SECONDS = 1.5
 
@@ -79,6 +82,7 @@ SCENARIOS = (
     Scenario("equal times, one node of a tuple left", (("a1", "400", "[{cp1,cp2},cp3]"), ("a2", "400", "[cp1,cp2,cp3]")), cases=FIRST_DOWN),
     Scenario("equal times, a tuple behind a list", (("a1", "400", "[cp1,cp2,{cp3}]"), ("a2", "400", "[cp1,cp2]")), cases=FIRST_DOWN),
     Scenario("equal times, and a later list", (("a1", "400", TUPLE), ("a2", "400", TUPLE), ("a3", "2000", LIST)), cases=FIRST_DOWN),
+    Scenario("equal times, no node in both lists", (("a1", "400", "[cp1,cp2]"), ("a2", "400", "[cp1,cp3]")), cases=FIRST_DOWN),
     Scenario("20 ms apart", (("a1", "400", TUPLE), ("a2", "420", TUPLE)), cases=FIRST_DOWN),
     Scenario("100 ms apart, starts of 1000 ms", (("a1", "400", TUPLE), ("a2", "500", TUPLE)), start_takes=1000, cases=FIRST_DOWN),
 )
@@ -139,11 +143,9 @@ def prepared(scenario: Scenario, down: tuple[str, ...], folder: Path, now: dict[
 
 
 def fates_by_what_if(config: Path, down: tuple[str, ...], now: dict[str, str]) -> list[Fate]:
-    """The answer of `what-if` for each application, in file order, from the present places if it accepts them."""
-    words = ["what-if", str(config), "--json", "--down", *down]
-    if now and "--now" in run_view("what-if", "--help").output:
-        words += ["--now", *(f"{app}={node}" for app, node in now.items())]
-    said = run_view(*words)
+    """The answer of `what-if` for each application, in file order, from the present places if there are any."""
+    places = ["--now", *(f"{app}={node}" for app, node in now.items())] if now else []
+    said = run_view("what-if", str(config), "--json", "--down", *down, *places)
     if said.status == 2 or not said.output.startswith("{"):
         raise SystemExit(f"what-if: {said.output}{said.errors}")
     fates: list[Fate] = json.loads(said.output)["cases"][0]["applications"]
@@ -226,19 +228,9 @@ ROLLED = (
 Said = Dict[str, Any]
 
 
-def compare_rolling(score: Score) -> None:
-    """Nodes restart in turn, and each application is at its place in each step of `rolling`. Skipped without
-    `rolling`."""
-    if "rolling" not in run_view("--help").output:
-        print("rolling isn't among the subcommands: it isn't compared")
-        return
-    for name, order, takes in ROLLED:
-        scenario = next(each for each in (*SCENARIOS, QUICK, SHARED, HALF) if each.name == name)
-        roll(scenario, [NODES[number] for number in order], takes, score)
-
-
 def roll(scenario: Scenario, order: list[str], takes: int | None, score: Score) -> None:
-    """One rolling restart with its own nodes. Each node is back after its time, or once all waits are over."""
+    """One rolling restart with its own nodes: each application is at its place in each step of `rolling`. A node is back
+    after its time, or once all waits are over."""
     head = f"{scenario.name}, rolling {' > '.join(node.split('@')[0] for node in order)}"
     with tempfile.TemporaryDirectory(prefix="distac-nodes-") as room, Cluster(Path(room), dict.fromkeys(scenario.names, 0)) as cluster:
         config = prepared(scenario, NODES[:1], Path(room), {}).folder / "cluster.config"
@@ -283,7 +275,8 @@ def compare_answers(score: Score) -> None:
         for node in NODES:
             cluster.boot(node, node)
         for node in NODES:
-            cluster.nodes[node].ask(f"eval {line}", 30.0)
+            cluster.nodes[node].order(f"eval {line}")
+            cluster.nodes[node].answer("evaluated", 30.0)
             (Path(room) / f"{node}.answer").write_text("".join(cluster.nodes[node].noise))
             words.append(f"{node}={room}/{node}.answer")
         from_files, from_nodes = run_view("gather", *files), run_view("gather", *words)
@@ -302,19 +295,18 @@ BOOTS = (
 )
 
 
-def compare_boots(score: Score) -> None:
+def compare_boot(what: str, text: str, boots: bool, score: Score) -> None:
     """A node boots with a file exactly if `gather --strict` has no objection to it other than infinity."""
     listed = ",".join(f"'{node}'" for node in NODES)
-    for what, text, boots in BOOTS:
-        with tempfile.TemporaryDirectory(prefix="distac-nodes-") as room, Cluster(Path(room), {}) as cluster:
-            path = Path(room) / "node.config"
-            path.write_text(text.replace("DISTRIBUTED", listed))
-            said = run_view("gather", *(f"{node}={path}" for node in NODES), "--strict")
-            is_fine = said.status == 0 or "InfiniteTime" in said.errors
-            has_booted = cluster.boot(NODES[0], "node").ask("nodes", 10.0) is not None
-        is_equal = is_fine == has_booted == boots
-        score.add("agree" if is_equal else "differ", "" if is_equal else f"boot with {what}: gather {is_fine}, OTP {has_booted}")
-        print(f"boot with {what}: gather says {is_fine}, OTP {has_booted}", flush=True)
+    with tempfile.TemporaryDirectory(prefix="distac-nodes-") as room, Cluster(Path(room), {}) as cluster:
+        path = Path(room) / "node.config"
+        path.write_text(text.replace("DISTRIBUTED", listed))
+        said = run_view("gather", *(f"{node}={path}" for node in NODES), "--strict")
+        is_fine = said.status == 0 or "InfiniteTime" in said.errors
+        has_booted = cluster.boot(NODES[0], "node").ask("nodes", MOST_SECONDS) is not None
+    is_equal = is_fine == has_booted == boots
+    score.add("agree" if is_equal else "differ", "" if is_equal else f"boot with {what}: gather {is_fine}, OTP {has_booted}")
+    print(f"boot with {what}: gather says {is_fine}, OTP {has_booted}", flush=True)
 
 
 MIXED = (
@@ -328,69 +320,87 @@ MIXED = (
 MIXED_FILE = "[{kernel,[{distributed,[%s]},{sync_nodes_optional,[cp1,cp2]},{sync_nodes_timeout,6000},{logger_level,critical}]}].\n"
 
 
-def compare_mixed(score: Score) -> None:
+def compare_mixed(what: str, entries: tuple[str, str], score: Score) -> None:
     """Of two nodes with different files one ends if `what-if --then` reports different lists, and applications of one
     file run twice if it reports that."""
-    for what, *entries in MIXED:
-        with tempfile.TemporaryDirectory(prefix="distac-nodes-") as room, Cluster(Path(room), {"a1": 0, "a2": 0}) as cluster:
-            paths = [Path(room) / f"{node}.config" for node in NODES[:2]]
-            for path, entry in zip(paths, entries):
-                path.write_text(whole(MIXED_FILE % entry))
-            notes = json.loads(run_view("what-if", str(paths[0]), "--then", str(paths[1]), "--json").output)["notes"]
-            ids = {note["id"] for note in notes}
-            nodes = [cluster.boot(node, node) for node in NODES[:2]]
-            time.sleep(1)
-            for node in nodes:
-                node.order("start a1 a2" if "a2" in "".join(entries) else "start a1")
-            time.sleep(2 * LATE_SECONDS)
-            has_ended = len(cluster.up()) < 2
-            runs_twice = len(cluster.where(["a2"])["a2"]) > 1
-        is_twice = bool({"AddedMayRunTwice", "GoneRunsEverywhere"} & ids)
-        is_equal = (has_ended, runs_twice) == ("NoRollingChange" in ids, is_twice)
-        row = f"{what}: what-if --then has {', '.join(ids) or 'no note'}, and in OTP a node ends: {has_ended}, a2 runs twice: {runs_twice}"
-        score.add("agree" if is_equal else "differ", "" if is_equal else row)
-        print(row, flush=True)
+    with tempfile.TemporaryDirectory(prefix="distac-nodes-") as room, Cluster(Path(room), {"a1": 0, "a2": 0}) as cluster:
+        paths = [Path(room) / f"{node}.config" for node in NODES[:2]]
+        for path, entry in zip(paths, entries):
+            path.write_text(whole(MIXED_FILE % entry))
+        notes = json.loads(run_view("what-if", str(paths[0]), "--then", str(paths[1]), "--json").output)["notes"]
+        ids = {note["id"] for note in notes}
+        nodes = [cluster.boot(node, node) for node in NODES[:2]]
+        for node in nodes:
+            node.ask("nodes", MOST_SECONDS)
+        for node in nodes:
+            node.order("start a1 a2" if "a2" in "".join(entries) else "start a1")
+        for node in nodes:
+            node.answer("started", LATE_SECONDS)
+        time.sleep(LATE_SECONDS)
+        has_ended = len(cluster.up()) < 2
+        runs_twice = len(cluster.where(["a2"])["a2"]) > 1
+    is_twice = bool({"AddedMayRunTwice", "GoneRunsEverywhere"} & ids)
+    is_equal = (has_ended, runs_twice) == ("NoRollingChange" in ids, is_twice)
+    row = f"{what}: what-if --then has {', '.join(ids) or 'no note'}, and in OTP a node ends: {has_ended}, a2 runs twice: {runs_twice}"
+    score.add("agree" if is_equal else "differ", "" if is_equal else row)
+    print(row, flush=True)
 
 
-OWN_GROUPS = {"answers": compare_answers, "boots": compare_boots, "changes of files": compare_mixed, "rolling restarts": compare_rolling}
+# A comparison, which counts its observations.
+Comparison = Callable[[Score], None]
+
+
+def groups_of(only: list[str]) -> dict[str, list[Comparison]]:
+    """The comparisons of each group: if scenarios are named, only the losses of these."""
+    chosen = [each for each in SCENARIOS if not only or any(each.name.startswith(name) for name in only)]
+    losses: dict[str, list[Comparison]] = {"losses": [partial(run_case, each, down) for each in chosen for down in each.cases]}
+    if only:
+        return losses
+    named = {each.name: each for each in (*SCENARIOS, QUICK, SHARED, HALF)}
+    return {
+        "answers": [compare_answers],
+        "boots": [partial(compare_boot, *each) for each in BOOTS],
+        "changes of files": [partial(compare_mixed, what, (old, new)) for what, old, new in MIXED],
+        "rolling restarts": [partial(roll, named[name], [NODES[number] for number in order], takes) for name, order, takes in ROLLED],
+        **{name: [partial(take, walk) for walk in walks] for name, walks in WALKS.items()},
+        "splits": [partial(compare_split, way) for way in real_splits.WAYS],
+        **losses,
+    }
 
 
 def words_of(arguments: list[str]) -> argparse.Namespace:
     """The command line's arguments."""
     parser = argparse.ArgumentParser(description=(__doc__ or "").split("\n")[0])
-    parser.add_argument("--only", metavar="NAME", nargs="+", default=[], help="the scenarios whose name begins so")
-    names = [*OWN_GROUPS, *(name for name, _ in GROUPS), "splits", "losses"]
+    parser.add_argument("--only", metavar="NAME", nargs="+", default=[], help="the scenarios of losses whose name begins so")
+    names = list(groups_of([]))
     parser.add_argument("--groups", metavar="NAME", nargs="+", choices=names, default=names, help=f"of {', '.join(names)}")
-    parser.add_argument("--runs", metavar="N", type=int, default=1, help="how often each case is run, once if absent")
-    parser.add_argument("--seconds", metavar="N", type=int, default=1_200, help="no case begins later, 1200 if absent")
+    parser.add_argument("--runs", metavar="N", type=int, default=1, help="how often each comparison is made, once if absent")
+    parser.add_argument("--seconds", metavar="N", type=int, default=3_600, help="none begins later, 3600 if absent")
     return parser.parse_args(arguments)
 
 
+def compare_all(words: argparse.Namespace, score: Score) -> None:
+    """Makes all comparisons, until the time is over."""
+    end = time.monotonic() + words.seconds
+    for name, comparisons in words.runs * list(groups_of(words.only).items()):
+        score.begin(name)
+        for compare in comparisons if name in words.groups else ():
+            if time.monotonic() > end:
+                print("no time is left for the other comparisons")
+                return
+            compare(score)
+
+
 def main(arguments: list[str]) -> int:
-    """Runs all cases, and counts."""
+    """Makes all comparisons, and counts."""
     words = words_of(arguments)
     if not is_installed():
         print("real_erlang.py wants erl, erlc and epmd in PATH: install Erlang (Debian: apt-get install erlang-base)")
         return 2
     signal.signal(signal.SIGTERM, lambda *_: sys.exit(128 + signal.SIGTERM))
-    score, end = Score(), time.monotonic() + words.seconds
+    score = Score()
     print(release_of_otp(), flush=True)
-    chosen = [each for each in SCENARIOS if not words.only or any(each.name.startswith(only) for only in words.only)]
-    for name, compare in OWN_GROUPS.items() if not words.only else ():
-        if name in words.groups:
-            score.begin(name)
-            compare(score)
-    if not words.only:
-        compare_walks(score, words.groups)
-        if "splits" in words.groups:
-            compare_splits(score)
-    score.begin("losses")
-    cases = chain.from_iterable(((each, down) for down in each.cases) for each in chosen * words.runs)
-    for scenario, down in cases if "losses" in words.groups else ():
-        if time.monotonic() > end:
-            print("no time is left for the other cases")
-            break
-        run_case(scenario, down, score)
+    compare_all(words, score)
     print("\n".join(score.differing))
     print(", ".join(f"{count} {kind}" for kind, count in sorted(score.counts.items())))
     print("\n".join([f"| {release_of_otp()}, {time.strftime('%Y-%m-%d')} | Agree | Announced | Differ |", "|---|---|---|---|", *score.table]))

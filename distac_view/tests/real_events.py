@@ -74,18 +74,12 @@ FAILING = (
     Walk("fails, list, transient", TWO, ((DOWN, "cp1"),), {}, {"cp2": "a1"}, "transient"),
     Walk("fails, tuple", (("a1", 400, TUPLE),), ((DOWN, "cp1"),), {}, {"cp2": "a1"}),
     Walk("fails, tuple, permanent", (("a1", 400, TUPLE),), ((DOWN, "cp1"),), {}, {"cp2": "a1"}, "permanent"),
+    Walk("fails, then a later node", TWO, ((DOWN, "cp3"), (DOWN, "cp1"), (BACK, "cp3")), {}, {"cp2": "a1"}),
+    Walk("fails, a tuple before it", (("a1", 400, "[{cp1,cp3},cp2]"),), ((DOWN, "cp3"), (DOWN, "cp1"), (BACK, "cp1")), {}, {"cp2": "a1"}),
     Walk("fails at the return", (("a1", 400, LIST),), ((DOWN, "cp1"), (BACK, "cp1")), {}, {"cp1": "a1"}),
     Walk("fails at the return, permanent", (("a1", 400, LIST),), ((DOWN, "cp1"), (BACK, "cp1")), {}, {"cp1": "a1"}, "permanent"),
 )
-GROUPS = (("chains", CHAINS), ("permissions", PERMISSIONS), ("starts that fail", FAILING))
-
-
-def compare_walks(score: Score, only: "List[str]") -> None:
-    """The walks of some groups."""
-    for group, walks in GROUPS:
-        score.begin(group)
-        for walk in walks if group in only else ():
-            take(walk, score)
+WALKS = {"chains": CHAINS, "permissions": PERMISSIONS, "starts that fail": FAILING}
 
 
 def take(walk: Walk, score: Score) -> None:
@@ -156,12 +150,10 @@ def expected(walk: Walk, config: Path, what: str, now: Path, node: str) -> "Dict
     return {fate["application"]: bare(fate["then" if what == DOWN else "back"]) for fate in fates}
 
 
-def compare_splits(score: Score) -> None:
-    """One configuration, split in each way of real_splits.py."""
-    score.begin("splits")
-    for way in real_splits.WAYS:
-        counts: "Counter[str]" = Counter()
-        real_splits.run_split(real_splits.SCENARIOS[0], real_splits.SPLITS[0], way, counts)
-        for what, count in counts.items():
-            is_equal = " agree" in what
-            score.add("agree" if is_equal else "differ", "" if is_equal else f"splits: {count} {what}", count)
+def compare_split(way: real_splits.Way, score: Score) -> None:
+    """One configuration of real_splits.py, split in a way."""
+    counts: "Counter[str]" = Counter()
+    real_splits.run_split(real_splits.SCENARIOS[0], real_splits.SPLITS[0], way, counts)
+    for what, count in counts.items():
+        is_equal = " agree" in what
+        score.add("agree" if is_equal else "differ", "" if is_equal else f"splits: {count} {what}", count)

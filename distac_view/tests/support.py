@@ -7,6 +7,8 @@ import os
 import signal
 import subprocess
 import sys
+import tempfile
+import unittest
 from dataclasses import dataclass
 from pathlib import Path
 from unittest import mock
@@ -35,6 +37,22 @@ class Said:
     status: int
     output: str
     errors: str
+
+
+class InRoom(unittest.TestCase):
+    """Tests with a folder of their own."""
+
+    def setUp(self) -> None:
+        room = tempfile.TemporaryDirectory()
+        self.addCleanup(room.cleanup)
+        self.room = Path(room.name)
+
+    def write(self, name: str, text: str) -> Path:
+        """A file in the folder."""
+        path = self.room / name
+        path.parent.mkdir(parents=True, exist_ok=True)
+        path.write_bytes(text.encode("utf-8", "surrogateescape"))
+        return path
 
 
 def hear_signals() -> None:

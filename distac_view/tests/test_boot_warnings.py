@@ -2,11 +2,9 @@
 
 from __future__ import annotations
 
-import tempfile
 import unittest
-from pathlib import Path
 
-from support import view
+from support import InRoom, view
 
 PLACED = "{kernel,[{distributed,[{a,500,[x@h,{y@h,z@h}]},{b,700,[y@h,x@h]}]}%s]}"
 SYNC = ",{sync_nodes_optional,[%s]},{sync_nodes_timeout,%s}"
@@ -24,7 +22,7 @@ WARNED = (
     ("{app,[{receive,1}]}," + PLACED % "", "NotErlang", "receive is a word of Erlang's own"),
     ("{app,[{p,'\u00e9'}]}," + PLACED % "", "", ""),
     ("{app,[{p,\"\\xg\"}]}," + PLACED % "", "NotErlang", "no character has this number"),
-    ((PLACED % "").replace("700,[y@h,x@h", "500,[y@h,x@h,z@h"), "EqualTimes", "a and b have the same time and may run at x@h together"),
+    ((PLACED % "").replace("700,[y@h,x@h", "500,[x@h,y@h,z@h"), "EqualTimes", "a and b have the same time and may run at x@h together"),
     ("{kernel,[{distributed,[{a,1,['s@${HOST_A}','s@${HOST_B:-h}']}]}]}", "Template", "s@${HOST_A}' is left of a template"),
 )
 FINE = (
@@ -35,17 +33,12 @@ FINE = (
 )
 
 
-class BootWarnings(unittest.TestCase):
+class BootWarnings(InRoom):
     """OTP's objections to a file that `distac` accepts."""
-
-    def setUp(self) -> None:
-        self.room = tempfile.TemporaryDirectory()
-        self.addCleanup(self.room.cleanup)
 
     def errors_on(self, sections: str, name: str = "node.config", words: "tuple[str, ...]" = ()) -> str:
         """The warnings on a file."""
-        path = Path(self.room.name) / name
-        path.write_text(f"[\n {sections}].\n")
+        path = self.write(name, f"[\n {sections}].\n")
         said = view("check", str(path), *words)
         self.assertEqual(said.status, 1 if words and said.errors else 0, said)
         return said.errors
@@ -94,7 +87,7 @@ class BootWarnings(unittest.TestCase):
         lists = "{'App-1',500,['x-1@h',{'x-2@h','y-1@h'}]},{'App-2',500,['x-1@h',{'x-2@h','y-1@h'}]},{'Lone',1,['x-1@h']}"
         rest = "{permissions,[{'App-3',true}]},{sync_nodes_mandatory,['x-1@h','x-3@h','q-1@far']},{sync_nodes_optional,['y-1@h']}"
         errors = self.errors_on("{kernel,[{distributed,[%s]},%s]}" % (lists, rest) + "].\n%% forbidden 'Lone' at 'x-2@h'\n%%")
-        told = [line for line in errors.splitlines() if line.startswith(str(self.room.name))]
+        told = [line for line in errors.splitlines() if line.startswith(str(self.room))]
         for name in ("EqualTimes", "SingleNode", "OwnFile", "UnknownPermission", "UnlistedNode", "NearName", "UnknownForbidden"):
             self.assertIn(f": {name}: ", errors)
         for line in told:
@@ -103,14 +96,14 @@ class BootWarnings(unittest.TestCase):
 
     def test_control_characters_in_names(self) -> None:
         """The sentence is about the name, even if digits follow the character."""
-        path = Path(self.room.name) / "node.config"
+        path = self.room / "node.config"
         path.write_bytes((PLACED % "").replace("y@h", "'y@10\x0b5.2'", 1).join(("[", "].")).encode())
         said = view("check", str(path))
         self.assertEqual(said.status, 2)
         self.assertIn("Unsupported: names between quotes may hold no backslash, tab or other control character", said.output)
 
     def test_bytes_that_are_no_text(self) -> None:
-        path = Path(self.room.name) / "node.config"
+        path = self.room / "node.config"
         path.write_bytes(b"[{app,[{p,\"\xff\"}]}," + (PLACED % "").encode() + b"].")
         said = view("check", str(path))
         self.assertEqual(said.status, 0)

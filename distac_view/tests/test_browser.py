@@ -48,6 +48,9 @@ SCROLLED = """(() => {
   }
   return [box.scrollLeft, box.scrollTop, ...places];
 })()"""
+# The left edges of the last lane and of a line's text.
+PLACES = """[".head .lanes text:last-child", ".part > svg .words text"]
+  .map(each => document.querySelector(".drawing " + each).getBoundingClientRect().left)"""
 OPENED = 'document.querySelector("details").open = true'
 
 
@@ -148,6 +151,12 @@ class InBrowser(unittest.TestCase):
         left, top, before, after = self.browser.value(SCROLLED)
         self.assertEqual((left, top), (200, 150))
         self.assertEqual(before, after)
+
+    def test_lanes_come_first_on_a_phone(self) -> None:
+        for width, is_first in ((390, True), (1280, False)):
+            self.browser.open(self.pages["split"], width, 844)
+            last, line = self.browser.value(PLACES)
+            self.assertEqual((last < line, last < 390), (is_first, is_first), width)
 
     def test_lines_for_a_screen_reader(self) -> None:
         self.browser.open(self.pages["split"], 390, 844)

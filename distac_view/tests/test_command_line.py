@@ -12,7 +12,7 @@ import tempfile
 import unittest
 from pathlib import Path
 
-from support import EXAMPLES, MISTAKES, PROGRAM, TOP, Said, run_view, view
+from support import EXAMPLES, MISTAKES, PROGRAM, TOP, InRoom, Said, run_view, view
 
 FAILOVER, MANUAL = str(EXAMPLES / "failover.distac"), str(EXAMPLES / "manual.config")
 TYPO, WARNED = str(MISTAKES / "s01_typo_verb.distac"), str(MISTAKES / "c11_perm_typo.config")
@@ -133,17 +133,12 @@ class Statuses(unittest.TestCase):
         self.assertEqual((fates[0]["then"], fates[0]["how"], fates[0]["milliseconds"]), ("cp3@cave", "failover", 5000))
 
 
-class Programs(unittest.TestCase):
+class Programs(InRoom):
     """Programs in place of `distac` that don't exist, or behave differently."""
-
-    def setUp(self) -> None:
-        self.room = tempfile.TemporaryDirectory()
-        self.addCleanup(self.room.cleanup)
 
     def program(self, text: str) -> str:
         """A program that is a script of the shell."""
-        path = Path(self.room.name) / "program"
-        path.write_text("#!/bin/sh\n" + text)
+        path = self.write("program", "#!/bin/sh\n" + text)
         path.chmod(0o755)
         return str(path)
 
@@ -157,7 +152,7 @@ class Programs(unittest.TestCase):
     def test_none(self) -> None:
         self.expect("/no/such/program", "no program distac")
         self.expect("no-such-program-in-path", "no program distac")
-        self.expect(self.room.name, "no program distac")
+        self.expect(str(self.room), "no program distac")
         self.expect(MANUAL, "isn't executable")
 
     def test_others(self) -> None:

@@ -8,7 +8,6 @@ import re
 import signal
 import subprocess
 import sys
-import tempfile
 import time
 import unittest
 from collections import Counter
@@ -17,7 +16,7 @@ from typing import Any, Dict, List
 from unittest import mock
 
 from json_schema import documented
-from support import EXAMPLES, PROGRAM, TOP, Said, distac, hear_signals, run_view, view
+from support import EXAMPLES, PROGRAM, TOP, InRoom, Said, distac, hear_signals, run_view, view
 from distac_view.answering.race_ends import Search, expected_by, reply_of
 from distac_view.asking.races import load_race, pages_in
 from distac_view.cli import ends as ends_command
@@ -46,13 +45,8 @@ FAULTS = (
 )
 
 
-class Room(unittest.TestCase):
+class Room(InRoom):
     """A temporary folder."""
-
-    def setUp(self) -> None:
-        room = tempfile.TemporaryDirectory()
-        self.addCleanup(room.cleanup)
-        self.room = Path(room.name)
 
     def path(self, text: str) -> str:
         """A file of a text."""
@@ -198,8 +192,7 @@ class Answers(Room):
             self.assertEqual(view("ends", RACE, "--schedules", "1", *words).status, 2, words)
 
     def test_a_program_that_differs(self) -> None:
-        program = self.room / "program"
-        program.write_text(f'#!/bin/sh\n"{PROGRAM}" "$@" | sed "s/halted/kept/"\n')
+        program = self.write("program", f'#!/bin/sh\n"{PROGRAM}" "$@" | sed "s/halted/kept/"\n')
         program.chmod(0o755)
         said = view("ends", RACE, *FEW, program=str(program))
         self.assertEqual(said.status, 2, said)
@@ -233,11 +226,11 @@ class Answers(Room):
             self.assertEqual(said.status, 1 if words else 0)
 
     def test_a_stored_answer(self) -> None:
-        (self.room / "race.question").write_text(f"ends {RACE} --schedules 6 --expect 'app shop holder main@h'")
+        self.write("race.question", f"ends {RACE} --schedules 6 --expect 'app shop holder main@h'")
         self.assertEqual(view("expect", str(self.room), "--write").status, 0)
         self.assertTrue((self.room / "race.answer").read_text().startswith("status 1\n6 schedules (2 uniform, 2 PCT and 2 POS)"))
         self.assertEqual(view("expect", str(self.room)).output, "1 of 1 answers are as stored\n")
-        (self.room / "race.question").write_text(f"ends {RACE} --schedules 6 --keep here")
+        self.write("race.question", f"ends {RACE} --schedules 6 --keep here")
         self.assertIn("would write a file", view("expect", str(self.room)).errors)
 
     def test_a_page(self) -> None:

@@ -11,28 +11,26 @@ from pathlib import Path
 from typing import Any
 
 from json_schema import documented
-from support import EXAMPLES, Said, run_view, view
+from support import EXAMPLES, InRoom, Said, run_view, view
 
 CONFIG = "[{kernel,[{distributed,[{a,500,[x@h,y@h]}]}]}].\n"
 DOWN = "# a comment\nwhat-if\n  'cluster.config' # another\n--down x@h\n"
 
 
-class Folder(unittest.TestCase):
+class Folder(InRoom):
     """A folder with two questions."""
 
     def setUp(self) -> None:
-        room = tempfile.TemporaryDirectory()
-        self.addCleanup(room.cleanup)
-        self.folder = Path(room.name) / "questions"
-        self.folder.mkdir()
+        super().setUp()
+        self.folder = self.room / "questions"
         self.write("cluster.config", CONFIG)
         self.write("down.question", DOWN)
         self.write("load.question", "load cluster.config --fail-on lost")
         self.assertEqual(self.ask("--write").status, 0)
 
-    def write(self, name: str, text: str) -> None:
+    def write(self, name: str, text: str) -> Path:
         """A file of the folder."""
-        (self.folder / name).write_text(text)
+        return super().write(f"questions/{name}", text)
 
     def ask(self, *words: str) -> Said:
         """The output of `expect` for the folder."""

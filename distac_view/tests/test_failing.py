@@ -3,14 +3,12 @@
 from __future__ import annotations
 
 import json
-import tempfile
 import unittest
-from pathlib import Path
 from random import Random
 from typing import Any, Dict, Tuple
 
 from json_schema import documented
-from support import IS_STAND_IN, Said, view
+from support import IS_STAND_IN, InRoom, Said, view
 from test_what_if import random_config
 
 SYNC = "{sync_nodes_optional,[cp1@h,cp2@h,cp3@h]},{sync_nodes_timeout,6000}"
@@ -22,14 +20,12 @@ COUNT = 6 if IS_STAND_IN else 60
 Places = Dict[str, Tuple[Any, ...]]
 
 
-class Failing(unittest.TestCase):
+class Failing(InRoom):
     """Starts that fail after a loss or a return."""
 
     def setUp(self) -> None:
-        room = tempfile.TemporaryDirectory()
-        self.addCleanup(room.cleanup)
-        self.config = Path(room.name) / "cluster.config"
-        self.config.write_text(TEXT)
+        super().setUp()
+        self.config = self.write("cluster.config", TEXT)
 
     def ask(self, words: str) -> Said:
         """The output for some words."""
@@ -70,6 +66,12 @@ class Failing(unittest.TestCase):
         self.assertEqual(self.places(f"{words} --temporary a")[0]["a"], ("cp1@h", None, None))
         self.assertIn("cp3@h waits for cp2@h, where a failed, to start it: without end", self.ask(f"{words} --temporary a").output)
         self.assertEqual(self.places(words)[0]["a"], ("cp1@h", None, "cp3@h"))
+
+    def test_a_node_of_a_tuple_waits_for_all_of_the_list(self) -> None:
+        self.config.write_text(TUPLE.replace("[cp1@h,{cp2@h,cp3@h}]", "[{cp1@h,cp3@h},cp2@h]"))
+        said = self.ask("--down cp1 cp3 --back cp1 --fails a=cp2 --temporary a")
+        self.assertRegex(said.output, r"a +cp1 +- +fails at cp2 +300 ms +-\n")
+        self.assertIn("cp1@h waits for cp2@h, where a failed, to start it: without end", said.output)
 
     def test_what_is_printed(self) -> None:
         said = self.ask("--fails a=cp2 b=cp2 --temporary b")

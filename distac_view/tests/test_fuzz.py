@@ -9,15 +9,13 @@ from __future__ import annotations
 import os
 import subprocess
 import sys
-import tempfile
 import unittest
 from html.parser import HTMLParser
-from pathlib import Path
 from random import Random
 from typing import List, Tuple
 
 from json_schema import documented
-from support import EXAMPLES, IS_STAND_IN, MISTAKES, PROGRAM, TOP, Said, view
+from support import EXAMPLES, IS_STAND_IN, MISTAKES, PROGRAM, TOP, InRoom, Said, view
 from distac_view.cli.command_line import SUBCOMMANDS
 
 SEED = os.environ.get("DISTAC_VIEW_SEED", "1")
@@ -105,13 +103,12 @@ class Elements(HTMLParser):
         self.others += [name for name, _ in attrs if name.startswith("on") or name in ("src", "href")]
 
 
-class Fuzz(unittest.TestCase):
+class Fuzz(InRoom):
     """For every input, the answer is a status and text made by the program."""
 
     def setUp(self) -> None:
-        room = tempfile.TemporaryDirectory()
-        self.addCleanup(room.cleanup)
-        self.path = Path(room.name) / "input"
+        super().setUp()
+        self.path = self.room / "input"
         self.schema = documented()
 
     def test_changed_inputs(self) -> None:

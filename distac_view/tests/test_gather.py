@@ -15,7 +15,7 @@ from unittest import mock
 
 from hostile_files import FINE, hostile_sources
 from random_clusters import random_cluster
-from support import EXAMPLES, Said, distac, run_view, view
+from support import EXAMPLES, InRoom, Said, distac, run_view, view
 from distac_view.reading.erlang_reader import has_erlang
 
 COUNT = 200
@@ -175,19 +175,14 @@ class RandomClusters(unittest.TestCase):
             self.compare(number, "erl")
 
 
-class Differences(unittest.TestCase):
+class Differences(InRoom):
     """Files of two nodes with one difference."""
-
-    def setUp(self) -> None:
-        self.room = tempfile.TemporaryDirectory()
-        self.addCleanup(self.room.cleanup)
 
     def gather(self, texts: "tuple[str, ...] | list[str]", *words: str, whole: bool = False) -> Said:
         """The output for the parameters of the nodes x@h, y@h and so on, or for their whole files."""
         nodes = []
         for name, text in zip("xyzuv", texts):
-            path = Path(self.room.name) / f"{name}.config"
-            path.write_text(text if whole else "[\n{kernel,[\n%s]}]." % text)
+            path = self.write(f"{name}.config", text if whole else "[\n{kernel,[\n%s]}]." % text)
             nodes.append(f"{name}@h={path}")
         return view("gather", "--reader", "own", *nodes, *words)
 
@@ -277,9 +272,9 @@ class Differences(unittest.TestCase):
         self.assertIn("\n%% net_ticktime 60\n", said.output)
 
     def test_later_files_win(self) -> None:
-        room = Path(self.room.name)
-        (room / "one.config").write_text("[{kernel,[%s,{sync_nodes_timeout,7}]}]." % PLACEMENT)
-        (room / "two.config").write_text("[{kernel,[{distributed,[{a,1,[x@h]}]}]}].")
+        room = self.room
+        self.write("one.config", "[{kernel,[%s,{sync_nodes_timeout,7}]}]." % PLACEMENT)
+        self.write("two.config", "[{kernel,[{distributed,[{a,1,[x@h]}]}]}].")
         for words in ([f"x@h={room}/one,{room}/two"], [f"x@h={room}/one", f"x@h={room}/two"]):
             self.assertIn("{distributed,[{a,1,[x@h]}]},{permissions,[]},{sync_nodes_mandatory,[]},{sync_nodes_optional,[]},{sync_nodes_timeout,7}", self.config_of(view("gather", *words)))
 
@@ -305,8 +300,7 @@ class Differences(unittest.TestCase):
     def told_at(self, text: str, name: str, reader: str) -> None:
         """A fault is reported at the mark of a text, which is removed."""
         before, mark, behind = text.partition("^")
-        path = Path(self.room.name) / "x.config"
-        path.write_text(before + behind)
+        path = self.write("x.config", before + behind)
         said = view("gather", "--reader", reader, f"x@h={path}")
         line, column = before.count("\n") + 1, len(before) - before.rfind("\n")
         self.assertTrue(said.output.startswith(f"{path}:{line}:{column}: {name}: "), (text, mark, said))
@@ -321,7 +315,7 @@ class Differences(unittest.TestCase):
         self.expect(self.gather(["{distributed,[{'it\\'s',[x@h]}]}"]), 2, "BadName")
 
     def test_names_of_files(self) -> None:
-        room = Path(self.room.name)
+        room = self.room
         (room / "inner.config").write_text("[{kernel,[%s]}]." % PLACEMENT)
         for name, warning in (("sys", ""), ("other", "NotSysConfig")):
             (room / f"{name}.config").write_text('["inner",{sasl,[]}].')

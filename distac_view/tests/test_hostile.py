@@ -2,12 +2,11 @@
 
 from __future__ import annotations
 
-import tempfile
 import unittest
 from pathlib import Path
 from random import Random
 
-from support import EXAMPLES, IS_STAND_IN, view
+from support import EXAMPLES, IS_STAND_IN, InRoom, view
 from random_texts import random_text
 
 CONFIG = (EXAMPLES / "manual.config").read_bytes()
@@ -34,13 +33,12 @@ WORDS = (
 )
 
 
-class Hostile(unittest.TestCase):
+class Hostile(InRoom):
     """No input causes a traceback."""
 
     def setUp(self) -> None:
-        self.room = tempfile.TemporaryDirectory()
-        self.addCleanup(self.room.cleanup)
-        self.path = str(Path(self.room.name) / "input")
+        super().setUp()
+        self.path = str(self.room / "input")
 
     def try_all(self, source: bytes) -> None:
         """All subcommands on an input: a failing one raises here."""

@@ -3,13 +3,12 @@
 from __future__ import annotations
 
 import json
-import tempfile
 import unittest
 from pathlib import Path
 from random import Random
 from typing import Any, Tuple
 
-from support import EXAMPLES, MISTAKES, view
+from support import EXAMPLES, MISTAKES, InRoom, view
 from json_schema import SCHEMA, described, documented, text_of
 from test_what_if import random_config
 
@@ -17,43 +16,39 @@ MANUAL, FAILOVER = str(EXAMPLES / "manual.config"), str(EXAMPLES / "failover.dis
 QUOTED = "[{kernel,[{distributed,[{'Shop',5000,['shop1@10.0.0.11',{'shop-2@h','a=b@h'}]}]}]}].\n"
 
 
-class Answers(unittest.TestCase):
-    """Each answer fits the described schema."""
-
-    def setUp(self) -> None:
-        self.schema = documented()
-        self.room = tempfile.TemporaryDirectory()
-        self.addCleanup(self.room.cleanup)
+class Schema(InRoom):
+    """Answers that fit the described schema."""
 
     def path(self, text: str) -> str:
         """A file of a text."""
-        path = Path(self.room.name) / "cluster.config"
-        path.write_bytes(text.encode("utf-8", "surrogateescape"))
-        return str(path)
+        return str(self.write("cluster.config", text))
 
-    def expect(self, *words: str) -> dict[str, Any]:
-        """The answer to some words, which fits the schema."""
+    def answer(self, status: int, *words: str) -> dict[str, Any]:
+        """The answer to some words with a status, which fits the schema."""
         said = view(*words, "--json")
-        self.assertEqual(said.status, 0, said)
-        self.assertEqual(self.schema.faults_of(said.output), [], said.output)
+        self.assertEqual((said.status, documented().faults_of(said.output)), (status, []), said)
         answer: dict[str, Any] = json.loads(said.output)
         return answer
 
+
+class Answers(Schema):
+    """Answers of `what-if`."""
+
     def test_examples(self) -> None:
         for path in sorted(EXAMPLES.glob("*.config")):
-            self.expect("what-if", str(path))
-        self.expect("what-if", MANUAL, "--after", FAILOVER)
-        self.expect("what-if", MANUAL, "--down", "cp1@cave", "cp2@cave", "cp3@cave")
-        self.expect("what-if", MANUAL, "--not-started", "cp1@cave", "--down", "cp1@cave", "cp2@cave")
+            self.answer(0, "what-if", str(path))
+        self.answer(0, "what-if", MANUAL, "--after", FAILOVER)
+        self.answer(0, "what-if", MANUAL, "--down", "cp1@cave", "cp2@cave", "cp3@cave")
+        self.answer(0, "what-if", MANUAL, "--not-started", "cp1@cave", "--down", "cp1@cave", "cp2@cave")
 
     def test_random_configurations(self) -> None:
         for number in range(25):
             text = random_config(Random(f"json {number}"))
             with self.subTest(number=number, text=text):
-                self.expect("what-if", self.path(text))
+                self.answer(0, "what-if", self.path(text))
 
     def test_names_have_no_quotes(self) -> None:
-        answer = self.expect("what-if", self.path(QUOTED))
+        answer = self.answer(0, "what-if", self.path(QUOTED))
         self.assertEqual(answer["nodes"], ["a=b@h", "shop-2@h", "shop1@10.0.0.11"])
         fate = answer["cases"][2]["applications"][0]
         self.assertEqual((fate["application"], fate["now"], fate["then"]), ("Shop", "shop1@10.0.0.11", "a=b@h"))
@@ -61,12 +56,12 @@ class Answers(unittest.TestCase):
         self.assertEqual(marks, [("shop1@10.0.0.11", "down"), ("a=b@h", "ok"), ("shop-2@h", "ok")])
 
     def test_bytes_of_names_are_kept(self) -> None:
-        answer = self.expect("what-if", self.path(QUOTED.replace("shop-2", "\udcffé")))
+        answer = self.answer(0, "what-if", self.path(QUOTED.replace("shop-2", "\udcffé")))
         self.assertIn("\udcffé@h", answer["nodes"])
 
     def test_ids_of_notes(self) -> None:
         def ids_of(*words: str) -> Tuple[str, ...]:
-            return tuple(note["id"] for note in self.expect("what-if", *words)["notes"])
+            return tuple(note["id"] for note in self.answer(0, "what-if", *words)["notes"])
 
         self.assertEqual(ids_of(MANUAL), ("Outage", "FirstTick", "TupleLoad", "StartedAgain"))
         both = ids_of(MANUAL, "--not-started", "cp2@cave", "--down", "cp1@cave")
@@ -74,15 +69,8 @@ class Answers(unittest.TestCase):
         self.assertTrue({"NotStarted", "NoSplit"} <= set(both), both)
 
 
-class Others(Answers):
+class Others(Schema):
     """Answers of `check` and `gather`, and faults, which have their own status."""
-
-    def answer(self, status: int, *words: str) -> dict[str, Any]:
-        """The answer to some words with a status, which fits the schema."""
-        said = view(*words, "--json")
-        self.assertEqual((said.status, self.schema.faults_of(said.output)), (status, []), said)
-        answer: dict[str, Any] = json.loads(said.output)
-        return answer
 
     def test_check(self) -> None:
         fine, bad = self.path(QUOTED), str(MISTAKES / "c03_missing_comma.config")
@@ -96,7 +84,7 @@ class Others(Answers):
         answer = self.answer(1, "gather", f"x={path}", "--strict")
         self.assertEqual([each["id"] for each in answer["remarks"]], ["OwnAdded", "NoFile", "NoSyncTime"])
         self.assertEqual(answer["text"].splitlines()[-1], answer["configuration"])
-        output = str(Path(self.room.name) / "written")
+        output = str(self.room / "written")
         answer = self.answer(0, "gather", f"x={path}", "--strict", "--allow", "OwnAdded", "NoFile", "NoSyncTime", "-o", output)
         self.assertEqual(Path(output).read_text(), answer["text"])
 

@@ -10,7 +10,7 @@ import unittest
 from pathlib import Path
 from random import Random
 
-from support import Said, distac, view
+from support import InRoom, Said, distac, view
 from distac_view.cli.gather import ERLANG_LINE
 from distac_view.reading.erlang_reader import has_erlang
 from distac_view.reading.erlang_tokens import Misread
@@ -112,22 +112,15 @@ class Releases(unittest.TestCase):
             self.assertIn("{sync_nodes_optional,[x@h,y@h]}", said.output)
 
 
-class Folders(unittest.TestCase):
+class Folders(InRoom):
     """The folder of a release in place of its files."""
 
     def setUp(self) -> None:
-        room = tempfile.TemporaryDirectory()
-        self.addCleanup(room.cleanup)
-        self.room = Path(room.name)
+        super().setUp()
         self.write("rel/releases/start_erl.data", "13.1.5 0.2.0")
         for version in ("0.1.0", "0.2.0"):
             self.write(f"rel/releases/{version}/sys.config.src", PLACED.replace("500", version.replace(".", "")))
         self.write("rel/releases/0.2.0/vm.args.src", "-name x@${HOST}\n")
-
-    def write(self, path: str, text: str) -> None:
-        """A file in the folder."""
-        (self.room / path).parent.mkdir(parents=True, exist_ok=True)
-        (self.room / path).write_text(text)
 
     def test_the_version_that_starts(self) -> None:
         files = "rel/releases/0.2.0/sys.config.src,rel/releases/0.2.0/vm.args.src"
@@ -155,21 +148,16 @@ class Folders(unittest.TestCase):
         self.assertEqual(gather("x@h=sys.config", "--strict", "--allow", "ConfigProvider", folder=self.room).status, 0)
 
 
-class Faults(unittest.TestCase):
+class Faults(InRoom):
     """Unreadable inputs."""
 
     def setUp(self) -> None:
-        self.room = tempfile.TemporaryDirectory()
-        self.addCleanup(self.room.cleanup)
+        super().setUp()
         self.write("sys.config", PLACED)
-
-    def write(self, name: str, text: str) -> None:
-        """A file of the folder."""
-        (Path(self.room.name) / name).write_text(text)
 
     def expect(self, part: str, status: int, *words: str) -> None:
         """A status, and a part of the output."""
-        said = gather(*words, folder=self.room.name)
+        said = gather(*words, folder=self.room)
         self.assertEqual(said.status, status, said)
         self.assertIn(part, said.output + said.errors)
 
@@ -197,7 +185,7 @@ class Faults(unittest.TestCase):
 
     def test_names_of_nodes(self) -> None:
         self.write("vm.args", "-sname y")
-        said = gather("vm.args,sys.config", folder=self.room.name)
+        said = gather("vm.args,sys.config", folder=self.room)
         self.assertIn("%% y@h vm.args", said.output)
         self.expect("write NODE= before its files", 2, "sys.config")
         self.write("vm.args", "-name ${NODE}")
@@ -224,17 +212,16 @@ class Faults(unittest.TestCase):
 
 
 @unittest.skipUnless(has_erlang() and shutil.which("erl"), "Erlang isn't in PATH")
-class RealErlang(unittest.TestCase):
+class RealErlang(InRoom):
     """Argument files as Erlang reads them."""
 
     def setUp(self) -> None:
-        self.room = tempfile.TemporaryDirectory()
-        self.addCleanup(self.room.cleanup)
+        super().setUp()
         self.environment = {name: value for name, value in os.environ.items() if not name.startswith("ERL_")}
 
     def erl(self, *words: str) -> str:
         """The output of `erl`."""
-        done = subprocess.run(["erl", *words], cwd=self.room.name, env=self.environment, capture_output=True, timeout=60, check=True)
+        done = subprocess.run(["erl", *words], cwd=self.room, env=self.environment, capture_output=True, timeout=60, check=True)
         return done.stdout.decode()
 
     def test_words(self) -> None:
@@ -245,13 +232,13 @@ class RealErlang(unittest.TestCase):
                 words = [word.text for word in words_of("", text)]
             except Misread:
                 continue
-            (Path(self.room.name) / "some.args").write_bytes(b"-mark\n" + text.encode())
+            (self.room / "some.args").write_bytes(b"-mark\n" + text.encode())
             printed = self.erl("-emu_args_exit", "-args_file", "some.args").split("-mark\n")[1]
             self.assertEqual(printed, "".join(f"{word}\n" for word in [*words, "--", "--"]), (number, text))
 
     def test_flags(self) -> None:
         """The flags and sections are those of another application, because kernel would start waiting for nodes."""
-        room = Path(self.room.name)
+        room = self.room
         (room / "placed.config").write_text(PLACED)
         texts = {
             "sys.config": "[{kernel,[{sync_nodes_mandatory,[x@h]},{sync_nodes_timeout,3}]}].",

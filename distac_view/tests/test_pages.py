@@ -7,7 +7,6 @@ import hashlib
 import json
 import os
 import re
-import tempfile
 import unittest
 from html import unescape
 from html.parser import HTMLParser
@@ -15,7 +14,7 @@ from pathlib import Path
 from typing import Any, Dict, List, Tuple
 from unittest import mock
 
-from support import EXAMPLES, PROGRAM, Said, run_view, view
+from support import EXAMPLES, PROGRAM, InRoom, Said, run_view, view
 from distac_view.asking.program import NAMED
 from distac_view.common.version import version_line
 from distac_view.showing.html_elements import wrapped
@@ -75,15 +74,13 @@ class Text(HTMLParser):
         return [text for tag in tags for text in self.found.get(tag, [])]
 
 
-class Pages(unittest.TestCase):
+class Pages(InRoom):
     """The contents of each page."""
 
     def setUp(self) -> None:
-        room = tempfile.TemporaryDirectory()
-        self.addCleanup(room.cleanup)
-        self.room = Path(room.name)
-        (self.room / "fleet.config").write_text(FLEET)
-        (self.room / "other.config").write_text(FLEET.replace("8000", "9000").replace("audit", "mirror").replace("c@h,'shop-1", "'shop-1"))
+        super().setUp()
+        self.write("fleet.config", FLEET)
+        self.write("other.config", FLEET.replace("8000", "9000").replace("audit", "mirror").replace("c@h,'shop-1", "'shop-1"))
 
     def words(self, words: Tuple[str, ...]) -> List[str]:
         """A command line with file names."""
@@ -166,7 +163,9 @@ class Pages(unittest.TestCase):
                 for fate, cell in zip(case["applications"], cells):
                     place = fate["then"] or ("nowhere" if fate["now"] else "-")
                     after = f" after {fate['milliseconds'] // 1000} s" if fate["how"] == "failover" and fate["milliseconds"] else ""
-                    self.assertEqual(cell, place if fate["then"] == fate["now"] or not fate["then"] else f"-> {place}{after}", (words, fate))
+                    wanted = place if fate["then"] == fate["now"] or not fate["then"] else f"-> {place}{after}"
+                    hangs = ", or OTP hangs" if fate["application"] in case["may_hang"] else ""
+                    self.assertEqual(cell, wanted + hangs, (words, fate))
 
     def test_each_square_of_a_restart(self) -> None:
         for words in QUESTIONS[4:6]:
@@ -176,7 +175,8 @@ class Pages(unittest.TestCase):
                 for step, square in zip(answer["steps"], squares):
                     moves = [move for name in ("drained", "down", "back") for move in step[name] if move["application"] == app]
                     self.assertEqual(square.count("->"), len(moves), (app, square))
-                    self.assertEqual((app in step["nowhere"], app in step["waiting"]), ("nowhere" in square, "down" in square), square)
+                    said = ("nowhere" in square, "down" in square, "hangs" in square)
+                    self.assertEqual(said, (app in step["nowhere"], app in step["waiting"], app in step["may_hang"]), square)
                     if moves:
                         place = moves[-1]["to"]
                         self.assertIn(f"-> {place}", square)
@@ -194,7 +194,8 @@ class Pages(unittest.TestCase):
             self.assertEqual(name, f"side of {' '.join(part['nodes'])}")
             for fate, app, place, square, each in zip(part["applications"], heads[1:], before[1:], squares, answer["healed"]):
                 self.assertEqual((fate["application"], fate["now"]), (app, place))
-                self.assertEqual(square.endswith(", runs twice"), fate["then"] in each["copies"] and len(each["copies"]) == 2)
+                self.assertEqual(", runs twice" in square, fate["then"] in each["copies"] and len(each["copies"]) == 2)
+                self.assertEqual(square.endswith(", or OTP hangs"), fate["application"] in part["may_hang"])
                 self.assertIn(fate["then"] or "not here", square)
 
     def test_the_headlines_come_first(self) -> None:
@@ -273,7 +274,7 @@ class Pages(unittest.TestCase):
             self.assertEqual(view(*words, "-o", "/no/such/folder/page.html").status, 2)
         self.assertEqual((self.room / "fleet.config").read_text(), FLEET)
         page.write_text("kept")
-        (self.room / "broken.config").write_text(FLEET[:-3])
+        self.write("broken.config", FLEET[:-3])
         self.assertEqual(view("load", str(self.room / "broken.config"), "-o", str(page)).status, 2)
         self.assertEqual(page.read_text(), "kept")
 

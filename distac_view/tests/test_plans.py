@@ -4,7 +4,6 @@ from __future__ import annotations
 
 import json
 import re
-import tempfile
 import unittest
 from typing import List, Sequence, Tuple
 from itertools import combinations, permutations
@@ -13,7 +12,7 @@ from random import Random
 from unittest import mock
 
 from json_schema import documented
-from support import EXAMPLES, IS_STAND_IN, distac, view
+from support import EXAMPLES, IS_STAND_IN, InRoom, distac, view
 from test_starts import checked_of, random_places
 from test_what_if import random_config
 from distac_view.answering import load as loads
@@ -52,19 +51,16 @@ def random_side(random: Random) -> Side:
     return opened_now(distac(), checked, random_places(random, checked))
 
 
-class Files(unittest.TestCase):
+class Files(InRoom):
     """Tests with files of configurations."""
 
     def setUp(self) -> None:
-        self.room = tempfile.TemporaryDirectory()
-        self.addCleanup(self.room.cleanup)
+        super().setUp()
         self.shop = self.path("shop.config", SHOP)
 
     def path(self, name: str, text: str) -> str:
         """A file of a text."""
-        path = Path(self.room.name) / name
-        path.write_text(text)
-        return str(path)
+        return str(self.write(name, text))
 
 
 class Loads(Files):
@@ -161,15 +157,14 @@ class Hangs(Files):
         self.assertIn("; OTP may hang: a and b; back:", view("rolling", fleet).output)
 
     def test_later_ones_stay_down_too(self) -> None:
-        """A later application isn't restarted if its nodes hang, as was seen with OTP 25, and is if another node comes first."""
-        rows = (("[n1@h,n2@h,n3@h]", True), ("[n1@h,n4@h,n2@h]", False), ("[n1@h,{n3@h,n4@h}]", True), ("[n1@h,{n4@h,n5@h}]", False))
-        for nodes, is_stuck in rows:
-            path = self.path("later.config", FLEET.replace("{c,5000,[n2@h,n3@h,n1@h]}", "{c,7000,%s},{d,6000,[n1@h,n5@h]}" % nodes))
+        """As in OTP 25, if all nodes start all applications: also those that another node would restart."""
+        for nodes in ("[n1@h,n2@h,n3@h]", "[n1@h,n4@h,n2@h]", "[n1@h,{n3@h,n4@h}]", "[n1@h,{n4@h,n5@h}]"):
+            path = self.path("later.config", FLEET.replace("{c,5000,[n2@h,n3@h,n1@h]}", "{c,7000,%s},{d,3000,[n1@h,n5@h]}" % nodes))
             said = json.loads(view("what-if", path, "--down", "n1", "--json").output)
-            names = ["a", "b", "c"] if is_stuck else ["a", "b"]
-            self.assertEqual(said["cases"][0]["may_hang"], names, nodes)
+            self.assertEqual(said["cases"][0]["may_hang"], ["a", "b", "c"], nodes)
             text = next(note["text"] for note in said["notes"] if note["id"] == "EqualTimes")
-            self.assertIn("only some of a, b and c: " if is_stuck else "only one of a and b: ", text)
+            self.assertIn("may hang, and restart only some of a, b and c: ", text)
+            self.assertIn("While it hangs, n1@h can't start its applications again.", text)
 
     def test_it_can_fail(self) -> None:
         fleet, cured = self.path("fleet.config", FLEET), self.path("cured.config", FLEET.replace("b,5000", "b,6000"))
@@ -254,7 +249,8 @@ class Rolls(Files):
         then = view("what-if", self.shop, "--then", new, "--takes", "4000").output
         self.assertRegex(then, r"~ billing +shop1 down +it waits -> shop2\n")
         answer = json.loads(view("what-if", self.shop, "--takes", "4000", "--down", "shop1@h", "--json").output)
-        self.assertEqual([fate["waits"] for fate in answer["cases"][0]["applications"]], [True, False, False, False])
+        fates = [(fate["waits"], fate["longest_outage"]) for fate in answer["cases"][0]["applications"]]
+        self.assertEqual(fates, [(True, 4000), (False, None), (False, None), (False, 4000)])
 
     def test_a_mandatory_node_bars_a_boot(self) -> None:
         path = self.path("gate.config", GATED_SHOP)
@@ -309,24 +305,25 @@ class Changed(Files):
 
     def test_what_no_answer_shows(self) -> None:
         old = self.path("old.config", FULL_SHOP)
-        rows: "tuple[tuple[str, str, str, str | None], ...]" = (
+        rows: "tuple[tuple[str, str, str, str], ...]" = (
             ("mandatory,[shop1@h,shop2@h,shop3@h]", "mandatory,[]", "~ all nodes  sync_nodes_mandatory  [shop1@h,shop2@h,shop3@h] -> []", "OtherGates"),
             ("optional,[]", "optional,[shop1@h]", "~ all nodes  sync_nodes_optional  [] -> [shop1@h]", "OtherGates"),
             ("timeout,30000", "timeout,300000", "~ all nodes  sync_nodes_timeout  30000 -> 300000", "OtherGates"),
-            ("net_ticktime,20", "net_ticktime,60", "~ reports    shop3 down  away for at most 28 s -> 78 s", None),
+            ("net_ticktime,20", "net_ticktime,60", "~ reports    shop3 down  away for at most 28 s -> 78 s", ""),
             ("shop2@h,shop3@h]},{reports", "shop2@h]},{reports", "~ billing  shop2 down  one loss from nothing", "NoRollingChange"),
             ("billing,8000", "billing,8001", "~ billing  shop1 down  shop2 after 8000 ms -> shop2 after 8001 ms", "MixedTimes"),
             ("{audit,", "{fax,[shop1@h]},{audit,", "+ fax (application)", "AddedMayRunTwice"),
             (",{audit,0,[shop1@h,shop2@h]}", "", "- audit (application)", "GoneRunsEverywhere"),
+            ("shop3@h}]},{audit,0,[shop1@h,shop2@h]}", "shop4@h}]}", "- audit (application)", "NoRollingChange GoneRunsEverywhere"),
         )
-        for before, behind, line, note in rows:
+        for before, behind, line, notes in rows:
             self.assertIn(before, FULL_SHOP)
             words = ("what-if", old, "--then", self.path("new.config", FULL_SHOP.replace(before, behind)))
             said, answer = view(*words), json.loads(view(*words, "--json").output)
             lines = [re.sub(" {2,}", "  ", row) for row in said.output.splitlines()]
             self.assertEqual(said.status, 1, said)
             self.assertIn(re.sub(" {2,}", "  ", line), lines)
-            self.assertEqual([each["id"] for each in answer["notes"]], [note] if note else [])
+            self.assertEqual([each["id"] for each in answer["notes"]], notes.split())
 
     def test_what_a_rollout_fails_on(self) -> None:
         old = self.path("old.config", FULL_SHOP)
@@ -433,7 +430,7 @@ class Now(Files):
     def test_what_distac_moves_at_once(self) -> None:
         said = view("what-if", self.shop, "--now", "billing=shop2@h", "--down", "shop3@h")
         self.assertIn("Here shop1@h takes over billing at once: OTP leaves it at shop2@h until shop1@h starts it.", said.output)
-        self.assertIn("By --now reports, mail and audit run nowhere: no node starts it.", said.output)
+        self.assertIn("By --now reports, mail and audit run nowhere. A node that comes back starts it if it is the first of its list", said.output)
 
     def test_the_part_before_the_host(self) -> None:
         whole = json.loads(view("what-if", self.shop, "--json", "--now", "mail=shop2@h", "billing=shop1@h", "--down", "shop1@h").output)
@@ -463,6 +460,16 @@ class Now(Files):
         self.assertEqual(fates["billing"], ("shop2@h", "shop2@h", "shop1@h"))
         self.assertEqual(view("what-if", self.shop, *now, "--back", "shop2").status, 2)
         self.assertIn("has to be one of --down, or off by --now", view("what-if", self.shop, "--back", "shop1").errors)
+
+    def test_what_no_node_started(self) -> None:
+        """As in OTP 25: a node that comes back starts it if it is the first one, and else waits for nodes before it."""
+        rows = (("shop2@h mail\nshop3@h reports\n", "shop1", "shop1@h"), ("shop1@h audit\nshop2@h mail\n", "shop3", None))
+        for text, back, place in rows:
+            fates = self.fates("--now", self.path("now", text), "--back", back)
+            self.assertEqual(fates["billing"], (None, None, place), back)
+        tuples = (("shop1@h billing\nshop3@h reports\n", "shop2", "shop2@h"), ("shop1@h billing\nshop2@h audit\n", "shop3", None))
+        for text, back, place in tuples:
+            self.assertEqual(self.fates("--now", self.path("now", text), "--back", back)["mail"], (None, None, place), back)
 
     def test_what_was_lost_with_all_its_nodes(self) -> None:
         """As in OTP 25: the first of its nodes that comes back starts it."""

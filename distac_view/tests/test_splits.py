@@ -3,14 +3,12 @@
 from __future__ import annotations
 
 import json
-import tempfile
 import unittest
-from pathlib import Path
 from random import Random
 from typing import Any, Iterator
 
 from json_schema import documented
-from support import Said, distac, view
+from support import InRoom, Said, distac, view
 from test_what_if import random_config
 from distac_view.asking.snapshots import page_of
 
@@ -27,14 +25,12 @@ FIRST = (
 )
 
 
-class Splits(unittest.TestCase):
+class Splits(InRoom):
     """Splits of a cluster of four nodes, and of random ones."""
 
     def setUp(self) -> None:
-        room = tempfile.TemporaryDirectory()
-        self.addCleanup(room.cleanup)
-        self.config = Path(room.name) / "cluster.config"
-        self.config.write_text(FOUR)
+        super().setUp()
+        self.config = self.write("cluster.config", FOUR)
 
     def ask(self, split: str, *words: str) -> Said:
         """The output for a split."""

@@ -14,7 +14,7 @@ from pathlib import Path
 from random import Random
 from unittest import mock
 
-from support import EXAMPLES, IS_STAND_IN, distac, view
+from support import EXAMPLES, IS_STAND_IN, InRoom, distac, view
 from check import read_config
 from random_scripts import CALM, CONFIGS, DRAINS, PAUSES, ScriptMaker
 from test_what_if import random_config
@@ -56,13 +56,12 @@ def checked_of(text: str) -> Checked:
     return check_config(distac(), "x", text.encode())
 
 
-class Asked(unittest.TestCase):
+class Asked(InRoom):
     """Questions after scripts."""
 
     def setUp(self) -> None:
-        room = tempfile.TemporaryDirectory()
-        self.addCleanup(room.cleanup)
-        self.path = Path(room.name) / "script"
+        super().setUp()
+        self.path = self.room / "script"
 
     def reply(self, config: str, script: str, *down: str) -> Reply:
         """The reply to a question after a script."""
@@ -382,7 +381,7 @@ class Plays(unittest.TestCase):
         program.is_asked = lambda: asked.append(1)
         reply = reply_on(program, checked_of(text), Question("x"))
         self.assertEqual((len(reply.cases), program.cases, program.cases_done), (9, 9, 9))
-        self.assertLessEqual(len(asked), 9 + 6)
+        self.assertLessEqual(len(asked), 9 + 5)
 
 
 if __name__ == "__main__":

@@ -10,7 +10,7 @@ from pathlib import Path
 from typing import Dict, List, Tuple
 from xml.etree import ElementTree
 
-from support import EXAMPLES, view
+from support import EXAMPLES, InRoom, view
 from distac_view.reading.configuration import Application, Configuration
 from distac_view.reading.script_file import script_of
 from distac_view.showing.html_frame import DARK, LIGHT, PAPER
@@ -62,19 +62,12 @@ class Elements(HTMLParser):
         return next(place for place, (name, its) in enumerate(self.found) if name == tag and attributes.items() <= its.items())
 
 
-class Pages(unittest.TestCase):
+class Pages(InRoom):
     """The contents of each page."""
-
-    def setUp(self) -> None:
-        room = tempfile.TemporaryDirectory()
-        self.addCleanup(room.cleanup)
-        self.room = Path(room.name)
 
     def written(self, text: str) -> Path:
         """A script of a text."""
-        path = self.room / "script"
-        path.write_text(text)
-        return path
+        return self.write("script", text)
 
     def test_each_line_stands_in_one_picture(self) -> None:
         for path in [*SCRIPTS, self.written(many_applications(9))]:
@@ -90,7 +83,7 @@ class Pages(unittest.TestCase):
 
     def test_what_goes_on_is_drawn_in_each_part(self) -> None:
         page = page_of(self.written(many_applications(9)))
-        with_bar = [part for part in pictures(page) if any(rect.get("class") == "bar" for rect in part)]
+        with_bar = [part for part in pictures(page) if any(rect.get("class") == "bar" for rect in part.iter("rect"))]
         self.assertGreaterEqual(len(with_bar), 2)
         self.assertIn('class="term again"', page)
 
@@ -100,9 +93,9 @@ class Pages(unittest.TestCase):
             first_picture = page.place("svg", role="img")
             heading = page.place("h2")
             self.assertLess(heading, first_picture, path.name)
-            if ("table", {"aria-labelledby": "claims"}) in page.found:
+            if any(its.get("aria-label") == "Claims of ticks" for _, its in page.found):
                 self.assertLess(page.place("table"), first_picture)
-                self.assertTrue(all(its == "col" for tag, all_its in page.found if tag == "th" for its in [all_its.get("scope")]))
+                self.assertTrue(all(its.get("scope") in ("col", "row") for tag, its in page.found if tag == "th"))
 
     def test_each_picture_has_a_name_or_is_decoration(self) -> None:
         for path in SCRIPTS:

@@ -7,7 +7,7 @@
 %% doesn't send its weight. README.md says more. Needs OTP 25 or later, because of peer, and no other file.
 %%
 %%   escript dist_ac_hang.escript            all cases, in about a minute
-%%   escript dist_ac_hang.escript hang       some of hang, later, apart, list, one
+%%   escript dist_ac_hang.escript hang       some of hang, later, lists, apart, list, one
 %%   escript dist_ac_hang.escript --pa DIR   with the dist_ac.beam of a folder in place of OTP's
 %%
 %% The exit status is 1 if a case hung, 0 if none did, and 2 if something else went wrong.
@@ -20,6 +20,7 @@ cases() ->
     Tuple = "[n1,{n2,n3}]", List = "[n1,n2,n3]",
     [{hang,  "two applications, one failover time, a tuple after the first node", [{a1, 400, Tuple}, {a2, 400, Tuple}]},
      {later, "the same, with a third one that has a later time and a plain list", [{a1, 400, Tuple}, {a2, 400, Tuple}, {a3, 2000, List}]},
+     {lists, "two applications, one failover time, lists whose only common node is n1", [{a1, 400, "[n1,n2]"}, {a2, 400, "[n1,n3]"}]},
      {apart, "the first two with failover times 600 ms apart",                    [{a1, 400, Tuple}, {a2, 1000, Tuple}]},
      {list,  "two applications, one failover time, plain lists",                  [{a1, 400, List}, {a2, 400, List}]},
      {one,   "one application with a tuple",                                      [{a1, 400, Tuple}]}].
