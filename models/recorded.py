@@ -5,7 +5,7 @@
 - The comments are the output of `distac live` for such a run: for a racing script with the properties of racing.py, and
   for one with one outcome by live.py.
 - The lines are events, followed by the page of each node in name order.
-- Each link ships five times a phase, and as many of its messages are heard as were shipped, each after its ship.
+- Each link ships five times a phase, and its messages are heard in order, each once and after its ship.
 - Without ships and hearings the lines of a node are those of its callers: phase by phase, each caller's in order, and
   each answered as in the comments.
 - The pages that the simulator's model prints at the end are those of the comments.
@@ -89,22 +89,25 @@ def demand_callers(config: Config, events: List[Tuple[Line, bytes]], told: List[
 
 
 def demand_links(config: Config, events: List[Tuple[Line, bytes]], phases: int) -> None:
-    """Demands that each link ships as often as it must, and that exactly the shipped messages are heard."""
+    """Demands that each link ships as often as it must, and that its messages are heard in order, each once."""
     ships = Counter(line.values for line, _ in events if line.word == SHIP)
     nodes = range(len(config.nodes))
     wanted = {(a, b): SHIPS_OF_PHASE * phases for a in nodes for b in nodes if a != b}
     demand(dict(ships) == wanted, f"links shipped {dict(ships)}")
-    sent: list[tuple[Value, ...]] = []
-    heard: Counter[tuple[Value, ...]] = Counter()
+    links: list[tuple[Value, ...]] = []
+    sent: Dict[tuple[Value, ...], List[int]] = defaultdict(list)
+    heard: Dict[tuple[Value, ...], List[int]] = defaultdict(list)
     for line, answer in events:
         demand(not answer.startswith(b"no "), f"{line} was answered {answer!r}")
         if line.word == SHIP and answer == OK:
-            sent.append(line.values)
+            links.append(line.values)
+            sent[line.values].append(len(links))
         elif line.word == HEAR:
-            link = sent[int(line.values[1]) - 1]
+            number = int(line.values[1])
+            link = links[number - 1]
             demand(link[1] == line.values[0], f"{line} isn't of a link to that node")
-            heard[link] += 1
-    demand(heard == Counter(sent), f"of {Counter(sent)} there were heard {heard}")
+            heard[link].append(number)
+    demand(heard == sent, f"of {dict(sent)} there were heard {dict(heard)}")
 
 
 def answer_of(said: List[bytes]) -> bytes:

@@ -1,5 +1,5 @@
 -- The pages that callers' lines read.
-use Rattle.std.specs.Prelude.{⊤, ℕ, ◌≡◌, ◌<◌, ◌≤◌, ◌==◌, ◌++◌, ◌∷◌, [], All, List, Option, Some, None, Result, Ok, Err, flat_map, if◌then◌else◌, length, take, zip}
+use Rattle.std.specs.Prelude.{⊤, ℕ, ◌≡◌, ◌<◌, ◌≤◌, ◌==◌, ◌++◌, ◌∷◌, [], All, List, Option, Some, None, Result, Ok, Err, flat_map, if◌then◌else◌, length, take, drop, ◌+◌, zip}
 use Rattle.std.specs.List.{AllZip}
 use Rattle.dac_config.specs.Table.{Table}
 use Rattle.dac_messages.specs.declared.reply.Reply.{Reply}
@@ -57,15 +57,21 @@ abbrev pub receipt_after : ℕ → List Call → ℕ
 receipt_after last [] = last
 receipt_after last (c ∷ cs) = receipt_after (receipt_by last c.place c.answer) cs
 
--- The result and the page of a line agree with the caller's last receipt, which has this place: a fresh page isn't
--- older, a stale one is, or there is none. A line that calls reads no page.
-abbrev pub IsTold : ℕ → LineAnswer → Option Page → Type 0
-IsTold receipt (Done answer) None = ⊤
-IsTold receipt (Done answer) (Some page) = ⊥
-IsTold receipt Fresh None = ⊥
-IsTold receipt Fresh (Some page) = receipt ≤ page.place
-IsTold receipt Stale None = ⊤
-IsTold receipt Stale (Some page) = page.place < receipt
+-- the place of the first of these calls, or `end` if there is none
+abbrev pub next_place : ℕ → List Call → ℕ
+next_place end [] = end
+next_place end (c ∷ cs) = c.place
+
+-- The result and the page of a line agree with the places of the caller's last receipt and of its next record: a fresh
+-- page isn't older than the receipt, and precedes the record; a stale one is older, or there is none. A line that calls
+-- reads no page.
+abbrev pub IsTold : ℕ → ℕ → LineAnswer → Option Page → Type 0
+IsTold receipt next (Done answer) None = ⊤
+IsTold receipt next (Done answer) (Some page) = ⊥
+IsTold receipt next Fresh None = ⊥
+IsTold receipt next Fresh (Some page) = (receipt ≤ page.place) × (page.place < next)
+IsTold receipt next Stale None = ⊤
+IsTold receipt next Stale (Some page) = page.place < receipt
 
 -- ---- a caller's lines
 -- the result of a line, and its page, if the line is this caller's of this node
@@ -86,25 +92,26 @@ own_of node caller phases answers reads =
 abbrev pub asked_in : List (LineAnswer × Option Page) → ℕ
 asked_in lines = length (found (λ (l : LineAnswer × Option Page). answer_in l.0) lines)
 
--- Each of a caller's lines agrees with the caller's last receipt before it: the last one of as many calls as lines
--- before it call, or place 0 if there is none.
-pub record FollowsReceipts (calls : List Call) (lines : List (LineAnswer × Option Page)) : Type 0 where
+-- Each of a caller's lines agrees with the caller's last receipt before it, of as many calls as lines before it call,
+-- or place 0 if there is none; and with the caller's next call after these, or `end` if there is none.
+pub record FollowsReceipts (calls : List Call) (end : ℕ) (lines : List (LineAnswer × Option Page)) : Type 0 where
   pub each : (before after : List (LineAnswer × Option Page)) (answer : LineAnswer) (read : Option Page)
-      → lines ≡ before ++ (answer, read) ∷ after → IsTold (receipt_after 0 (take (asked_in before) calls)) answer read
+      → lines ≡ before ++ (answer, read) ∷ after
+      → IsTold (receipt_after 0 (take (asked_in before) calls)) (next_place end (drop (asked_in before) calls)) answer read
 
--- the lines of all callers of a node agree with the receipts before them
+-- the lines of all callers of a node agree with the receipts before them and the calls after them
 abbrev pub NodeFollows : ℕ → List Phase → List (List LineAnswer) → List (List (Option Page)) → List Record → Type 0
 NodeFollows node phases answers reads records = (caller : ℕ) → 1 ≤ caller → caller ≤ 4
-    → FollowsReceipts (calls_of caller records) (own_of node caller phases answers reads)
+    → FollowsReceipts (calls_of caller records) (length records + 1) (own_of node caller phases answers reads)
 
--- the lines of all callers of all nodes agree with the receipts before them
+-- the lines of all callers of all nodes agree with the receipts before them and the calls after them
 abbrev pub FollowReceipts : List Phase → List (List LineAnswer) → List (List (Option Page)) → List JournalValue → Type 0
 FollowReceipts phases answers reads closed =
     (node : ℕ) → node < length closed → NodeFollows node phases answers reads (records_at closed node)
 
 -- ---- both
 -- A line that reads has a page of its node's journal, unless it is stale and has none. It is fresh if the page isn't
--- older than its caller's last receipt.
+-- older than its caller's last receipt, and no page that a line reads contains its caller's next record.
 pub record ReadsHold (t : Table) (phases : List Phase) (answers : List (List LineAnswer))
     (reads : List (List (Option Page))) (closed : List JournalValue) : Type 0 where
   pub noted : AreNoted phases reads

@@ -4,9 +4,9 @@ ghost use Rattle.std.specs.Prelude.{◌≡◌, IfOk, reverse};
 ghost use Rattle.dac_live.specs.Lines.{seen_as, Handed, HandedReading};
 
 use crate::callers::answers_of;
-use crate::lists::{AnswerList, ReadList};
+use crate::lists::{AnswerList, BoxedPage, ReadList};
 use crate::report::LineAnswer;
-use dac_base::NodeId;
+use dac_base::{NoMemory, NodeId};
 use dac_crews::{Answer, Ask, CloseFault, Closed, Line, Page, Phase, RunFault, Seen};
 use dac_workers::Reading;
 use std::alloc::Global;
@@ -100,6 +100,19 @@ fn next_of(rests: &mut [Rest], line: &Line) -> Option<(LineAnswer, Option<Page>)
     None
 }
 
+/// The page in a box of its own, if there is one.
+fn boxed(alloc: Global, read: Option<Page>) -> Result<Option<BoxedPage>, NoMemory>
+    ensures { IfOk result (λ boxed. boxed ≡ read) }
+{
+    match read {
+        Some(page) => {
+            let page = BoxedPage::new(alloc, page)?;
+            Ok(Some(page))
+        }
+        None => Ok(None),
+    }
+}
+
 /// The result of each line of a phase, and its page.
 fn told_in(
     alloc: Global,
@@ -114,7 +127,7 @@ fn told_in(
             return Err(mismatch(line.node));
         };
         answers.push(answer)?;
-        reads.push(read)?;
+        reads.push(boxed(alloc, read)?)?;
     }
     Ok((AnswerList::new(answers), ReadList::new(reads)))
 }

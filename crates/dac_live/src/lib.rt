@@ -16,7 +16,9 @@ pub use dac_sites::{
 };
 pub use dac_workers::{Reading, fresh_page, links};
 pub use lines::{are_answered, told_to};
-pub use lists::{AnswerList, AnswersByPhase, ClosedList, PageList, ReadList, ReadsByPhase};
+pub use lists::{
+    AnswerList, AnswersByPhase, BoxedPage, ClosedList, PageList, ReadList, ReadsByPhase,
+};
 pub use live::run_live;
 pub use nodes::last_pages;
 pub use owed::are_runnable;

@@ -1,10 +1,13 @@
 //! The lists of a report, as types whose values are the lists. Each `Drop` is written by hand, so that a proof sees it
 //! as one call.
 
-ghost use Rattle.std.specs.Prelude.{◌≡◌};
+ghost use Rattle.std.specs.Prelude.{◌≡◌, IfOk};
 
 use crate::report::LineAnswer;
+use dac_base::NoMemory;
 use dac_crews::{Closed, Page};
+use std::alloc::Global;
+use std::boxed::Box;
 use std::marker::Model;
 
 /// The results of a phase's lines, in their order.
@@ -103,9 +106,48 @@ impl AnswersByPhase {
     }
 }
 
+/// A page outside of the list that it belongs to, because most lines read none.
+pub struct BoxedPage {
+    page: Box<Page>,
+}
+
+impl Drop for BoxedPage {
+    fn drop(self) {
+        let BoxedPage { page: _page } = self;
+    }
+}
+
+impl Model for BoxedPage {
+    ghost use Rattle.dac_pages.specs.declared.page.Page.{Page};
+    ghost use Rattle.dac_pages.specs.contracts.page.Page as page_row;
+
+    ghost Value = { Page };
+
+    ghost coded = { page_row.the_row.coded };
+
+    ghost view = { λ b. b.page.value };
+}
+
+impl BoxedPage {
+    /// The page in a box of its own.
+    pub fn new(alloc: Global, page: Page) -> Result<Self, NoMemory>
+        ensures { IfOk result (λ boxed. boxed ≡ page) }
+    {
+        let page = Box::new(alloc, page)?;
+        Ok(BoxedPage { page })
+    }
+
+    /// The page.
+    pub fn page(&self) -> &Page
+        ensures { result.now ≡ self.now }
+    {
+        &self.page
+    }
+}
+
 /// For each line of a phase, in order, the page that it read, if any.
 pub struct ReadList {
-    reads: Vec<Option<Page>>,
+    reads: Vec<Option<BoxedPage>>,
 }
 
 impl Drop for ReadList {
@@ -118,7 +160,7 @@ impl Model for ReadList {
     ghost use Rattle.std.specs.Prelude.{List, Option};
     ghost use Rattle.std.specs.Coded.{coded_list, coded_option};
     ghost use Rattle.dac_pages.specs.declared.page.Page.{Page};
-    ghost use Rattle.dac_pages.specs.contracts.page.Page as page_row;
+    ghost use Rattle.dac_live.specs.contracts.lists.BoxedPage as page_row;
 
     ghost Value = { List (Option Page) };
 
@@ -129,14 +171,14 @@ impl Model for ReadList {
 
 impl ReadList {
     /// The reads of a vector, in its order.
-    pub fn new(reads: Vec<Option<Page>>) -> Self
+    pub fn new(reads: Vec<Option<BoxedPage>>) -> Self
         ensures { result ≡ reads.items }
     {
         ReadList { reads }
     }
 
     /// The vector of the reads.
-    pub fn into_vec(self) -> Vec<Option<Page>>
+    pub fn into_vec(self) -> Vec<Option<BoxedPage>>
         ensures { result.items ≡ self }
     {
         let ReadList { reads } = self;
@@ -144,7 +186,7 @@ impl ReadList {
     }
 
     /// The reads, in order.
-    pub fn as_slice(&self) -> &[Option<Page>]
+    pub fn as_slice(&self) -> &[Option<BoxedPage>]
         ensures { result.now ≡ self.now }
     {
         self.reads.as_slice()

@@ -77,7 +77,7 @@ fn check_noted(phases: &[Phase], reads: &[ReadList]) -> Result<(), RunFault>
     Ok(())
 }
 
-/// Fails if a read's result or page contradicts the caller's last receipt before the line.
+/// Fails if a read's result or page contradicts the caller's calls before or after the line.
 fn check_reads(
     alloc: Global,
     config: &Config,
@@ -162,7 +162,7 @@ fn report_of(
 ///   by a line isn't the one after as many records as its place says; or the journal is no history of the node.
 /// - `Close` with a `Mismatch`: a record's seat doesn't exist (at the record's place); or, at place 0, a caller's
 ///   records don't match its lines, a journal doesn't consist of the phases, a line has no result, or a read is fresh
-///   or stale contrary to its page and the caller's last receipt.
+///   or stale contrary to its page and the caller's last receipt, or returns a page with the caller's next record.
 pub fn run_live<G: Gate, R: Threads + Wait + Sync>(
     rt: &R,
     alloc: Global,
@@ -190,8 +190,9 @@ pub fn run_live<G: Gate, R: Threads + Wait + Sync>(
     ensures callers { IfOk result (λ r. CallersHold phases.now r.answers r.closed) }
     // Each line has a result of its kind: a call a reply or refusal, and a read a fresh or a stale page.
     ensures lines { IfOk result (λ r. AreAnswered phases.now r.answers) }
-    // A fresh read returns the page after as many records of the node's journal as its place says, and not before the
-    // caller's last accepted call before the line. A stale one returns an older page, or none.
+    // A fresh read returns the page after as many records of the node's journal as its place says. The page isn't from
+    // before the caller's last accepted call before the line, and precedes its next call. A stale read returns an older
+    // page than that call's, or none.
     ensures reads { IfOk result
         (λ r. ReadsHold config.now phases.now r.answers r.reads r.closed) }
     ensures many { 4 < node_count config.now → result ≡ Err RunFault.TooManyNodes }

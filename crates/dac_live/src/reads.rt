@@ -4,7 +4,7 @@ ghost use Rattle.std.specs.Prelude.{◌≡◌, ◌++◌, true, map, length, IfOk
 ghost use Rattle.std.specs.Option.{option_copied};
 ghost use Rattle.dac_live.specs.Reads.{AreNoted, page_one, pages_in, pages_read};
 
-use crate::lists::ReadList;
+use crate::lists::{BoxedPage, ReadList};
 use dac_base::{NoMemory, NodeId};
 use dac_crews::{Line, Page, Phase};
 use std::alloc::Global;
@@ -34,13 +34,15 @@ pub fn are_noted(phases: &[Phase], reads: &[ReadList]) -> bool
 }
 
 /// The page that the line read, if it is a line of this node and read one.
-fn page_in<'a>(line: &Line, read: &'a Option<Page>, node: NodeId) -> Option<&'a Page>
+fn page_in<'a>(line: &Line, read: &'a Option<BoxedPage>, node: NodeId) -> Option<&'a Page>
     ensures { option_copied result ≡ page_one node.0 (line.now, read.now) }
 {
-    if line.node == node {
-        read.as_ref()
-    } else {
-        None
+    if line.node != node {
+        return None;
+    }
+    match read {
+        Some(boxed) => Some(boxed.page()),
+        None => None,
     }
 }
 
@@ -48,7 +50,7 @@ fn page_in<'a>(line: &Line, read: &'a Option<Page>, node: NodeId) -> Option<&'a 
 fn with_pages<'a>(
     mut all: Vec<&'a Page>,
     lines: &[Line],
-    reads: &'a [Option<Page>],
+    reads: &'a [Option<BoxedPage>],
     node: NodeId,
 ) -> Result<Vec<&'a Page>, NoMemory>
     requires { length reads.now ≡ length lines.now }

@@ -1,16 +1,16 @@
-//! Compares reads with the receipts before them.
+//! Compares reads with the receipts before them and the calls after them.
 
 ghost use Rattle.std.specs.Prelude.{◌≡◌, ◌≤◌, ◌+◌, true, length, IfOk, IfSome, [], ◌∷◌, option_to_list};
 ghost use Rattle.dac_base.specs.declared.limits.TheConstants.{MAX_NODES};
 ghost use Rattle.dac_crews.specs.Journals.{calls_of};
 ghost use Rattle.dac_live.specs.Lines.{AreAnswered};
-ghost use Rattle.dac_live.specs.Reads.{AreNoted, IsTold, receipt_by, own_one, own_in, own_of, asked_in, FollowsReceipts, NodeFollows, FollowReceipts};
-ghost use Rattle.dac_live.specs.Following.{receipts_from, Follows};
+ghost use Rattle.dac_live.specs.Reads.{AreNoted, receipt_by, own_one, own_in, own_of, asked_in, FollowsReceipts, NodeFollows, FollowReceipts};
+ghost use Rattle.dac_live.specs.Following.{spans_from, IsToldIn, Follows};
 
-use crate::lists::{AnswerList, ReadList};
+use crate::lists::{AnswerList, BoxedPage, ReadList};
 use crate::report::LineAnswer;
 use dac_base::{NoMemory, NodeId};
-use dac_crews::{Answer, CALLERS, Closed, Line, Page, Phase, Record};
+use dac_crews::{Answer, CALLERS, Closed, Line, Phase, Record};
 use dac_phases::is_of;
 use std::alloc::Global;
 
@@ -25,31 +25,41 @@ fn receipt_by(last: u64, place: u64, answer: &Answer) -> u64
     }
 }
 
-/// The places of the last receipts of a seat: before its first record, and after each record.
-fn receipts_of(alloc: Global, records: &[Record], seat: u16) -> Result<Vec<u64>, NoMemory>
-    ensures { IfOk result (λ all. all.items ≡ receipts_from 0 (calls_of seat records.now)) }
+/// The places of a caller's last receipt and of its next record, between two of its calls. Without a next record its
+/// place is the one after the journal.
+type Span = (u64, u64);
+
+/// The spans of a seat: before its first record, and after each record.
+fn spans_of(alloc: Global, records: &[Record], seat: u16) -> Result<Vec<Span>, NoMemory>
+    ensures { IfOk result
+        (λ all. all.items ≡ spans_from 0 (length records.now + 1) (calls_of seat records.now)) }
 {
     let mut all = Vec::new(alloc);
     let mut last = 0;
-    all.push(last)?;
     for i in 0..records.len() {
         let one = &records[i];
         if one.seat == seat {
-            last = receipt_by(last, i as u64 + 1, &one.answer);
-            all.push(last)?;
+            let place = i as u64 + 1;
+            all.push((last, place))?;
+            last = receipt_by(last, place, &one.answer);
         }
     }
+    all.push((last, records.len() as u64 + 1))?;
     Ok(all)
 }
 
-/// Returns whether the result and the page of a line agree with the caller's last receipt before it.
-fn is_told(receipt: u64, answer: &LineAnswer, read: &Option<Page>) -> bool
-    ensures { result ≡ true → IsTold receipt answer.now read.now }
+/// Returns whether the result and the page of a line agree with the caller's calls before and after it.
+fn is_told(span: Span, answer: &LineAnswer, read: &Option<BoxedPage>) -> bool
+    ensures { result ≡ true → IsToldIn span answer.now read.now }
 {
+    let (receipt, next) = span;
     match (answer, read) {
         (LineAnswer::Done(_), None) => true,
-        (LineAnswer::Fresh, Some(page)) => receipt <= page.place,
-        (LineAnswer::Stale, Some(page)) => page.place < receipt,
+        (LineAnswer::Fresh, Some(boxed)) => {
+            let place = boxed.page().place;
+            receipt <= place && place < next
+        }
+        (LineAnswer::Stale, Some(boxed)) => boxed.page().place < receipt,
         (LineAnswer::Stale, None) => true,
         _ => false,
     }
@@ -67,42 +77,42 @@ fn asked_after(asked: usize, answer: &LineAnswer) -> usize
 }
 
 /// Checks one line, before which the caller has made `asked` calls. Returns their number after it, or `None` if the
-/// line is this caller's and contradicts its last receipt.
+/// line is this caller's and contradicts the calls before or after it.
 fn follow_line(
-    receipts: &[u64],
+    spans: &[Span],
     asked: usize,
     line: &Line,
     answer: &LineAnswer,
-    read: &Option<Page>,
+    read: &Option<BoxedPage>,
     node: NodeId,
     caller: u8,
 ) -> Option<usize>
-    ensures { IfSome result (λ more. Follows receipts.now asked more
+    ensures { IfSome result (λ more. Follows spans.now asked more
         (option_to_list (own_one node.0 caller (line.now, (answer.now, read.now))))) }
 {
     if !is_of(line, node, caller) {
         return Some(asked);
     }
-    if asked >= receipts.len() || !is_told(receipts[asked], answer, read) {
+    if asked >= spans.len() || !is_told(spans[asked], answer, read) {
         return None;
     }
     Some(asked_after(asked, answer))
 }
 
 /// Checks the lines of a phase, before which the caller has made `asked` calls. Returns their number after it, or
-/// `None` if a line of this caller contradicts its last receipt.
+/// `None` if a line of this caller contradicts the calls before or after it.
 fn follow_phase(
-    receipts: &[u64],
+    spans: &[Span],
     asked: usize,
     lines: &[Line],
     answers: &[LineAnswer],
-    reads: &[Option<Page>],
+    reads: &[Option<BoxedPage>],
     node: NodeId,
     caller: u8,
 ) -> Option<usize>
     requires answers { length answers.now ≡ length lines.now }
     requires reads { length reads.now ≡ length lines.now }
-    ensures { IfSome result (λ more. Follows receipts.now asked more
+    ensures { IfSome result (λ more. Follows spans.now asked more
         (own_in node.0 caller lines.now answers.now reads.now)) }
 {
     let mut next = asked;
@@ -110,7 +120,7 @@ fn follow_phase(
         let line = &lines[i];
         let answer = &answers[i];
         let read = &reads[i];
-        match follow_line(receipts, next, line, answer, read, node, caller) {
+        match follow_line(spans, next, line, answer, read, node, caller) {
             Some(more) => next = more,
             None => return None,
         }
@@ -118,7 +128,7 @@ fn follow_phase(
     Some(next)
 }
 
-/// Returns whether each line of a caller agrees with its last receipt before the line.
+/// Returns whether each line of a caller agrees with the caller's calls before and after it.
 fn caller_follows(
     alloc: Global,
     phases: &[Phase],
@@ -131,16 +141,17 @@ fn caller_follows(
     requires answered { AreAnswered phases.now answers.now }
     requires noted { AreNoted phases.now reads.now }
     ensures { IfOk result (λ b. b ≡ true → FollowsReceipts (calls_of caller records.now)
+        (length records.now + 1)
         (own_of node.0 caller phases.now answers.now reads.now)) }
 {
-    let receipts = receipts_of(alloc, records, u16::from(caller))?;
+    let spans = spans_of(alloc, records, u16::from(caller))?;
     let mut asked = 0;
     for i in 0..phases.len() {
         let phase = &phases[i];
         let given = &answers[i];
         let noted = &reads[i];
         match follow_phase(
-            receipts.as_slice(),
+            spans.as_slice(),
             asked,
             phase.lines.as_slice(),
             given.as_slice(),
@@ -155,7 +166,7 @@ fn caller_follows(
     Ok(true)
 }
 
-/// Returns whether each line of a node's callers agrees with the caller's last receipt before it.
+/// Returns whether each line of a node's callers agrees with the caller's calls before and after it.
 fn node_follows(
     alloc: Global,
     phases: &[Phase],
@@ -178,8 +189,8 @@ fn node_follows(
     Ok(true)
 }
 
-/// The first node at which the result of a caller's line contradicts the page that it read, or the caller's last
-/// receipt before the line.
+/// The first node at which the result of a caller's line contradicts the page that it read, or at which that page
+/// contradicts the caller's calls before or after the line.
 pub fn strange_read(
     alloc: Global,
     phases: &[Phase],

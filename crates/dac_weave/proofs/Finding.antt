@@ -1,5 +1,5 @@
 -- The hash table finds every item that was put.
-use Rattle.std.proofs.Common.{◌≡◌, ◌≢◌, ℕ, zero, suc, ◌+◌, ◌-◌, ◌<◌, ◌≤◌, ◌%◌, true, false, cond, inl, inr, ◌⊎◌, List, [], ◌∷◌, ◌++◌, Some, None, length, nat_eq, refl, sym, ap, subst, ◌∙◌, arith, below_more}
+use Rattle.std.proofs.Common.{◌≡◌, ◌≢◌, ℕ, zero, suc, ◌+◌, ◌<◌, ◌≤◌, ◌%◌, inl, inr, ◌⊎◌, List, [], ◌∷◌, ◌++◌, Some, None, length, refl, sym, ap, subst, ◌∙◌, arith, below_more}
 use Rattle.std.specs.List.{slice_get, slice_set, slice_index_or}
 use Rattle.std.specs.Global.{Vec}
 use Rattle.std.proofs.lemmas.List.{length-set}
@@ -10,7 +10,6 @@ use Rattle.std.proofs.lemmas.List.{length-map}
 use Rattle.std.specs.Prelude.{Result, Ok, Err, OnErr}
 use Rattle.std.proofs.lemmas.Option.{slice_get-map}
 use Rattle.std.specs.Option.{option_map}
-use Rattle.dac_journal.specs.ModelWorld.{counted}
 use Rattle.dac_weave.specs.Labels.{lent}
 use Rattle.dac_weave.specs.Indexing.{numbers_of, bucket_of, IsFiledIn, Files, IsKept, Finds}
 
@@ -38,12 +37,12 @@ push-cases (z ∷ xs) y (suc i) x h = elim (push-cases xs y i x h) [
   | inr both ↦ inr (ap suc both.0, both.1)
 ]
 
-set-here : {X : Type 0} (xs : List X) (p : ℕ) (u v : X) → slice_get xs p ≡ Some u → slice_get (slice_set xs p v) p ≡ Some v
+pub set-here : {X : Type 0} (xs : List X) (p : ℕ) (u v : X) → slice_get xs p ≡ Some u → slice_get (slice_set xs p v) p ≡ Some v
 set-here [] p u v h = cc
 set-here (x ∷ xs) zero u v h = refl
 set-here (x ∷ xs) (suc p) u v h = set-here xs p u v h
 
-set-apart : {X : Type 0} (xs : List X) (p k : ℕ) (v : X) → k ≢ p → slice_get (slice_set xs p v) k ≡ slice_get xs k
+pub set-apart : {X : Type 0} (xs : List X) (p k : ℕ) (v : X) → k ≢ p → slice_get (slice_set xs p v) k ≡ slice_get xs k
 set-apart [] p k v ne = refl
 set-apart (x ∷ xs) zero zero v ne = absurd (ne refl)
 set-apart (x ∷ xs) zero (suc k) v ne = refl
@@ -103,13 +102,6 @@ keeps lists label n u v long there is q =
       | inr ne ↦ ap numbers_of (set-apart lists p (q % length lists) v ne)
     ]
 
--- ---- places counted from 1
-pub get-counted : {X : Type 0} (x : X) (xs : List X) (k : ℕ) → counted xs k ≡ Some x → slice_get xs (k - 1) ≡ Some x
-get-counted {X} x xs k = elim (nat_eq k 0) as (λ b. cond b None (slice_get xs (k - 1)) ≡ Some x → slice_get xs (k - 1) ≡ Some x) [
-  | true ↦ λ h. cc
-  | false ↦ λ h. h
-]
-
 -- ---- no numbers
 abbrev pub AllEmpty : List (Vec ℕ) → Type 0
 AllEmpty lists = (i : ℕ) (v : Vec ℕ) → slice_get lists i ≡ Some v → v.items ≡ []
@@ -122,6 +114,11 @@ none-in lists h label k is = elim (slice_get lists (label % length lists)) as (�
   where
     nothing : slice_get {X = ℕ} [] is.0 ≡ Some k → ⊥
     nothing e = cc
+
+-- ---- references
+pub lent-push : {X : Type 0} (items : List (Bor X)) (b : Bor X) → lent (items ++ b ∷ []) ≡ lent items ++ b.now ∷ []
+lent-push [] b = refl
+lent-push (x ∷ items) b = ap (λ xs. x.now ∷ xs) (lent-push items b)
 
 -- ---- lookup
 module _ {X : Type 0} (label_of : X → ℕ) where
@@ -199,23 +196,16 @@ module _ {X : Type 0} (label_of : X → ℕ) where
       number e = cc
 
   -- the search has seen the whole bucket
-  pub nowhere : (xs : List X) (lists : List (Vec ℕ)) (x : X) (q : ℕ) (bucket : List ℕ) (n : ℕ) → Finds label_of xs lists → q ≡ label_of x → bucket ≡ bucket_of lists q → length bucket ≤ n → ((i : ℕ) → i < n → (k : ℕ) → slice_get bucket i ≡ Some k → slice_get xs k ≡ Some x → ⊥) → (k : ℕ) → counted xs k ≡ Some x → ⊥
+  pub nowhere : (xs : List X) (lists : List (Vec ℕ)) (x : X) (q : ℕ) (bucket : List ℕ) (n : ℕ) → Finds label_of xs lists → q ≡ label_of x → bucket ≡ bucket_of lists q → length bucket ≤ n → ((i : ℕ) → i < n → (k : ℕ) → slice_get bucket i ≡ Some k → slice_get xs k ≡ Some x → ⊥) → (k : ℕ) → slice_get xs k ≡ Some x → ⊥
   nowhere xs lists x q bucket n finds label is long none k at =
       found-none xs lists x finds
       (λ i p there. let own : slice_get bucket i ≡ Some p = subst (λ ns. slice_get ns i ≡ Some p) (sym (is ∙ ap (bucket_of lists) label)) there in none i (within i (slice_get_within bucket i p own)) p own)
-      (k - 1) (get-counted x xs k at)
+      k at
     where
       within : (i : ℕ) → i < length bucket → i < n
       within i lt = omega arith
 
   -- ---- appending a reference
-  lent-push : (items : List (Bor X)) (b : Bor X) → lent (items ++ b ∷ []) ≡ lent items ++ b.now ∷ []
-  lent-push [] b = refl
-  lent-push (x ∷ items) b = ap (λ xs. x.now ∷ xs) (lent-push items b)
-
-  pub lent-again : (items more : List (Bor X)) (lists : List (Vec ℕ)) (b : Bor X) (k : ℕ) → more ≡ items ++ b ∷ [] → counted (lent items) k ≡ Some b.now → Finds label_of (lent items) lists → Finds label_of (lent more) lists
-  lent-again items more lists b k is at finds = subst (λ xs. Finds label_of xs lists) (sym (ap lent is ∙ lent-push items b)) (finds-again (lent items) lists b.now (k - 1) (get-counted b.now (lent items) k at) finds)
-
   pub lent-filed : (items more : List (Bor X)) (lists new : List (Vec ℕ)) (b : Bor X) (q n : ℕ) → more ≡ items ++ b ∷ [] → n ≡ length items → q ≡ label_of b.now → Files lists q n new → Finds label_of (lent items) lists → Finds label_of (lent more) new
   lent-filed items more lists new b q n is long label filed finds =
       subst (λ xs. Finds label_of xs new) (sym (ap lent is ∙ lent-push items b))

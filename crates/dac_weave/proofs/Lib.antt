@@ -1,3 +1,4 @@
+mod Copied
 mod Finding
 mod Least
 mod Twice

@@ -20,11 +20,12 @@ pub(crate) trait Labelled {
         ensures { IsTrue result ↔ (self.now ≡ other.now) };
 }
 
-/// Combines three numbers into one label.
-fn label(most: u64, next: u64, least: u16) -> u64
-    ensures { result ≡ label_by most next least }
+/// Combines a count, an acknowledged count, the incarnation of an origin, and a number for its node into one label.
+fn label(count: u64, acked: u64, inc: u64, node: u16) -> u64
+    ensures { result ≡ label_by count acked inc node }
 {
-    most % 1_099_511_627_776 * 1_000_003 + (next % 1_099_511_627_776 * 10_007 + least as u64)
+    let rest = acked % 1_099_511_627_776 * 10_007 + (inc % 1_099_511_627_776 * 101 + node as u64);
+    count % 1_099_511_627_776 * 1_000_003 + rest
 }
 
 impl Labelled for Message {
@@ -40,6 +41,7 @@ impl Labelled for Message {
         label(
             self.up_to,
             acked,
+            self.from.inc,
             self.from.node.0 as u16 * 256 + self.to.0 as u16,
         )
     }
@@ -56,7 +58,7 @@ impl Labelled for Op {
 
     fn label(&self) -> u64 {
         let dot = self.dot();
-        label(dot.n, dot.origin.inc as u64, dot.origin.node.0 as u16)
+        label(dot.n, 0, dot.origin.inc, dot.origin.node.0 as u16)
     }
 
     fn is_same(&self, other: &Self) -> bool {

@@ -10,6 +10,7 @@ pub use fault::WeaveFault;
 pub use weaving::weave;
 
 mod buckets;
+mod copies;
 mod cursor;
 mod fault;
 mod indexed_list;

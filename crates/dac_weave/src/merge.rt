@@ -1,6 +1,7 @@
 //! The merge: the records placed so far, and the search for the next.
 
-ghost use Rattle.std.specs.Prelude.{◌≡◌, ◌<◌, ◌≤◌, ◌++◌, IfOk, OnOk, MatchOption, length};
+ghost use Rattle.std.specs.Prelude.{◌≡◌, ◌<◌, ◌≤◌, ◌++◌, Ok, IfOk, OnOk, IfSome, MatchOption, length};
+ghost use Rattle.dac_journal.specs.ModelWorld.{event_of};
 ghost use Rattle.dac_weave.specs.Names.{Names, issued_in, shipped_in};
 
 use crate::cursor::{Cursor, cursors_of};
@@ -17,6 +18,7 @@ use std::alloc::Global;
 /// The cursors, the events placed so far, and the operations and messages that they issued.
 #[derive(Drop)]
 pub(crate) struct Merge<'a> {
+    alloc: Global,
     pub(crate) cursors: Vec<Cursor>,
     pub(crate) events: Vec<WorldEvent>,
     pub(crate) operations: IndexedList<'a, Op>,
@@ -48,21 +50,40 @@ fn name_event(
     }
 }
 
+/// Returns the world event that is `event` at its node, unless it delivers a message of which each copy was delivered.
+fn name_once(
+    operations: &IndexedList<'_, Op>,
+    messages: &IndexedList<'_, Message>,
+    event: &Event,
+) -> Option<What>
+    ensures { IfSome result (λ what. event_of operations.now messages.now what ≡ Ok event.now) }
+{
+    match event {
+        Event::Hear(message) => match messages.fresh_number(message) {
+            Some(fresh) => Some(What::Deliver(fresh)),
+            None => None,
+        },
+        _ => name_event(operations, messages, event),
+    }
+}
+
 /// Appends the issued operations.
 fn append_issued<'a>(
+    alloc: Global,
     operations: &mut IndexedList<'a, Op>,
     issued: &'a OpList,
 ) -> Result<(), NoMemory>
     ensures { OnOk result (operations.new ≡ operations.old ++ issued.now) }
 {
     for operation in issued.as_slice() {
-        operations.put(operation)?;
+        operations.put(alloc, operation)?;
     }
     Ok(())
 }
 
 /// Appends the operations and messages of a record's result.
 fn append_output<'a>(
+    alloc: Global,
     operations: &mut IndexedList<'a, Op>,
     messages: &mut IndexedList<'a, Message>,
     answer: &'a Answer,
@@ -71,9 +92,9 @@ fn append_output<'a>(
     ensures messages { OnOk result (messages.new ≡ messages.old ++ shipped_in answer.now) }
 {
     match answer {
-        Ok(Reply::Booted(operation) | Reply::Issued(operation)) => operations.put(operation),
-        Ok(Reply::Ticked { ops, passed: _ }) => append_issued(operations, ops),
-        Ok(Reply::Shipped(message)) => messages.put(message),
+        Ok(Reply::Booted(operation) | Reply::Issued(operation)) => operations.put(alloc, operation),
+        Ok(Reply::Ticked { ops, passed: _ }) => append_issued(alloc, operations, ops),
+        Ok(Reply::Shipped(message)) => messages.put(alloc, message),
         Ok(Reply::Crashed | Reply::Held | Reply::GaveUp | Reply::Heard(_)) | Err(_) => Ok(()),
     }
 }
@@ -88,7 +109,7 @@ fn count_all(journals: &[Closed]) -> usize {
 }
 
 impl<'a> Merge<'a> {
-    ghost use Rattle.std.specs.Prelude.{◌<◌, ◌≤◌, IfOk, OnOk, MatchOption, length};
+    ghost use Rattle.std.specs.Prelude.{◌<◌, ◌≤◌, IfOk, OnOk, IfSome, MatchOption, length};
     ghost use Rattle.dac_journal.specs.Journals.{JournalValue};
     ghost use Rattle.dac_weave.specs.Woven.{AllFit, IsFirst};
     ghost use Rattle.dac_weave.specs.Placing.{HaveCursors, Weaves, CanBePlaced, IsBlocked, AllBlocked, BlockedBetween, Places, IsLeft, IsLeftAt, AllWhole};
@@ -106,6 +127,7 @@ impl<'a> Merge<'a> {
         let operations = IndexedList::new(alloc, room)?;
         let messages = IndexedList::new(alloc, room)?;
         Ok(Merge {
+            alloc,
             cursors,
             events: Vec::new(alloc),
             operations,
@@ -150,9 +172,45 @@ impl<'a> Merge<'a> {
         None
     }
 
+    /// Returns the world event that places the next record of a journal, if it can be placed and delivers no message
+    /// of which each copy was delivered.
+    fn ready_once(&self, journals: &[Closed], i: usize) -> Option<What>
+        requires fits { HaveCursors journals.now self.now.cursors.items }
+        requires within { i < length journals.now }
+        ensures { IfSome result (CanBePlaced journals.now self.now i) }
+    {
+        let cursor = &self.cursors[i];
+        let records = journals[i].records();
+        if cursor.placed < cursor.valid {
+            name_once(
+                &self.operations,
+                &self.messages,
+                &records[cursor.placed].event,
+            )
+        } else {
+            None
+        }
+    }
+
+    /// Returns a journal in `low..high` as [`Merge::ready_once`] does for one, with its world event.
+    fn once_between(&self, journals: &[Closed], low: usize, high: usize) -> Option<(usize, What)>
+        requires fits { HaveCursors journals.now self.now.cursors.items }
+        requires within { high ≤ length journals.now }
+        ensures { IfSome result (λ found. (found.0 < length journals.now)
+            × CanBePlaced journals.now self.now found.0 found.1) }
+    {
+        for i in low..high {
+            match self.ready_once(journals, i) {
+                Some(what) => return Some((i, what)),
+                None => {}
+            }
+        }
+        None
+    }
+
     /// Returns a journal whose next record can be placed, with its world event. The search starts at `from` and wraps
     /// around.
-    fn find(&self, journals: &[Closed], from: usize) -> Option<(usize, What)>
+    fn find_any(&self, journals: &[Closed], from: usize) -> Option<(usize, What)>
         requires fits { HaveCursors journals.now self.now.cursors.items }
         requires within { from ≤ length journals.now }
         ensures { MatchOption result (AllBlocked journals.now self.now)
@@ -162,6 +220,36 @@ impl<'a> Merge<'a> {
         match self.find_between(journals, from, journals.len()) {
             Some(found) => Some(found),
             None => self.find_between(journals, 0, from),
+        }
+    }
+
+    /// Returns a journal as [`Merge::find_any`] does, and delivers a copy of a message a second time only if no other
+    /// record can be placed.
+    fn find(&self, journals: &[Closed], from: usize) -> Option<(usize, What)>
+        requires fits { HaveCursors journals.now self.now.cursors.items }
+        requires within { from ≤ length journals.now }
+        ensures { MatchOption result (AllBlocked journals.now self.now)
+            (λ found. (found.0 < length journals.now)
+            × CanBePlaced journals.now self.now found.0 found.1) }
+    {
+        if let Some(found) = self.once_between(journals, from, journals.len()) {
+            return Some(found);
+        }
+        if let Some(found) = self.once_between(journals, 0, from) {
+            return Some(found);
+        }
+        self.find_any(journals, from)
+    }
+
+    /// Notes that the copy of a message is delivered.
+    fn note(&mut self, what: What)
+        ensures cursors { self.new.cursors ≡ self.old.cursors }
+        ensures events { self.new.events ≡ self.old.events }
+        ensures operations { self.new.operations ≡ self.old.operations }
+        ensures messages { self.new.messages ≡ self.old.messages }
+    {
+        if let What::Deliver(number) = what {
+            self.messages.take(number);
         }
     }
 
@@ -180,7 +268,13 @@ impl<'a> Merge<'a> {
             node: journal.node(),
             what,
         })?;
-        append_output(&mut self.operations, &mut self.messages, &record.answer)?;
+        self.note(what);
+        append_output(
+            self.alloc,
+            &mut self.operations,
+            &mut self.messages,
+            &record.answer,
+        )?;
         self.cursors[i].placed = placed + 1;
         Ok(())
     }

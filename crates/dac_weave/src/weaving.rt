@@ -18,6 +18,9 @@ use std::alloc::Global;
 /// results, and nothing at any other node. If there is no such run, fails with the node and the record at which every
 /// run stops.
 ///
+/// Of equal messages a delivery names the first one that no other delivery names. It names one again only if no record
+/// can be placed without that.
+///
 /// The journals are replayed under `config`, so journals of another configuration are woven only up to the first result
 /// that differs. Fails with [`WeaveFault::NoMemory`] if an allocation fails before the merge ends.
 pub fn weave(

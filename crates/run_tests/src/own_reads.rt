@@ -40,7 +40,7 @@ fn are_in_order(report: &LiveReport) -> bool {
     for lines in report.reads.as_slice() {
         for read in lines.as_slice() {
             if let Some(page) = read {
-                if page.place != next {
+                if page.page().place != next {
                     return false;
                 }
                 next = next.saturating_add(1);
@@ -88,7 +88,7 @@ fn places_read(report: &LiveReport) -> Option<[u64; 2]> {
     for lines in report.reads.as_slice() {
         for read in lines.as_slice() {
             if let Some(page) = read {
-                *places.get_mut(count)? = page.place;
+                *places.get_mut(count)? = page.page().place;
                 count = count.saturating_add(1);
             }
         }

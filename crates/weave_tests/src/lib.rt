@@ -1,6 +1,8 @@
-//! Tests of the weave: journals of three nodes, journals that no run reproduces, and no journals.
+//! Tests of the weave: journals of three nodes, equal messages, journals that no run reproduces, and no journals.
 #![tactic(auto)]
 
+#[cfg(test)]
+mod copies;
 #[cfg(test)]
 mod journals;
 #[cfg(test)]

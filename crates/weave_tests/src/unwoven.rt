@@ -1,8 +1,9 @@
 //! Journals that no run reproduces, and no journals.
 use crate::journals::{ask, close_all, example, journal};
-use dac_base::NodeId;
-use dac_events::WorldEvent;
-use dac_journal::Closed;
+use dac_base::{AppId, NodeId};
+use dac_config::read_config;
+use dac_events::{Command, WorldEvent};
+use dac_journal::{Closed, Journal};
 use dac_messages::{Body, Event, Message};
 use dac_origins::Origin;
 use dac_weave::{WeaveFault, weave};
@@ -64,6 +65,25 @@ fn unseated_record(alloc: Global) -> Option<WeaveFault> {
     fault_of(alloc, journals.as_slice())
 }
 
+/// The example's nodes with a second application.
+const TWO_APPS: &[u8] =
+    b"[{kernel, [{distributed, [{myapp, 5000, [cp1@cave, {cp2@cave, cp3@cave}]}, {other, [cp1@cave]}]}]}].";
+
+/// The fault of a journal recorded under another configuration. Only its last record has another result under the
+/// example's, which hasn't the application that it starts.
+fn of_another_configuration(alloc: Global) -> Option<WeaveFault> {
+    let config = read_config(alloc, TWO_APPS).ok()?;
+    let mut p = Journal::new(alloc, config, NodeId(0), 0);
+    let start = Command::Start {
+        app: AppId(1),
+        node: NodeId(0),
+    };
+    let _up = ask(&mut p, Event::Boot { now: 0 })?;
+    let _started = ask(&mut p, Event::Command(start))?.ok()?;
+    let journals = close_all(alloc, [p])?;
+    fault_of(alloc, journals.as_slice())
+}
+
 fn unwoven(node: u8, place: u64) -> WeaveFault {
     WeaveFault::Unwoven {
         node: NodeId(node),
@@ -119,6 +139,12 @@ fn journals_without_records(rt: HostRuntime) -> Result<(), Fail> {
 #[test]
 fn an_unknown_node(rt: HostRuntime) -> Result<(), Fail> {
     assert_eq!(rt; unseated_record(rt.alloc()), Some(unwoven(9, 1)));
+    Ok(())
+}
+
+#[test]
+fn a_last_result_of_another_configuration(rt: HostRuntime) -> Result<(), Fail> {
+    assert_eq!(rt; of_another_configuration(rt.alloc()), Some(unwoven(0, 2)));
     Ok(())
 }
 

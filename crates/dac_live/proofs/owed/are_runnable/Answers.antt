@@ -1,4 +1,4 @@
-use Rattle.std.proofs.Common.{List, All, subst, take_all}
+use Rattle.std.proofs.Common.{All, subst, take_all}
 use Rattle.std.proofs.lemmas.List.Elements.{All-more}
 use Rattle.dac_live.specs.Lines.{HasLines}
 use Rattle.dac_live.proofs.owed.are_runnable.Goals as goal

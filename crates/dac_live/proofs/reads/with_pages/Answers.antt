@@ -1,5 +1,5 @@
-use Rattle.std.proofs.Common.{◌+◌, ◌++◌, ◌∷◌, [], ◌<◌, length, get_or, take, map, zip, Option, Some, None, Bor, sym, ap, ◌∙◌, arith, append-nil}
-use Rattle.std.proofs.lemmas.List.{map_push, get_or_default}
+use Rattle.std.proofs.Common.{◌++◌, ◌∷◌, [], ◌<◌, length, take, map, zip, Some, None, Bor, sym, ap, ◌∙◌, arith, append-nil}
+use Rattle.std.proofs.lemmas.List.{map_push}
 use Rattle.dac_pages.specs.declared.page.Page.{Page}
 use Rattle.dac_crews.specs.Compared.{found}
 use Rattle.dac_live.specs.Reads.{page_one}
@@ -16,10 +16,10 @@ loop-i-preserved c =
     let gs = c.args.reads.now in
     let i = c.loop-i.i in
     let line = c.index-lines-i.result in
-    let given : Option Page = get_or gs i None in
+    let given = c.index-reads-i.result in
     let right : i < length gs = omega arith in
     let within = zip_within ls gs i c.loop-i-test.true right in
-    let at = zip_at ls gs i line given c.loop-i-test.true right c.index-lines-i.is (get_or_default gs i None given right) in
+    let at = zip_at ls gs i line given c.loop-i-test.true right c.index-lines-i.is c.index-reads-i.is in
     elim c.match-page_in.branch [
       | in-Some+in_ok-push-in-Some w ↦
           let p = w.in-Some.page in

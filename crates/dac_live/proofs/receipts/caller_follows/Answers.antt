@@ -1,4 +1,4 @@
-use Rattle.std.proofs.Common.{◌≡◌, ◌<◌, ℕ, List, Option, length, take, zip, flat_map, sym, ap, ◌∙◌, subst, arith}
+use Rattle.std.proofs.Common.{◌≡◌, ◌<◌, ◌+◌, ℕ, List, Option, length, take, zip, flat_map, sym, ap, ◌∙◌, subst, arith}
 use Rattle.std.proofs.lemmas.Slice.Zip.{AllZip-long}
 use Rattle.dac_pages.specs.declared.page.Page.{Page}
 use Rattle.dac_crews.specs.declared.phases.Line.{Line}
@@ -7,7 +7,7 @@ use Rattle.dac_live.specs.declared.report.LineAnswer.{LineAnswer}
 use Rattle.dac_crews.specs.Journals.{calls_of}
 use Rattle.dac_live.specs.Lines.{Answers, LinesAnswered}
 use Rattle.dac_live.specs.Reads.{own_in, own_of}
-use Rattle.dac_live.specs.Following.{receipts_from, Follows}
+use Rattle.dac_live.specs.Following.{spans_from, Follows}
 use Rattle.dac_live.proofs.Followed.{follows_append, follows_receipts}
 use Rattle.dac_phases.specs.laws.Spoken.{flat_more, zip_within, zip_at, zip_all, all_zip_at}
 use Rattle.dac_live.proofs.receipts.caller_follows.Goals as goal
@@ -48,7 +48,7 @@ loop-i-preserved c =
     let p = c.index-phases-i.result in
     let given = c.index-answers-i.result in
     let noted = c.index-reads-i.result in
-    let receipts = c.in_ok-receipts.receipts.items in
+    let spans = c.in_ok-spans.spans.items in
     let own = own_in c.args.node.0 c.args.caller in
     let g = λ (q : Phase × (List LineAnswer × List (Option Page))). own q.0.lines.items q.1.0 q.1.1 in
     let long = AllZip-long fits ps gs c.requires.answered in
@@ -60,17 +60,17 @@ loop-i-preserved c =
     let within = zip_within ps (zip gs rs) i c.loop-i-test.true two in
     let at = zip_at ps (zip gs rs) i p (given, noted) c.loop-i-test.true two c.index-phases-i.is both in
     let zs = zip ps (zip gs rs) in
-    let here : Follows receipts c.loop-i.asked c.in-Some.more (own p.lines.items given noted) =
-    subst (λ (x : List ℕ × (List Line × (List LineAnswer × List (Option Page)))). Follows x.0 c.loop-i.asked c.in-Some.more (own x.1.0 x.1.1.0 x.1.1.1))
+    let here : Follows spans c.loop-i.asked c.in-Some.more (own p.lines.items given noted) =
+    subst (λ (x : List (ℕ × ℕ) × (List Line × (List LineAnswer × List (Option Page)))). Follows x.0 c.loop-i.asked c.in-Some.more (own x.1.0 x.1.1.0 x.1.1.1))
     (λ j. (c.as_slice.ensures.value j, (c.as_slice-in-loop-i.ensures.value j, (c.as_slice-in-loop-i-2.ensures j, c.as_slice-in-loop-i-3.ensures j)))) c.in-Some.ensures in
-    let P : List (LineAnswer × Option Page) → Type 0 = λ xs. Follows receipts 0 c.in-Some.more xs in
-    subst P (sym (flat_more g zs i (p, (given, noted)) within at)) (follows_append receipts 0 c.loop-i.asked c.in-Some.more (flat_map g (take i zs)) (own p.lines.items given noted) c.loop-i.invariant here)
+    let P : List (LineAnswer × Option Page) → Type 0 = λ xs. Follows spans 0 c.in-Some.more xs in
+    subst P (sym (flat_more g zs i (p, (given, noted)) within at)) (follows_append spans 0 c.loop-i.asked c.in-Some.more (flat_map g (take i zs)) (own p.lines.items given noted) c.loop-i.invariant here)
 
 pub returns : goal.returns
 returns c =
     let ps = c.args.phases.now in
     let zs = zip c.args.answers.now c.args.reads.now in
     let g = λ (q : Phase × (List LineAnswer × List (Option Page))). own_in c.args.node.0 c.args.caller q.0.lines.items q.1.0 q.1.1 in
-    let P : List (LineAnswer × Option Page) → Type 0 = λ xs. Follows c.in_ok-receipts.receipts.items 0 c.loop-i.asked xs in
-    λ yes. follows_receipts (calls_of c.args.caller c.args.records.now) c.in_ok-receipts.receipts.items c.loop-i.asked (own_of c.args.node.0 c.args.caller ps c.args.answers.now c.args.reads.now)
-    (c.in_ok-receipts.ensures ∙ ap (λ s. receipts_from 0 (calls_of s c.args.records.now)) c.from.ensures) (subst P (ap (flat_map g) (zip_all ps zs c.loop-i.i (omega arith))) c.loop-i.invariant)
+    let P : List (LineAnswer × Option Page) → Type 0 = λ xs. Follows c.in_ok-spans.spans.items 0 c.loop-i.asked xs in
+    λ yes. follows_receipts (calls_of c.args.caller c.args.records.now) (length c.args.records.now + 1) c.in_ok-spans.spans.items c.loop-i.asked (own_of c.args.node.0 c.args.caller ps c.args.answers.now c.args.reads.now)
+    (c.in_ok-spans.ensures ∙ ap (λ s. spans_from 0 (length c.args.records.now + 1) (calls_of s c.args.records.now)) c.from.ensures) (subst P (ap (flat_map g) (zip_all ps zs c.loop-i.i (omega arith))) c.loop-i.invariant)

@@ -1,6 +1,5 @@
-use Rattle.std.proofs.Common.{◌<◌, List, Option, length, get_or, None, take, zip, sym, ap, subst, arith}
+use Rattle.std.proofs.Common.{◌<◌, List, Option, length, take, zip, sym, ap, subst, arith}
 use Rattle.std.specs.Prelude.{option_to_list}
-use Rattle.std.proofs.lemmas.List.{get_or_default}
 use Rattle.dac_pages.specs.declared.page.Page.{Page}
 use Rattle.dac_live.specs.declared.report.LineAnswer.{LineAnswer}
 use Rattle.dac_crews.specs.Compared.{found}
@@ -19,20 +18,20 @@ loop-i-preserved c =
     let i = c.loop-i.i in
     let line = c.index-lines-i.result in
     let answer = c.index-answers-i.result in
-    let read : Option Page = get_or rs i None in
+    let read = c.index-reads-i.result in
     let in_answers : i < length gs = omega arith in
     let in_reads : i < length rs = omega arith in
     let two = zip_within gs rs i in_answers in_reads in
-    let both = zip_at gs rs i answer read in_answers in_reads c.index-answers-i.is (get_or_default rs i None read in_reads) in
+    let both = zip_at gs rs i answer read in_answers in_reads c.index-answers-i.is c.index-reads-i.is in
     let within = zip_within ls (zip gs rs) i c.loop-i-test.true two in
     let at = zip_at ls (zip gs rs) i line (answer, read) c.loop-i-test.true two c.index-lines-i.is both in
     let zs = zip ls (zip gs rs) in
     let next = found_next f zs i (line, (answer, read)) within at in
-    let P : List (LineAnswer × Option Page) → Type 0 = λ xs. Follows c.args.receipts.now c.args.asked c.in-Some.more xs in
-    subst P (sym next) (follows_append c.args.receipts.now c.args.asked c.loop-i.next c.in-Some.more (found f (take i zs)) (option_to_list (f (line, (answer, read)))) c.loop-i.invariant c.in-Some.ensures)
+    let P : List (LineAnswer × Option Page) → Type 0 = λ xs. Follows c.args.spans.now c.args.asked c.in-Some.more xs in
+    subst P (sym next) (follows_append c.args.spans.now c.args.asked c.loop-i.next c.in-Some.more (found f (take i zs)) (option_to_list (f (line, (answer, read)))) c.loop-i.invariant c.in-Some.ensures)
 
 pub returns : goal.returns
 returns c =
     let f = own_one c.args.node.0 c.args.caller in
-    let P : List (LineAnswer × Option Page) → Type 0 = λ xs. Follows c.args.receipts.now c.args.asked c.loop-i.next xs in
+    let P : List (LineAnswer × Option Page) → Type 0 = λ xs. Follows c.args.spans.now c.args.asked c.loop-i.next xs in
     subst P (ap (found f) (zip_all c.args.lines.now (zip c.args.answers.now c.args.reads.now) c.loop-i.i (omega arith))) c.loop-i.invariant

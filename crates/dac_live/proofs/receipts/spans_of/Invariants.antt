@@ -1,11 +1,11 @@
 use Rattle.std.proofs.Common.{◌≡◌, take}
 use Rattle.dac_crews.specs.Journals.{calls_of}
 use Rattle.dac_live.specs.Reads.{receipt_after}
-use Rattle.dac_live.specs.Following.{receipts_from}
-use Rattle.dac_live.proofs.receipts.receipts_of.Given as goal
+use Rattle.dac_live.proofs.Followed.{fronts_from}
+use Rattle.dac_live.proofs.receipts.spans_of.Given as goal
 
 abbrev pub invariant-loop-i : goal.invariant-loop-i
 invariant-loop-i l = record {
   last : l.last ≡ receipt_after 0 (calls_of l.seat (take l.i l.records));
-  all : l.all.items ≡ receipts_from 0 (calls_of l.seat (take l.i l.records));
+  all : l.all.items ≡ fronts_from 0 (calls_of l.seat (take l.i l.records));
 }
