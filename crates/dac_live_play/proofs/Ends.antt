@@ -1,8 +1,9 @@
 -- The endings of `distac live` and `distac record`, from the input, the run and the output.
-use Rattle.std.proofs.Common.{◌≡◌, ℕ, List, Option, Some, None, sym, subst}
+use Rattle.std.proofs.Common.{◌≡◌, inr, ℕ, List, Option, Some, None, sym, subst}
 use Rattle.std.specs.Prelude.{IfSome}
 use Rattle.std.specs.Io.KnownBytes.{Appends}
 use Rattle.dac_config.specs.Table.{Table}
+use Rattle.dac_events.specs.declared.WorldEvent.{WorldEvent}
 use Rattle.dac_script.specs.declared.live_line.LiveLine.{LiveLine}
 use Rattle.dac_script.specs.LiveInputs.{SaysLiveScript, IsLiveFailureOf}
 use Rattle.dac_play.specs.Texts.{failure_text}
@@ -14,7 +15,8 @@ use Rattle.dac_live_play.specs.declared.ending.LiveEnding.{LiveEnding}
 use Rattle.dac_live_play.specs.declared.ending.LiveEnding.TheVariants as ending
 use Rattle.dac_live_play.specs.Endings.{fault_text, IsRefusal, IsGivenUp, IsLeftAt}
 use Rattle.dac_live_play.specs.Runs.{IsFaultOf}
-use Rattle.dac_live_play.specs.Lives.{IsPlayed, EndsLive}
+use Rattle.dac_live_play.specs.Faults.{IsRecordFault}
+use Rattle.dac_live_play.specs.Lives.{IsPlayed, IsRunOf, EndsLive}
 use Rattle.dac_live_play.specs.Records.{IsKept, IsUnkept, EndsRecord}
 
 -- the input's script was run and its output printed
@@ -63,10 +65,22 @@ given_up_left old new source table why ending.Stopped left given_up = tt
 
 -- ---- `distac record`
 
-pub recorded : (had old new : Option (List ℕ)) (table : Table) (script : List LiveLine) (text : List ℕ) → IfSome had (λ bytes. SaysLiveScript bytes table script) → IsKept table script text → Appends old new text
+-- the script ran to its end, but its run isn't recorded
+pub unrecorded : (table : Table) (script : List LiveLine) (printed : List ℕ) (events : List WorldEvent) (why : PlayFault) → IsRunOf table script printed events → IsRecordFault table printed events why → IsUnkept table script why
+unrecorded table script printed events why ran fault_is = inr (record { printed = printed; events = events; ran = ran; fault_is = fault_is })
+
+-- a run of the script was printed
+pub recorded : (had old new : Option (List ℕ)) (table : Table) (script given : List LiveLine) (text shown : List ℕ) → given ≡ script → shown ≡ text → IfSome had (λ bytes. SaysLiveScript bytes table script) → IsKept table given text → Appends old new shown
     → IfSome had (λ bytes. EndsRecord bytes ending.Done old new)
-recorded None old new table script text says kept printed = tt
-recorded (Some bytes) old new table script text says kept printed = record { table = table; script = script; says = says; text = text; kept = kept; printed = printed }
+recorded None old new table script given text shown given_is shown_is says kept printed = tt
+recorded (Some bytes) old new table script given text shown given_is shown_is says kept printed = record {
+  table = table;
+  script = script;
+  says = says;
+  text = text;
+  kept = subst (λ (lines : List LiveLine). IsKept table lines text) given_is kept;
+  printed = subst (Appends old new) shown_is printed;
+}
 
 pub refused_records : (had old new : Option (List ℕ)) (why : Failure) (how : LiveEnding) → IfSome had (λ bytes. IsLiveFailureOf bytes why) → IsRefusal why how old new → IfSome had (λ bytes. EndsRecord bytes how old new)
 refused_records None old new why how fails refusal = tt

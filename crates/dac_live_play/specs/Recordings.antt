@@ -1,10 +1,10 @@
 -- A run of the world as a script of `distac sim`.
-use Rattle.std.specs.Prelude.{◌≡◌, ℕ, Bool, true, false, List, [], ◌∷◌, ◌++◌, map, codes, nat_lt, if◌then◌else◌}
+use Rattle.std.specs.Prelude.{◌≡◌, ◌⊎◌, ℕ, ◌<◌, ◌≤◌, Bool, true, false, List, [], ◌∷◌, ◌++◌, length, map, replicate, None, codes, nat_lt, if◌then◌else◌}
 use Rattle.std.specs.List.{flat_map}
 use Rattle.std.specs.Fmt.{decimal}
 use Rattle.dac_base.specs.declared.NodeId.{NodeId}
 use Rattle.dac_base.specs.declared.AppId.{AppId}
-use Rattle.dac_config.specs.Table.{Table, node_count, app_count, node_name, app_name}
+use Rattle.dac_config.specs.Table.{Table, node_count, app_count, node_name, app_name, node_named, app_named}
 use Rattle.dac_config.specs.Canonical.{name_text, canonical_text}
 use Rattle.dac_events.specs.declared.Command.{Command}
 use Rattle.dac_events.specs.declared.Command.TheVariants as command
@@ -12,9 +12,13 @@ use Rattle.dac_events.specs.declared.What.{What}
 use Rattle.dac_events.specs.declared.What.TheVariants as what
 use Rattle.dac_events.specs.declared.WorldEvent.{WorldEvent}
 use Rattle.dac_placement.specs.Placement.{nodes_of}
+use Rattle.dac_shapes.specs.declared.limits.TheConstants.{MAX_TEXT}
 use Rattle.dac_script.specs.declared.line.ScriptLine.{ScriptLine}
 use Rattle.dac_script.specs.declared.line.ScriptLine.TheVariants as says
-use Rattle.dac_script.specs.Script.{lines_of}
+use Rattle.dac_script.specs.Forms.{Spells}
+use Rattle.dac_script.specs.Input.{IsTaken, IsParted}
+use Rattle.dac_script.specs.LineFaults.{HasFault}
+use Rattle.dac_script.specs.Script.{lines_of, ReadsAs}
 
 -- ---- words
 
@@ -120,7 +124,52 @@ record_text table placeholder printed events =
 abbrev pub run_lines : Table → List WorldEvent → List ScriptLine
 run_lines table events = map says.Event events ++ map says.Page (nodes_of table)
 
--- text expresses the run, with some name for unconfigured nodes and applications
+-- ---- the name of what isn't configured
+
+-- `unknown`, followed by this many underscores
+abbrev pub unknown_name : ℕ → List ℕ
+unknown_name count = codes "unknown" ++ replicate count 95
+
+-- neither a node nor an application of the configuration has this name
+abbrev pub IsUnused : Table → List ℕ → Type 0
+IsUnused table name = (node_named table name ≡ None) × (app_named table name ≡ None)
+
+-- The name for unconfigured nodes and applications: `unknown`, with the fewest underscores that make it unused. 200 make
+-- it unused in any case, because a configuration has fewer names.
+pub record IsPlaceholder (table : Table) (name : List ℕ) : Type 0 where
+  pub count : ℕ
+  pub name_is : name ≡ unknown_name count
+  pub few : count ≤ 200
+  pub first : (fewer : ℕ) → fewer < count → ¬ IsUnused table (unknown_name fewer)
+  pub unused : count < 200 → IsUnused table name
+
+-- ---- the run as an input
+
+-- text expresses the run
 pub record IsRecordText (table : Table) (printed : List ℕ) (events : List WorldEvent) (text : List ℕ) : Type 0 where
   pub placeholder : List ℕ
+  pub placeholder_is : IsPlaceholder table placeholder
   pub text_is : text ≡ record_text table placeholder printed events
+
+-- The text is an input of `distac sim`: its configuration is the canonical text, and its script reads as the run's lines.
+-- Neither the text nor its configuration is too long.
+pub record SaysRun (text : List ℕ) (table : Table) (events : List WorldEvent) : Type 0 where
+  pub taken : IsTaken text
+  pub few : length (canonical_text table) ≤ MAX_TEXT
+  pub script : List ℕ
+  pub parted : IsParted text (canonical_text table) script
+  pub reads : ReadsAs Spells HasFault table (lines_of script) (run_lines table events)
+
+-- the text that expresses the run is longer than an input can be, or its configuration longer than one can be
+pub record IsTooLong (table : Table) (printed : List ℕ) (events : List WorldEvent) : Type 0 where
+  pub text : List ℕ
+  pub is : IsRecordText table printed events text
+  pub long : (¬ IsTaken text) ⊎ (MAX_TEXT < length (canonical_text table))
+
+-- neither the text that expresses the run nor its configuration is too long, but the text doesn't say the run
+pub record IsUnsaid (table : Table) (printed : List ℕ) (events : List WorldEvent) : Type 0 where
+  pub text : List ℕ
+  pub is : IsRecordText table printed events text
+  pub taken : IsTaken text
+  pub few : length (canonical_text table) ≤ MAX_TEXT
+  pub unsaid : ¬ SaysRun text table events

@@ -34,9 +34,16 @@ pub record IsRecorded (bytes : List ℕ) (old new : Option (List ℕ)) : Type 0 
   pub kept : IsKept table script text
   pub printed : Appends old new text
 
+-- the script ran to its end, but no input of `distac sim` expresses the run
+pub record IsUnrecorded (table : Table) (script : List LiveLine) (why : PlayFault) : Type 0 where
+  pub printed : List ℕ
+  pub events : List WorldEvent
+  pub ran : IsRunOf table script printed events
+  pub fault_is : IsRecordFault table printed events why
+
 -- why no run is recorded: the script didn't run to its end, or no input of `distac sim` expresses the run
 abbrev pub IsUnkept : Table → List LiveLine → PlayFault → Type 0
-IsUnkept table script why = IsFaultOf table script why ⊎ IsRecordFault why
+IsUnkept table script why = IsFaultOf table script why ⊎ IsUnrecorded table script why
 
 -- no run of the input's script is recorded, and only this fault's line was printed
 pub record IsGivenUpOn (bytes : List ℕ) (why : PlayFault) (old new : Option (List ℕ)) : Type 0 where

@@ -70,6 +70,7 @@ pub fn play_live<T: Threads + Wait + Sync>(
 
 /// Runs a script at sites in threads, merges the journals, and returns the run as an input of `distac sim`. Its faults
 /// are those of [`play_live`] and [`record_lines`].
+#[tactic(auto, using(crate::proofs::Ends::unrecorded))]
 pub fn record_live<T: Threads + Wait + Sync>(
     rt: &T,
     alloc: Global,

@@ -1,8 +1,8 @@
 //! Expresses a run of the world as a script of `distac sim`.
 
-ghost use Rattle.std.specs.Prelude.{◌≡◌, ◌++◌, ◌==◌, map, IfOk, IfErr, OnOk};
+ghost use Rattle.std.specs.Prelude.{◌≡◌, ◌↔◌, ◌++◌, ◌==◌, map, IfOk, IfErr, IsTrue, OnOk};
 ghost use Rattle.std.specs.List.{flat_map};
-ghost use Rattle.dac_live_play.specs.Recordings.{node_word, app_word, flag_text, at_text, about_text, numbered_text, app_about_text, given_text, event_line, event_text, page_lines, comment, run_lines, IsRecordText};
+ghost use Rattle.dac_live_play.specs.Recordings.{node_word, app_word, flag_text, at_text, about_text, numbered_text, app_about_text, given_text, event_line, event_text, page_lines, comment, run_lines, IsUnused, IsPlaceholder, IsRecordText, SaysRun};
 ghost use Rattle.dac_config.specs.Canonical.{canonical_text};
 ghost use Rattle.dac_script.specs.Inputs.{SaysScript};
 ghost use Rattle.dac_script.specs.Script.{lines_of};
@@ -14,23 +14,32 @@ use dac_base::{AppId, NoMemory, NodeId};
 use dac_config::{Config, put_printed_name};
 use dac_events::{Command, What, WorldEvent};
 use dac_script::MAX_INPUT;
+use dac_shapes::MAX_TEXT;
 use std::alloc::Global;
 
-/// A name for unconfigured nodes and applications, which the configuration doesn't use. The tries suffice, because a
-/// configuration has fewer names.
-fn placeholder_name(alloc: Global, config: &Config) -> Result<Vec<u8>, NoMemory> {
+/// More underscores than a configuration has names.
+const MOST_UNDERSCORES: u32 = 200;
+
+/// Returns whether neither a node nor an application has this name.
+fn is_unused(config: &Config, name: &[u8]) -> bool
+    ensures { IsTrue result ↔ IsUnused config.now name.now }
+{
+    config.node_named(name).is_none() && config.app_named(name).is_none()
+}
+
+/// The name for unconfigured nodes and applications, which the configuration doesn't use.
+fn placeholder_name(alloc: Global, config: &Config) -> Result<Vec<u8>, NoMemory>
+    ensures { IfOk result (λ name. IsPlaceholder config.now name.items) }
+{
     let mut name = Vec::from_slice(alloc, b"unknown")?;
-    for _time in 0..MOST_TRIES {
-        if config.node_named(&name).is_none() && config.app_named(&name).is_none() {
+    for _underscores in 0..MOST_UNDERSCORES {
+        if is_unused(config, &name) {
             return Ok(name);
         }
         name.push(b'_')?;
     }
     Ok(name)
 }
-
-/// More tries than a configuration has names.
-const MOST_TRIES: u32 = 200;
 
 /// Appends a node's name, or `placeholder` if it isn't configured.
 fn put_node_word(
@@ -307,8 +316,8 @@ fn spelled(
 /// Expresses a run as an input of `distac sim`: the configuration, the printed output as comments, the events, and each
 /// node's page. The text is parsed again, so that it's known to express exactly that.
 ///
-/// Fails with [`PlayFault::TooLong`] if the text exceeds the size of an input, and with [`PlayFault::Unspelled`] if it
-/// doesn't parse as the run, because a script line can't contain a name with a space.
+/// Fails with [`PlayFault::TooLong`] if the text exceeds the size of an input, or its configuration that of one, and with
+/// [`PlayFault::Unspelled`] if it doesn't parse as the run, because a script line can't contain a name with a space.
 pub fn record_lines(
     alloc: Global,
     config: &Config,
@@ -319,11 +328,14 @@ pub fn record_lines(
         (λ text. IsRecordText config.now printed.now events.now text.items) }
     ensures says { IfOk result
         (λ text. SaysScript text.items config.now (run_lines config.now events.now)) }
-    ensures fault { IfErr result IsRecordFault }
+    // The configuration is the canonical text.
+    ensures run { IfOk result (λ text. SaysRun text.items config.now events.now) }
+    // `TooLong`: the text is too long, or its configuration. `Unspelled`: neither is, but the text isn't read as the run.
+    ensures fault { IfErr result (IsRecordFault config.now printed.now events.now) }
 {
     let canonical = config.canonical_text()?;
     let text = spelled(alloc, config, &canonical, printed, events)?;
-    if text.len() > MAX_INPUT {
+    if text.len() > MAX_INPUT || canonical.len() > MAX_TEXT {
         return Err(PlayFault::TooLong);
     }
     if !is_said(alloc, config, &canonical, &text, events)? {

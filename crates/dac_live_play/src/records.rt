@@ -16,7 +16,7 @@ use std::thread::Threads;
 
 /// Reads a configuration and a script, runs the script at sites in threads, and prints the run as an input of `distac
 /// sim`. Faults are printed as by [`live_source`](crate::live_source).
-#[tactic(auto, using(crate::proofs::Ends::recorded, crate::proofs::Ends::refused_records, crate::proofs::Ends::given_up_records, crate::proofs::Ends::refused_left, crate::proofs::Ends::given_up_left))]
+#[tactic(auto, using(crate::proofs::Ends::refused_records, crate::proofs::Ends::given_up_records, crate::proofs::Ends::refused_left, crate::proofs::Ends::given_up_left))]
 pub fn record_source<R: Read, W: Write, T: Eprint + Threads + Wait + Sync>(
     rt: &T,
     alloc: Global,

@@ -11,24 +11,6 @@ use Rattle.dac_weave.proofs.Finding.{at-left, at-last, push-cases, set-here, set
 
 -- ---- the lists of copies
 
-nothing : (i q : ℕ) → slice_get {X = ℕ} [] i ≡ Some q → ⊥
-nothing i q e = cc
-
--- no items have no copies
-pub none-later : (laters : List (Vec ℕ)) → laters ≡ [] → (p q : ℕ) → HasCopy laters p q → ⊥
-none-later laters none p q h = nothing h.0 q (subst (λ ls. slice_get (later_of ls p) h.0 ≡ Some q) none h.1)
-
--- a further item has no later copies
-pub pushed-none : (laters more : List (Vec ℕ)) (v : Vec ℕ) → more ≡ laters ++ v ∷ [] → v.items ≡ [] → HaveNoMore laters more
-pushed-none laters more v is empty p q h =
-    elim (slice_get (laters ++ v ∷ []) p) as (λ o. slice_get (laters ++ v ∷ []) p ≡ o → slice_get (numbers_of o) h.0 ≡ Some q → HasCopy laters p q) [
-      | None ↦ λ e at. absurd (nothing h.0 q at)
-      | Some w ↦ λ e at. elim (push-cases laters v p w e) [
-        | inl old ↦ (h.0, ap (λ o. slice_get (numbers_of o) h.0) old ∙ at)
-        | inr new ↦ absurd (nothing h.0 q (subst (λ xs. slice_get xs h.0 ≡ Some q) (ap (λ (x : Vec ℕ). x.items) (sym new.1) ∙ empty) at))
-      ]
-    ] refl (subst (λ ls. slice_get (later_of ls p) h.0 ≡ Some q) is h.1)
-
 module _ (laters : List (Vec ℕ)) (first : ℕ) (u v : Vec ℕ) (there : slice_get laters first ≡ Some u) where
   abbrev after : List (Vec ℕ)
   after = slice_set laters first v
