@@ -10,8 +10,9 @@ use Rattle.dac_tokens.specs.declared.token.Symbol.TheVariants.{FullStop}
 use Rattle.dac_tokens.specs.Gives.{◌>>=◌}
 use Rattle.dac_tokens.specs.Words.{Word, Punctuation, Name, Number, Text, End, Located, is_end}
 use Rattle.dac_tokens.specs.Stream.{Stream, tokens_of, end_at as end_of, ended as ended_by, stopped}
-use Rattle.dac_tokens.specs.TokenGrammar.{AreTokensOf, AreSpelled, Spells, depth_after_word}
+use Rattle.dac_tokens.specs.TokenGrammar.{AreTokensOf, AreSpelled, depth_after_word}
 use Rattle.dac_tokens.specs.TokenFaults.{StopAt}
+use Rattle.dac_tokens.specs.laws.Tokens.{no_end}
 use Rattle.dac_shapes.specs.Written.{Section, Written, written}
 use Rattle.dac_shapes.specs.Limits.{Seen, nothing, steps, with_section, MaySections, Keeps, Every}
 use Rattle.dac_shapes.specs.Within.{AreWithinLimits, nodes_in}
@@ -122,20 +123,13 @@ no_end_behind : (a b : List Located) → NoEnd (a ++ b) → NoEnd b
 no_end_behind [] b h = h
 no_end_behind (t ∷ a) b h = no_end_behind a b h.1
 
-no_end_word : (w : Word) (own rest : List ℕ) → Spells w own rest → is_end w ≡ false
-no_end_word (Punctuation symbol) own rest is = refl
-no_end_word (Name name) own rest is = refl
-no_end_word (Number negative digits) own rest is = refl
-no_end_word Text own rest is = refl
-no_end_word End own rest is = absurd is
-
 no_end_spelled : (offset : ℕ) (bytes : List ℕ) (ts : List Located) → AreSpelled offset bytes ts → NoEnd ts
 no_end_spelled offset bytes [] is = tt
-no_end_spelled offset bytes (t ∷ ts) is = (no_end_word t.word is.0 is.1 is.2.spelled, no_end_spelled (t.at + length is.0) is.1 ts is.3)
+no_end_spelled offset bytes (t ∷ ts) is = (no_end t.word is.0 is.1 is.2.spelled, no_end_spelled (t.at + length is.0) is.1 ts is.3)
 
 no_end_stopped : (offset depth : ℕ) (bytes : List ℕ) (ts : List Located) (e : ConfigFault) → StopAt offset depth bytes ts e → NoEnd ts
 no_end_stopped offset depth bytes [] e is = tt
-no_end_stopped offset depth bytes (t ∷ ts) e is = (no_end_word t.word is.0 is.1 is.2.spelled, no_end_stopped (t.at + length is.0) (depth_after_word depth t.word) is.1 ts e is.4)
+no_end_stopped offset depth bytes (t ∷ ts) e is = (no_end t.word is.0 is.1 is.2.spelled, no_end_stopped (t.at + length is.0) (depth_after_word depth t.word) is.1 ts e is.4)
 
 module _ (ts : List Located) (k : Takes Always Plain (λ _. list_of section_at) ts nothing) where
   goes : (last : Result Located ConfigFault) (rest : List Located) → file_at (at last (k.a ++ rest) nothing) ≡ (end_at (at last rest k.after) >>= judged k.x)

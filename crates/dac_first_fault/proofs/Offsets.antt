@@ -1,15 +1,14 @@
 -- Offsets of names, and of faults that names don't cause.
-use Rattle.std.proofs.Common.{◌≡◌, ℕ, ◌+◌, ◌<◌, ◌≤◌, List, [], ◌∷◌, ◌++◌, length, refl, sym, ap, subst, ◌∙◌, append_assoc, length-append, arith, inl, inr, true, false}
+use Rattle.std.proofs.Common.{◌≡◌, ℕ, ◌+◌, ◌<◌, ◌≤◌, List, [], ◌∷◌, ◌++◌, length, refl, sym, ap, subst, ◌∙◌, append_assoc, length-append, arith, inl, inr}
 use Rattle.std.specs.Prelude.{◌⊎◌, All}
-use Rattle.std.specs.Char.{IsAsciiDigit, IsAsciiLowercase}
 use Rattle.std.proofs.lemmas.List.Elements.{All-head, All-tail}
 use Rattle.dac_tokens.specs.declared.fault.ConfigFault.{ConfigFault}
 use Rattle.dac_tokens.specs.declared.fault.FaultKind.{FaultKind}
 use Rattle.dac_tokens.specs.declared.fault.FaultKind.TheVariants as kind
-use Rattle.dac_tokens.specs.declared.token.Symbol.TheVariants.{OpenList, CloseList, OpenTuple, CloseTuple, Comma, FullStop}
 use Rattle.dac_tokens.specs.Words.{Word, Punctuation, Name, Number, Text, End, Located}
-use Rattle.dac_tokens.specs.TokenGrammar.{AreTokensOf, AreSpelled, Spells, Begins, depth_after_word}
+use Rattle.dac_tokens.specs.TokenGrammar.{AreTokensOf, AreSpelled, depth_after_word}
 use Rattle.dac_tokens.specs.TokenFaults.{StopAt}
+use Rattle.dac_tokens.specs.laws.Tokens.{own_some}
 use Rattle.dac_first_fault.specs.FirstFault.{IsLocatedAt, Itself, InList, InTuple, CanCause, IsNoName, BeginsWith, Only, Before, IsOfName, rank}
 use Rattle.dac_shapes.specs.laws.Again.{Unkept, Nowhere, Fine}
 use Rattle.dac_first_fault.proofs.Held.{Frees, Stops}
@@ -113,16 +112,6 @@ stops_so _ offset bad e of = absurd of
 
 -- ---- offsets of a text
 
-begins_some : (name : List ℕ) → Begins IsAsciiLowercase name → 0 < length name
-begins_some [] is = absurd is
-begins_some (b ∷ bytes) is = omega arith
-
-name_some : (w : Word) (name own rest : List ℕ) → w ≡ Name name → Spells w own rest → 0 < length own
-name_some w name own rest is spelled = elim (subst (λ (w : Word). Spells w own rest) is spelled) [
-  | inl bare ↦ omega (arith, begins_some name bare.1.begins, ap length bare.0)
-  | inr quoted ↦ omega (arith, ap length quoted.0)
-]
-
 -- the names of a text precede its end
 pub spelled_fine : (bad offset : ℕ) (bytes : List ℕ) (ts : List Located) → AreSpelled offset bytes ts → offset + length bytes ≤ bad → Fine (At bad) ts
 spelled_fine bad offset bytes [] is le = tt
@@ -130,25 +119,7 @@ spelled_fine bad offset bytes (t ∷ ts) is le =
     let k = is.2 in
     let long = ap length k.parts ∙ length-append k.gap (is.0 ++ is.1) in
     let own = length-append is.0 is.1 in
-    (λ name w e. absurd (omega (arith, le, long, own, k.offset, e, name_some t.word name is.0 is.1 w k.spelled)), spelled_fine bad (t.at + length is.0) is.1 ts is.3 (omega (arith, le, long, own, k.offset)))
-
-digits_some : (digits : List ℕ) → Begins IsAsciiDigit digits → 0 < length digits
-digits_some [] is = absurd is
-digits_some (b ∷ bytes) is = omega arith
-
--- a token has at least one byte
-own_some : (w : Word) (own rest : List ℕ) → Spells w own rest → 0 < length own
-own_some (Punctuation OpenList) own rest is = omega (arith, ap length is)
-own_some (Punctuation CloseList) own rest is = omega (arith, ap length is)
-own_some (Punctuation OpenTuple) own rest is = omega (arith, ap length is)
-own_some (Punctuation CloseTuple) own rest is = omega (arith, ap length is)
-own_some (Punctuation Comma) own rest is = omega (arith, ap length is)
-own_some (Punctuation FullStop) own rest is = omega (arith, ap length is.0)
-own_some (Name name) own rest is = name_some (Name name) name own rest refl is
-own_some (Number false digits) own rest is = omega (arith, ap length is.0.0, digits_some digits is.0.1.begins)
-own_some (Number true digits) own rest is = omega (arith, ap length is.0.0)
-own_some Text own rest is = omega (arith, ap length is.parts)
-own_some End own rest is = absurd is
+    (λ name w e. absurd (omega (arith, le, long, own, k.offset, e, own_some t.word is.0 is.1 k.spelled)), spelled_fine bad (t.at + length is.0) is.1 ts is.3 (omega (arith, le, long, own, k.offset)))
 
 -- consecutive tokens at increasing offsets
 abbrev Apart : ℕ → List Located → Type 0

@@ -12,6 +12,7 @@ use Rattle.dac_tokens.specs.Stream.{Stream, taken}
 use Rattle.dac_tokens.specs.declared.token.Symbol.{Symbol}
 use Rattle.dac_tokens.specs.Words.{Located, Word, End, is_end}
 use Rattle.dac_tokens.specs.declared.token.Symbol.TheVariants.{Comma}
+use Rattle.dac_tokens.specs.laws.Tokens.{or_memory}
 use Rattle.dac_shapes.specs.Shape.{State, token, more_at, comma_list, fails, is_symbol, is_text, terms_at, terms_in, texts_at, term_by, term_at, IsEnough}
 use Rattle.dac_shapes.specs.Views.{Reading, app_of, apps_of, param_of, params_of, section_of, sections_of}
 use Rattle.dac_shapes.specs.declared.draft.DraftApp.{DraftApp}
@@ -20,10 +21,6 @@ use Rattle.dac_shapes.specs.declared.param.Section.{Section}
 use Rattle.dac_shapes.specs.declared.param.ParamName.{ParamName}
 use Rattle.dac_shapes.specs.Limits.{is_among, is_named, has_param, is_kernel, has_kernel}
 use Rattle.dac_shapes.specs.Written.{name_of}
-
-or_memory : (k : FaultKind) (at : ℕ) (P Q : Type 0) → (P → Q) → OrMemory k at P → OrMemory k at Q
-or_memory NoMemory at P Q f h = h
-or_memory _ at P Q f h = f h
 
 -- if one reading fails, another fails with the same fault
 pub fails_too : {A B : Type 0} (e : ConfigFault) (r : Result A ConfigFault) (q : Result B ConfigFault) → (r ≡ Err e → q ≡ Err e) → Fails e r → Fails e q

@@ -14,7 +14,8 @@ use Rattle.dac_tokens.specs.TokenGrammar.{Begins, Nothing, IsLastGap, Closed, Is
 use Rattle.dac_tokens.specs.TokenFaults.{IsOpeningBracket, TooDeep, IsFaultAt, StopAt}
 use Rattle.dac_tokens.proofs.Bytes.{class_is}
 use Rattle.dac_tokens.proofs.Gaps.{IsPassed, length_after_gap, last_gap, gap_before, gap_read, last_read}
-use Rattle.dac_tokens.proofs.Word.{IsToken, StopsThere, Found, word_found, token_read, own_some, no_gap, no_end, step, stop_read}
+use Rattle.dac_tokens.specs.laws.Tokens.{no_end, own_some}
+use Rattle.dac_tokens.proofs.Word.{IsToken, StopsThere, Found, word_found, token_read, no_gap, step, stop_read}
 
 -- the depth after a word: that of the grammar, or a fault at a 65th open bracket
 data Depth (at depth : ℕ) : Word → Result ℕ ConfigFault → Type 0 where

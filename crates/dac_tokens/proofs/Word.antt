@@ -17,7 +17,7 @@ use Rattle.dac_tokens.specs.declared.token.Class.TheVariants as class
 use Rattle.dac_tokens.specs.declared.token.Symbol.TheVariants.{FullStop}
 use Rattle.dac_tokens.specs.Faults.{IsTokenFault}
 use Rattle.dac_tokens.specs.Gives.{◌>>=◌}
-use Rattle.dac_tokens.specs.Words.{Word, Punctuation, Name, Number, Text, End, is_end, Located}
+use Rattle.dac_tokens.specs.Words.{Word, Punctuation, Name, Number, Text, End, Located}
 use Rattle.dac_tokens.specs.Scan.{class_of, is_name_byte, is_quotable, is_fun, stretch, ends_stop, breaks_number, bad_token, unsupported, atom_at, closed_at, quoted_at, two_quotes, inside_string, string_at, number_at, negative_at, token_of, word_at}
 use Rattle.dac_tokens.specs.Stream.{depth_after}
 use Rattle.dac_tokens.specs.TokenGrammar.{StartsGap, Begins, IsNameByte, IsQuotable, IsUnquotable, IsDigits, IsNumber, ContinuesAsNumber, IsStringText, Empty, Plain, Escape, Spells}
@@ -297,23 +297,6 @@ token_read (Number negative digits) at own rest spelled =
     numbers_are negative at digits own rest spelled.0 ends ∙ cond-false _ _ _ (fails (breaks_number rest) (tells_break rest ends) spelled.1)
 token_read Text at own rest spelled = rw spelled.parts (ap (string_at at) (append_assoc spelled.inner (34 ∷ []) rest) ∙ string_read at spelled.inner rest spelled.is_text spelled.no_third)
 token_read End at own rest spelled = absurd spelled
-
-pub no_end : (w : Word) (own rest : List ℕ) → Spells w own rest → is_end w ≡ false
-no_end End own rest spelled = absurd spelled
-no_end w own rest spelled = refl
-
--- a token has at least one byte
-pub own_some : (w : Word) (own rest : List ℕ) → Spells w own rest → 0 < length own
-own_some (Punctuation FullStop) own rest spelled = rw spelled.0 (omega arith)
-own_some (Punctuation symbol) own rest spelled = rw spelled (omega arith)
-own_some (Name []) own rest (inl bare) = absurd bare.1.begins
-own_some (Name (b ∷ more)) own rest (inl bare) = rw bare.0 (omega arith)
-own_some (Name name) own rest (inr quoted) = rw quoted.0 (omega arith)
-own_some (Number true digits) own rest spelled = rw spelled.0.0 (omega arith)
-own_some (Number false []) own rest spelled = absurd spelled.0.1.begins
-own_some (Number false (d ∷ ds)) own rest spelled = rw spelled.0.0 (omega arith)
-own_some Text own rest spelled = rw spelled.parts (omega arith)
-own_some End own rest spelled = absurd spelled
 
 -- no token begins with a gap's first byte
 gap_refused : (at : ℕ) (bytes : List ℕ) → Begins StartsGap bytes → word_at at bytes ≡ bad_token at

@@ -1,19 +1,14 @@
-use Rattle.std.proofs.Common.{ℕ, Result, ap, sym, ◌∙◌, subst, Ok}
+use Rattle.std.proofs.Common.{Result, ap, sym, ◌∙◌, subst, Ok}
 use Rattle.std.proofs.lemmas.Result.{err_from_is_err_and}
-use Rattle.dac_tokens.specs.declared.fault.FaultKind.{FaultKind}
-use Rattle.dac_tokens.specs.declared.fault.FaultKind.TheVariants.{NoMemory}
 use Rattle.dac_tokens.specs.declared.fault.ConfigFault.{ConfigFault}
-use Rattle.dac_tokens.specs.Gives.{◌>>=◌, OrMemory, Fails}
+use Rattle.dac_tokens.specs.Gives.{◌>>=◌, Fails}
+use Rattle.dac_tokens.specs.laws.Tokens.{or_memory}
 use Rattle.dac_shapes.specs.Shape.{draft_at}
 use Rattle.dac_shapes.specs.Views.{draft_of}
 use Rattle.dac_config.specs.Numbering.{numbered}
 use Rattle.dac_config.specs.Says.{IsTableOf}
 use Rattle.dac_config.proofs.Numbers.{numbered_says, table_same}
 use Rattle.dac_config.proofs.read.read_config.Goals as goal
-
-or_memory : (k : FaultKind) (at : ℕ) (P Q : Type 0) → (P → Q) → OrMemory k at P → OrMemory k at Q
-or_memory NoMemory at P Q f h = h
-or_memory _ at P Q f h = f h
 
 -- a fault of a reading is a fault of the sequence that begins with it
 fails_then : {A B : Type 0} (e : ConfigFault) (r : Result A ConfigFault) (f : A → Result B ConfigFault) → Fails e r → Fails e (r >>= f)
