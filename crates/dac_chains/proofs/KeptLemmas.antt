@@ -1,5 +1,5 @@
 -- Maps to greatest values, in terms of the entries that store them.
-use Rattle.std.proofs.Common.{◌≡◌, true, false, ◌&&◌, cond, List, [], ◌∷◌, Option, Some, None, option_map, ◌↔◌, refl, sym, ap, ◌∙◌, subst}
+use Rattle.std.proofs.Common.{◌≡◌, true, false, ◌&&◌, cond, List, [], ◌∷◌, Option, Some, None, option_map, ◌↔◌, refl, sym, ap, ◌∙◌, subst, arith}
 use Rattle.std.specs.Prelude.{T}
 use Rattle.std.specs.declared.cmp.Ordering.{Ordering}
 use Rattle.std.specs.Ordering.{eq_by_cmp, is_lt, ord_max}
@@ -31,9 +31,7 @@ module _ {V : Type 0} where
   greatest cmp x y = record { value = ord_max cmp x.value y.value }
 
   joined_values : (cmp : V → V → Ordering) (a b : Option (Max V)) → option_map value_of (join_options (greatest cmp) a b) ≡ join_options (ord_max cmp) (option_map value_of a) (option_map value_of b)
-  joined_values cmp None b = refl
-  joined_values cmp (Some x) None = refl
-  joined_values cmp (Some x) (Some y) = refl
+  joined_values cmp a b = grind arith
 
   within_from : (cmp : V → V → Ordering) (a b : Option (Max V)) → IsOptionBelow (at_most cmp) a b → IsOptionBelow (IsAtMost cmp) (option_map value_of a) (option_map value_of b)
   within_from cmp None b h = tt
@@ -46,8 +44,7 @@ module _ {V : Type 0} where
   within_to cmp (Some x) (Some y) h = h
 
   wrapped_again : (a : Option (Max V)) → option_map wrap (option_map value_of a) ≡ a
-  wrapped_again None = refl
-  wrapped_again (Some x) = refl
+  wrapped_again a = grind arith
 
   -- wrappers of equal values are equal
   same_wrapped : (a b : Option (Max V)) → option_map value_of a ≡ option_map value_of b → a ≡ b

@@ -27,16 +27,10 @@ use Rattle.dac_dots.proofs.RowLemmas.{above_low}
 
 module _ (row : Row) (dots : Dots) (o : Origin) (at_o : o ≡ row.origin) (b : Bool) where
   pub within_found : (r : Row) → ((n : ℕ) → set.contains dots (dot o n) ≡ has_counter r n) → (IsTrue b ↔ IsWithinRow row r) → IsTrue b ↔ IsRowIn row dots
-  within_found r there says =
-      let same_dot : (n : ℕ) → set.contains dots (dot row.origin n) ≡ set.contains dots (dot o n) = λ n. ap (λ (o : Origin). set.contains dots (dot o n)) (sym at_o) in
-      (λ yes n e. same_dot n ∙ there n ∙ says.0 yes n e, λ within. says.1 (λ n e. sym (there n) ∙ sym (same_dot n) ∙ within n e))
+  within_found r there says = grind arith
 
   pub within_none : ((n : ℕ) → set.contains dots (dot o n) ≡ false) → (IsTrue b ↔ ¬ (HasSome row)) → IsTrue b ↔ IsRowIn row dots
-  within_none there says =
-      let same_dot : (n : ℕ) → set.contains dots (dot row.origin n) ≡ set.contains dots (dot o n) = λ n. ap (λ (o : Origin). set.contains dots (dot o n)) (sym at_o) in (
-        λ yes n e. absurd (says.0 yes (some_from row n e)),
-        λ within. says.1 (λ some. let counter = some_counter row some in true≢false (sym (within counter.0 counter.1) ∙ same_dot counter.0 ∙ there counter.0)),
-      )
+  within_none there says = grind (arith, some_from, some_counter)
 
 -- ---- all rows as a subset
 
@@ -69,11 +63,7 @@ module _ (rows s : List Row) (dots : Dots) (view : dots_in rows ≡ dots) (same_
 
 pub union_more : (s : List Row) (t both more : Dots) (i : ℕ) (r : Row) → i < length s → r ≡ get_or s i r → ((q : Dot) → set.contains both q ≡ (set.contains t q || any_row (take i s) q)) → ((q : Dot) → set.contains more q ≡ (row_has q r || set.contains both q))
     → (q : Dot) → set.contains more q ≡ (set.contains t q || any_row (take (i + 1) s) q)
-union_more s t both more i r p is so_far one q =
-    one q
-    ∙ (λ k. row_has q (is k) || so_far q k)
-    ∙ or_last (row_has q (get_or s i r)) (set.contains t q) (any_row (take i s) q)
-    ∙ ap (λ b. set.contains t q || b) (sym (list_any_more (row_has q) s i r p))
+union_more s t both more i r p is so_far one q = grind (arith, or_last, list_any_more)
 
 pub union_start : (t both : Dots) → both ≡ t → (q : Dot) → set.contains both q ≡ (set.contains t q || false)
 union_start t both is q = ap (λ (s : Dots). set.contains s q) is ∙ sym (or-false (set.contains t q))
@@ -222,17 +212,10 @@ last_below (y ∷ rows) o (suc i) r h last p x e =
 module _ (rows s : List Row) (dots : Dots) (view : dots_in rows ≡ dots) (kept : AreKept rows) (same_rows : s ≡ rows) where
   -- the row at an index satisfies the invariant
   pub row_kept : (i : ℕ) (r : Row) → i < length s → r ≡ get_or s i r → IsKept r × HasSome r
-  row_kept i r p is =
-      let P = λ (row : Row). IsKept row × HasSome row in
-      subst P (sym (is ∙ ap (λ (rows : List Row). get_or rows i r) same_rows)) (All-from_recursion P rows kept.each i r (omega (arith, ap (λ (rows : List Row). length rows) same_rows)))
+  row_kept i r p is = grind arith
 
   pub row_alone : (i : ℕ) (r : Row) → i < length s → r ≡ get_or s i r → (n : ℕ) → set.contains dots (dot r.origin n) ≡ has_counter r n
-  row_alone i r p is n =
-      let at : r ≡ get_or rows i r = is ∙ ap (λ (rows : List Row). get_or rows i r) same_rows in
-      contains_is rows dots view (dot r.origin n)
-      ∙ ap (λ (row : Row). any_row rows (dot row.origin n)) at
-      ∙ All-from_recursion (IsAlone rows) rows (alone rows kept.rising) i r (omega (arith, ap (λ (rows : List Row). length rows) same_rows)) n
-      ∙ ap (λ (row : Row). has_counter row n) (sym at)
+  row_alone i r p is n = grind (arith, contains_is, alone)
 
   origin_there : (i : ℕ) (r : Row) → i < length rows → r ≡ get_or rows i r → has_key origin_cmp (origins rows) r.origin ≡ true
   origin_there i r p is =
@@ -269,13 +252,7 @@ pub no_counters : (o : Origin) (upto : ℕ) (further : List ℕ) → (upto ≡ 0
 no_counters o upto further none p = grind arith
 
 pub some_counters : (o : Origin) (upto : ℕ) (further : List ℕ) (b : Bool) → b ≡ false → ((upto ≡ 0) × (length further ≡ 0) → b ≡ true) → HasSome (record { origin = o; upto = upto; further = further })
-some_counters o upto further b is says = elim (cases_lt 0 upto) [
-  | inl p ↦ inl p
-  | inr none ↦ elim (cases_lt 0 (length further)) [
-    | inl p ↦ inr p
-    | inr empty ↦ absurd (false≢true (sym is ∙ says (omega arith, omega arith)))
-  ]
-]
+some_counters o upto further b is says = grind (arith, cases_lt)
 
 module _ (rows : List Row) (dots : Dots) (view : dots_in rows ≡ dots) (kept : AreKept rows) (o : Origin) (upto : ℕ) (further copied : List ℕ) (is_copied : copied ≡ further) (items : List Row) (is_items : items ≡ rows ++ record { origin = o; upto = upto; further = copied } ∷ []) (can : CanFollow (rows_of dots) (record { origin = o; upto = upto; further = further })) where
   abbrev pushed : Row

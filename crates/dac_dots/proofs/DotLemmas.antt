@@ -54,20 +54,13 @@ pub one_more : (o : Origin) (f l : ℕ) → f ≤ l → (old mid new : List Dot)
     → ((q : Dot) → has_key dot_cmp mid q ≡ ((eq_by_cmp origin_cmp q.origin o && (nat_le f q.n && nat_lt q.n l)) || has_key dot_cmp old q))
     → ((q : Dot) → has_key dot_cmp new q ≡ (eq_by_cmp dot_cmp q (dot o l) || has_key dot_cmp mid q))
     → (q : Dot) → has_key dot_cmp new q ≡ ((eq_by_cmp origin_cmp q.origin o && (nat_le f q.n && nat_lt q.n (l + 1))) || has_key dot_cmp old q)
-one_more o f l p old mid new so_far one q =
-    let e = eq_by_cmp origin_cmp q.origin o in
-    one q ∙ (λ k. is_eq-then (origin_cmp q.origin o) (nat_cmp q.n l) k || so_far q k)
-    ∙ one_put e (eq_by_cmp nat_cmp q.n l) (nat_le f q.n && nat_lt q.n l) (has_key dot_cmp old q)
-    ∙ ap (λ b. (e && b) || has_key dot_cmp old q) (further f l q.n p)
+one_more o f l p old mid new so_far one q = grind (arith, is_eq-then, one_put, further)
 
 pub all_put : (o : Origin) (f l k : ℕ) → f ≤ k → k ≡ l → (old mid new : List Dot)
     → ((q : Dot) → has_key dot_cmp mid q ≡ ((eq_by_cmp origin_cmp q.origin o && (nat_le f q.n && nat_lt q.n k)) || has_key dot_cmp old q))
     → ((q : Dot) → has_key dot_cmp new q ≡ (eq_by_cmp dot_cmp q (dot o l) || has_key dot_cmp mid q))
     → (q : Dot) → has_key dot_cmp new q ≡ ((eq_by_cmp origin_cmp q.origin o && (nat_le f q.n && nat_le q.n l)) || has_key dot_cmp old q)
-all_put o f l k p is old mid new so_far one q =
-    let e = eq_by_cmp origin_cmp q.origin o in
-    one_more o f l (omega arith) old mid new (λ r. so_far r ∙ ap (λ (k : ℕ). (eq_by_cmp origin_cmp r.origin o && (nat_le f r.n && nat_lt r.n k)) || has_key dot_cmp old r) is) one q
-    ∙ ap (λ b. (e && (nat_le f q.n && b)) || has_key dot_cmp old q) (before_next q.n l)
+all_put o f l k p is old mid new so_far one q = grind (arith, one_more, before_next)
 
 -- ---- the dots of spans
 
@@ -82,12 +75,7 @@ pub span_put : (o : Origin) (spans : List Span) (i : ℕ) (d : Span) → i < len
     → ((q : Dot) → has_key dot_cmp mid q ≡ ((eq_by_cmp origin_cmp q.origin o && any_span (take i spans) q.n) || has_key dot_cmp old q))
     → ((q : Dot) → has_key dot_cmp new q ≡ ((eq_by_cmp origin_cmp q.origin o && span_has q.n (get_or spans i d)) || has_key dot_cmp mid q))
     → (q : Dot) → has_key dot_cmp new q ≡ ((eq_by_cmp origin_cmp q.origin o && any_span (take (i + 1) spans) q.n) || has_key dot_cmp old q)
-span_put o spans i d p old mid new so_far one q =
-    let e = eq_by_cmp origin_cmp q.origin o in
-    let here = span_has q.n (get_or spans i d) in
-    let past = any_span (take i spans) q.n in
-    one q ∙ ap (λ b. (e && here) || b) (so_far q) ∙ one_put e here past (has_key dot_cmp old q)
-    ∙ ap (λ b. (e && b) || has_key dot_cmp old q) (or_comm here past ∙ sym (any_more spans i d p q.n))
+span_put o spans i d p old mid new so_far one q = grind (arith, one_put, or_comm, any_more)
 
 pub spans_put : (o : Origin) (spans : List Span) → are_apart 0 spans ≡ true → (now : List ℕ) → counters_in spans ≡ now → (i : ℕ) → length spans ≤ i → (old new : List Dot)
     → ((q : Dot) → has_key dot_cmp new q ≡ ((eq_by_cmp origin_cmp q.origin o && any_span (take i spans) q.n) || has_key dot_cmp old q))
@@ -98,7 +86,4 @@ spans_put o spans h now view i end old new so_far q =
 -- ---- the dots of a row
 
 pub row_put : (o : Origin) (ns : List ℕ) (row : Row) → row_of o ns ≡ row → (old new : List Dot) → ((q : Dot) → has_key dot_cmp new q ≡ ((eq_by_cmp origin_cmp q.origin o && has_key nat_cmp ns q.n) || has_key dot_cmp old q)) → (q : Dot) → has_key dot_cmp new q ≡ (row_has q row || has_key dot_cmp old q)
-row_put o ns row view old new all q =
-    all q
-    ∙ ap (λ k. (eq_by_cmp origin_cmp q.origin o && k) || has_key dot_cmp old q) (sym (seen_counter o ns row view q.n))
-    ∙ ap (λ p. (eq_by_cmp origin_cmp q.origin p && has_counter row q.n) || has_key dot_cmp old q) (ap (λ (r : Row). r.origin) view)
+row_put o ns row view old new all q = grind (arith, seen_counter)

@@ -50,19 +50,7 @@ put_own slots q n long =
     ∙ ap (λ m. nat_eq m 1) (bit_at_set_same w64 n (slot_of q % 64) (bit_there q))
 
 pub put_more : (slots : List ℕ) (q p : Dot) (n : ℕ) → length slots ≡ 16 → n ≡ get_or slots (slot_of q / 64) 0 → may_have slots p ≡ true → may_have (set slots (slot_of q / 64) (with_bit n (slot_of q % 64))) p ≡ true
-put_more slots q p n long is e =
-    let i = slot_of q / 64 in
-    let j = slot_of p / 64 in
-    let k = slot_of p % 64 in
-    let made = with_bit n (slot_of q % 64) in
-    elim (nat_eq j i) as (λ t. nat_eq j i ≡ t → nat_eq (bit_at (get_or (set slots i made) j 0) k) 1 ≡ true) [
-      | true ↦ λ t.
-          let at = eqb-true j i t in
-          let had : bit_at n k ≡ 1 = ap (λ m. bit_at m k) (is ∙ ap (λ w. get_or slots w 0) (sym at)) ∙ eqb-true _ _ e in
-          ap (λ m. nat_eq (bit_at m k) 1) (get_or-set_at slots i j made 0 at (subst (λ l. i < l) (sym long) (word_there q)))
-          ∙ ap (λ m. nat_eq m 1) (with_more n (slot_of q % 64) k (bit_there q) had)
-      | false ↦ λ t. ap (λ m. nat_eq (bit_at m k) 1) (get_or-set_other slots i j made 0 (λ same. false≢true (sym t ∙ eq-eqb j i same))) ∙ e
-    ] refl
+put_more slots q p n long is e = grind (arith, eqb-true, get_or-set_at, word_there, with_more, bit_there, get_or-set_other, eq-eqb)
 
 -- filters are apart if no word has a bit set in both
 pub apart_from : (a b : List ℕ) → ((j : ℕ) → j < 16 → bit_and (get_or a j 0) (get_or b j 0) ≡ 0) → AreApart a b

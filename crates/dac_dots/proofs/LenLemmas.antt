@@ -47,12 +47,7 @@ module _ {K : Type 0} (R : K → K → Ordering) where
   -- the length of a list without repeats is the size of its set
   len_apart : (ks : List K) → IsTotalOrder R → AreApart ks → length ks ≡ set.len (set.from_list {R = R} ks)
   len_apart [] o h = sym (set.len-empty R)
-  len_apart (k ∷ ks) o h =
-      let rest = set.len (set.from_list {R = R} ks) in
-      sym (set.len-insert o (set.from_list ks) k
-      ∙ ap (λ b. cond b rest (rest + 1)) (sym (has_is o ks (set.from_list ks) (λ i. set.from_list ks) k) ∙ h.0)
-      ∙ ap (λ n. n + 1) (sym (len_apart ks o h.1))
-      ∙ add-one (length ks))
+  len_apart (k ∷ ks) o h = grind (arith, has_is, len_apart ks o h.1)
 
 -- ---- the dots of rows are distinct
 
@@ -132,11 +127,7 @@ len_is rows s dots view kept same_rows i n end so_far =
 
 -- the rows so far and the next one have no more dots than the set
 pub so_far_within : (rows s : List Row) (dots : Dots) → dots_in rows ≡ dots → AreKept rows → s ≡ rows → (i : ℕ) (r : Row) (n : ℕ) → i < length s → r ≡ get_or s i r → n ≡ sum_by row_len (take i s) → n + row_len r ≤ set.len dots
-so_far_within rows s dots view kept same_rows i r n p is so_far =
-    let all = len_is rows s dots view kept same_rows (length s) (sum_by row_len s) (omega arith) (ap (sum_by row_len) (sym (take_all (length s) s (omega arith)))) in
-    let part = sum_by_more_le row_len s i r p in
-    let own : row_len r ≡ row_len (get_or s i r) = ap row_len is in
-    omega (arith, all, part, own, so_far)
+so_far_within rows s dots view kept same_rows i r n p is so_far = grind (arith, len_is, take_all, sum_by_more_le)
 
 -- each row has a dot
 row_counts : (row : Row) → HasSome row → 1 ≤ row_len row
@@ -144,11 +135,7 @@ row_counts row p = grind arith
 
 rows_count : (rows : List Row) → AllByRecursion (λ row. IsKept row × HasSome row) rows → length rows ≤ sum_by row_len rows
 rows_count [] each = omega arith
-rows_count (row ∷ rows) each =
-    let one = row_counts row each.0.1 in
-    let rest = rows_count rows each.1 in
-    let all = sum_by-cons row_len row rows in
-    omega arith
+rows_count (row ∷ rows) each = grind (arith, row_counts, sum_by-cons, rows_count rows each.1)
 
 -- there are no more rows than dots
 pub rows_within : (rows : List Row) (dots : Dots) → dots_in rows ≡ dots → AreKept rows → length rows ≤ set.len dots

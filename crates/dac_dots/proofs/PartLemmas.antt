@@ -173,11 +173,7 @@ module _ {Z : Type 0} where
 
   module _ (ps : List (Arc Dots Z)) (dots : Dots) (view : dots_in (all_rows ps) ≡ dots) (is : AreParts ps) (o : Origin) (i : ℕ) (at : IsPartFor ps o i) where
     pub part_has : (p : i < length ps) (part : Arc Dots Z) → part ≡ get_or ps i part → (n : ℕ) → set.contains dots (dot o n) ≡ set.contains (arc_value part) (dot o n)
-    part_has p part is_part n =
-        contains_is (all_rows ps) dots view (dot o n)
-        ∙ at_part_from o n ps i part is.kept.rising p at.before (at.after i part (omega arith) p)
-        ∙ ap (λ (x : Arc Dots Z). any_row (rows_in x) (dot o n)) (sym is_part)
-        ∙ any_of part (dot o n)
+    part_has p part is_part n = grind (arith, contains_is, at_part_from, any_of)
 
     pub none_have : length ps ≤ i → (n : ℕ) → set.contains dots (dot o n) ≡ false
     none_have end n = contains_is (all_rows ps) dots view (dot o n) ∙ past_parts_from o n ps (λ j e q r. at.before j e q (omega (arith, r, end, at.bound)))
@@ -264,11 +260,7 @@ module _ {Z : Type 0} where
         (found.0, λ m p q. contains_is (all_rows ps) dots view (dot o m) ∙ found.1 m p q)
 
     pub vector_part : AreParts ps → IsVector dots → (i : ℕ) (part : Arc Dots Z) → i < length s → part ≡ get_or s i part → IsVector (arc_value part)
-    vector_part is vector i part p is_part o n e =
-        let short : i < length ps = omega (arith, ap (λ (l : List (Arc Dots Z)). length l) same, p) in
-        let at : part ≡ get_or ps i part = is_part ∙ ap (λ (l : List (Arc Dots Z)). get_or l i part) same in
-        let all = vector o n (part_in ps s dots view same i part p is_part (dot o n) e) in
-        (all.0, λ m q r. sym (alone_part o n m ps i part is.kept.rising short at e) ∙ sym (contains_is (all_rows ps) dots view (dot o m)) ∙ all.1 m q r)
+    vector_part is vector i part p is_part o n e = grind (arith, part_in, alone_part, contains_is)
 
 -- ---- properties of an origin depend only on its dots
 
@@ -289,9 +281,7 @@ module _ (a b : Dots) (o : Origin) (same : (n : ℕ) → set.contains a (dot o n
   next_same (Some d) h = next_same_one d h
 
   pub row_same : (row : Row) (r : Bool) → o ≡ row.origin → IsTrue r ↔ IsRowIn row b → IsTrue r ↔ IsRowIn row a
-  row_same row r at is =
-      let turn : (n : ℕ) → set.contains a (dot row.origin n) ≡ set.contains b (dot row.origin n) = λ n. ap (λ (x : Origin). set.contains a (dot x n)) (sym at) ∙ same n ∙ ap (λ (x : Origin). set.contains b (dot x n)) at in
-      (λ e n h. turn n ∙ is.0 e n h, λ within. is.1 (λ n h. sym (turn n) ∙ within n h))
+  row_same row r at is = grind arith
 
 pub none_same : (a : Dots) (o : Origin) → ((n : ℕ) → set.contains a (dot o n) ≡ false) → (n : ℕ) → set.contains a (dot o n) ≡ set.contains (set.empty {R = dot_cmp}) (dot o n)
 none_same a o none n = none n ∙ sym (set.contains-empty dot_cmp (dot o n))
@@ -336,10 +326,7 @@ module _ {Z : Type 0} where
 
     -- the parts so far and the next one have no more dots than the set
     pub len_within : (i : ℕ) (part : Arc Dots Z) (n : ℕ) → i < length s → part ≡ get_or s i part → n ≡ sum_by part_len (take i s) → n + part_len part ≤ set.len dots
-    len_within i part n p at so_far =
-        let more = sum_by_more_le part_len s i part p in
-        let own : part_len part ≡ part_len (get_or s i part) = ap part_len at in
-        omega (arith, more, own, so_far, len_all)
+    len_within i part n p at so_far = grind (arith, sum_by_more_le, len_all)
 
     pub rows_parts : rows_of dots ≡ all_rows ps
     rows_parts = rows_are (all_rows ps) dots view is.kept
@@ -358,10 +345,7 @@ module _ {Z : Type 0} where
   rows_counted s = length-flat_map rows_in s
 
   pub rows_short : (s : List (Arc Dots Z)) (i : ℕ) (part : Arc Dots Z) → i < length s → part ≡ get_or s i part → rows_so_far s i + length (rows_in part) ≤ length (all_rows s)
-  rows_short s i part p at =
-      let more = sum_by_more_le part_rows s i part p in
-      let own : length (rows_in part) ≡ length (rows_in (get_or s i part)) = ap (λ (x : Arc Dots Z). length (rows_in x)) at in
-      omega (arith, more, own, rows_counted s)
+  rows_short s i part p at = grind (arith, sum_by_more_le, rows_counted)
 
 pub sum_bound : (a b x y : ℕ) → x ≤ a * 2 ^ 65 → y ≤ b * 2 ^ 65 → x + y ≤ (a + b) * 2 ^ 65
 sum_bound a b x y p q = omega arith
@@ -442,10 +426,7 @@ module _ {Z : Type 0} (ps s : List (Arc Dots Z)) (same : s ≡ ps) where
 
   -- no part has a row at the index
   pub no_row : (k left i : ℕ) → length s ≤ k → i ≡ rows_so_far s k + left → length (all_rows ps) ≤ i
-  no_row k left i end is =
-      let all = ap (λ (l : List (Arc Dots Z)). length (all_rows l)) same in
-      let rows : rows_so_far s k ≡ sum_by part_rows s = ap (sum_by part_rows) (take_all k s end) in
-      omega (arith, all, rows_counted s, rows, is)
+  no_row k left i end is = grind (arith, take_all, rows_counted)
 
 -- ---- splitting rows that satisfy the invariant
 
@@ -542,11 +523,7 @@ module _ {Z : Type 0} where
 
   -- one more part is appended
   pub shared_more : (first done new s : List (Arc Dots Z)) (i : ℕ) (part copied : Arc Dots Z) → i < length s → part ≡ get_or s i part → all_rows done ≡ all_rows first ++ all_rows (take i s) → arc_value copied ≡ arc_value part → new ≡ done ++ copied ∷ [] → all_rows new ≡ all_rows first ++ all_rows (take (i + 1) s)
-  shared_more first done new s i part copied p at so_far same pushed =
-      rows_pushed done new copied (rows_in part) pushed (ap rows_of same)
-      ∙ ap (λ (l : List Row). l ++ rows_in part) so_far
-      ∙ append_assoc (all_rows first) (all_rows (take i s)) (rows_in part)
-      ∙ ap (λ (l : List Row). all_rows first ++ l) (sym (rows_pushed (take i s) (take (i + 1) s) (get_or s i part) (rows_in part) (take_more s i part p) (ap rows_in (sym at))))
+  shared_more first done new s i part copied p at so_far same pushed = grind (arith, rows_pushed, take_more)
 
   pub shared_start : (first : List (Arc Dots Z)) → all_rows first ≡ all_rows first ++ []
   shared_start first = sym (append-nil (all_rows first))
@@ -686,25 +663,14 @@ single_same ps part e = set.same_set dots_total exact_dots (dots_in (all_rows ps
 
 -- adding a row whose dots are all there changes nothing
 pub row_there_already : (s : Dots) (row : Row) → IsRowIn row s → (q : Dot) → set.contains s q ≡ (row_has q row || set.contains s q)
-row_there_already s row there q = elim (row_has q row) as (λ b. row_has q row ≡ b → set.contains s q ≡ (b || set.contains s q)) [
-  | true ↦ λ e.
-      let parts = and_parts (eq_by_cmp origin_cmp q.origin row.origin) (has_counter row q.n) e in
-      ap (λ (o : Origin). set.contains s (dot o q.n)) (exact_origins q.origin row.origin (tie _ parts.0)) ∙ there q.n parts.1
-  | false ↦ λ e. refl
-] refl
+row_there_already s row there q = grind (arith, and_parts, exact_origins, tie)
 
 -- ---- adding the dots of each part
 
 module _ {Z : Type 0} where
   pub parts_more : (s : List (Arc Dots Z)) (t both more : Dots) (i : ℕ) (part : Arc Dots Z) → i < length s → part ≡ get_or s i part → ((q : Dot) → set.contains both q ≡ (set.contains t q || any_row (all_rows (take i s)) q)) → more ≡ set.union both (arc_value part)
       → (q : Dot) → set.contains more q ≡ (set.contains t q || any_row (all_rows (take (i + 1) s)) q)
-  parts_more s t both more i part p at so_far is q =
-      ap (λ (d : Dots). set.contains d q) is ∙ set.contains-union dots_total both (arc_value part) q
-      ∙ (λ k. so_far q k || sym (any_of part q) k)
-      ∙ or_assoc (set.contains t q) (any_row (all_rows (take i s)) q) (any_row (rows_in part) q)
-      ∙ ap (λ b. set.contains t q || b) (sym (
-      ap (λ (l : List Row). any_row l q) (rows_pushed (take i s) (take (i + 1) s) (get_or s i part) (rows_in part) (take_more s i part p) (ap rows_in (sym at)))
-      ∙ list_any-append (row_has q) (all_rows (take i s)) (rows_in part)))
+  parts_more s t both more i part p at so_far is q = grind (arith, dots_total, any_of, or_assoc, rows_pushed, take_more, list_any-append)
 
   pub parts_done : (ps s : List (Arc Dots Z)) (dots : Dots) → dots_in (all_rows ps) ≡ dots → s ≡ ps → (t both : Dots) (i : ℕ) → length s ≤ i → ((q : Dot) → set.contains both q ≡ (set.contains t q || any_row (all_rows (take i s)) q)) → both ≡ set.union t dots
   parts_done ps s dots view same t both i end so_far = set.same_set dots_total exact_dots both (set.union t dots) (λ q.

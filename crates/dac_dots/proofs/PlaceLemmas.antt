@@ -94,10 +94,7 @@ kept_set rows i row d p h kept some all = record {
 -- ---- inserting a row
 
 pub any_insert : (rows : List Row) (i : ℕ) (row : Row) (q : Dot) → any_row (insert rows i row) q ≡ (row_has q row || any_row rows q)
-any_insert rows i row q =
-    list_any-append (row_has q) (take i rows) (row ∷ drop i rows)
-    ∙ or_swap (any_row (take i rows) q) (row_has q row) (any_row (drop i rows) q)
-    ∙ ap (λ b. row_has q row || b) (sym (list_any-append (row_has q) (take i rows) (drop i rows)) ∙ ap (λ l. any_row l q) (take-append-drop i rows))
+any_insert rows i row q = grind (arith, list_any-append, or_swap)
 
 each_insert : (P : Row → Type 0) (rows : List Row) (i : ℕ) (row : Row) → AllByRecursion P rows → P row → AllByRecursion P (insert rows i row)
 each_insert P [] zero row all p = (p, tt)
@@ -143,16 +140,10 @@ pub one_has : (d q : Dot) (row : Row) → IsOne d row → row_has q row ≡ eq_b
 one_has d q row is = (λ i. eq_by_cmp origin_cmp q.origin (is.origin i) && is.exact q.n i) ∙ sym (is_eq-then (origin_cmp q.origin d.origin) (nat_cmp q.n d.n))
 
 pub also_has : (d q : Dot) (old row : Row) → old.origin ≡ d.origin → HasAlso old d.n row → row_has q row ≡ (eq_by_cmp dot_cmp q d || row_has q old)
-also_has d q old row at h =
-    (λ i. eq_by_cmp origin_cmp q.origin (h.origin i) && h.exact q.n i)
-    ∙ sym (distribute (eq_by_cmp origin_cmp q.origin old.origin) (eq_by_cmp nat_cmp q.n d.n) (has_counter old q.n))
-    ∙ ap (λ b. b || row_has q old) (ap (λ o. eq_by_cmp origin_cmp q.origin o && eq_by_cmp nat_cmp q.n d.n) at ∙ sym (is_eq-then (origin_cmp q.origin d.origin) (nat_cmp q.n d.n)))
+also_has d q old row at h = grind (arith, distribute, is_eq-then)
 
 pub both_has : (q : Dot) (a b row : Row) → a.origin ≡ b.origin → HasBoth a b row → row_has q row ≡ (row_has q b || row_has q a)
-both_has q a b row at h =
-    (λ i. eq_by_cmp origin_cmp q.origin (h.origin i) && h.exact q.n i)
-    ∙ sym (distribute (eq_by_cmp origin_cmp q.origin a.origin) (has_counter b q.n) (has_counter a q.n))
-    ∙ ap (λ o. (eq_by_cmp origin_cmp q.origin o && has_counter b q.n) || row_has q a) at
+both_has q a b row at h = grind (arith, distribute)
 
 -- a row that is the union of two is a superset of the first
 pub both_grow : (a b row : Row) → HasBoth a b row → HasMore a row
@@ -188,9 +179,7 @@ module _ (rows s : List Row) (dots : Dots) (view : dots_in rows ≡ dots) (kept 
   BetweenIn rows = (i ≤ length rows) × AllWithin (λ (row : Row). origin_cmp row.origin o ≡ Less) rows 0 i × AllWithin (λ (row : Row). origin_cmp row.origin o ≡ Greater) rows i (length rows)
 
   pub found_has : Found → (r : Row) → r ≡ get_or rows i r → (n : ℕ) → set.contains dots (dot o n) ≡ has_counter r n
-  found_has found r is n =
-      let at = subst FoundIn same found in
-      contains_is rows dots view (dot o n) ∙ at_place rows o i r kept.rising at.0 (at.1 r) n ∙ ap (λ (row : Row). has_counter row n) (sym is)
+  found_has found r is n = grind (arith, contains_is, at_place)
 
   pub none_has : Between → (n : ℕ) → set.contains dots (dot o n) ≡ false
   none_has between n = let at = subst BetweenIn same between in contains_is rows dots view (dot o n) ∙ no_place rows o i at.1 at.2 n
@@ -202,11 +191,7 @@ module _ (rows s : List Row) (dots : Dots) (view : dots_in rows ≡ dots) (kept 
         kept_set rows i new r at.0 (h.origin ∙ ap (λ (row : Row). row.origin) is) h.kept (some_from new n (h.exact n ∙ or_left _ _ (is_same n n refl))) kept
 
     pub put_is : (n : ℕ) (new : Row) → HasAlso r n new → dots_in (put_at rows i new) ≡ set.insert dots (dot o n)
-    put_is n new h =
-        let at = subst FoundIn same found in
-        let at_r : r.origin ≡ o = ap (λ (row : Row). row.origin) is ∙ at.1 r in
-        inserted rows (put_at rows i new) dots (dot o n) view (λ q. any_set (eq_by_cmp dot_cmp q (dot o n)) q rows i new r at.0
-        (also_has (dot o n) q r new at_r h ∙ ap (λ (row : Row). eq_by_cmp dot_cmp q (dot o n) || row_has q row) is))
+    put_is n new h = grind (arith, inserted, any_set, also_has)
 
     pub grown_kept : (new : Row) → HasMore r new → AreKept (put_at rows i new)
     grown_kept new h =

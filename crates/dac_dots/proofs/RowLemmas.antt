@@ -168,10 +168,7 @@ module _ (o : Origin) (upto : ℕ) (further counters : List ℕ) (can : IsRising
 -- one more further counter is inserted
 pub parts_more : (further : List ℕ) (upto i : ℕ) (old new : List ℕ) → i < length further → ((n : ℕ) → has_key nat_cmp old n ≡ (has_key nat_cmp (take i further) n || (nat_le 1 n && nat_le n upto))) → ((n : ℕ) → has_key nat_cmp new n ≡ (eq_by_cmp nat_cmp n (get_or further i 0) || has_key nat_cmp old n))
     → (n : ℕ) → has_key nat_cmp new n ≡ (has_key nat_cmp (take (i + 1) further) n || (nat_le 1 n && nat_le n upto))
-parts_more further upto i old new p so_far one n =
-    let inside = nat_le 1 n && nat_le n upto in
-    let here = eq_by_cmp nat_cmp n (get_or further i 0) in
-    one n ∙ ap (λ b. here || b) (so_far n) ∙ or_turn here (has_key nat_cmp (take i further) n) inside ∙ ap (λ b. b || inside) (sym (list_any_more (eq_by_cmp nat_cmp n) further i 0 p))
+parts_more further upto i old new p so_far one n = grind (arith, or_turn, list_any_more)
 
 -- all further counters are inserted
 pub parts_done : (o : Origin) (upto : ℕ) (further counters : List ℕ) (i : ℕ) → length further ≤ i → IsRising nat_cmp ((upto + 1) ∷ further) → IsRising nat_cmp counters → ((n : ℕ) → has_key nat_cmp counters n ≡ (has_key nat_cmp (take i further) n || (nat_le 1 n && nat_le n upto)))

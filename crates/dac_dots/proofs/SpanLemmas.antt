@@ -73,10 +73,7 @@ below_span x span p = below_from x span.first (span.last + 1 - span.first) p
 
 -- are_apart, unfolded for the first span
 pub apart_first : (low : ℕ) (span : Span) (spans : List Span) → are_apart low (span ∷ spans) ≡ true → (low ≤ span.first) × ((span.first ≤ span.last) × (are_apart (span.last + 2) spans ≡ true))
-apart_first low span spans h =
-    let parts = and_parts (nat_le low span.first) (nat_le span.first span.last && are_apart (span.last + 2) spans) h in
-    let rest = and_parts (nat_le span.first span.last) (are_apart (span.last + 2) spans) parts.1 in
-    (leb-true low span.first parts.0, (leb-true span.first span.last rest.0, rest.1))
+apart_first low span spans h = grind (arith, and_parts, leb-true)
 
 pub apart_from : (low : ℕ) (span : Span) (spans : List Span) → low ≤ span.first → span.first ≤ span.last → are_apart (span.last + 2) spans ≡ true → are_apart low (span ∷ spans) ≡ true
 apart_from low span spans p q h = and_from _ _ (le-leb low span.first p) (and_from _ _ (le-leb span.first span.last q) h)
@@ -138,12 +135,7 @@ apart_at low (span ∷ spans) h (suc i) d p =
 pub ends_rise : (low : ℕ) (spans : List Span) → are_apart low spans ≡ true → (i j : ℕ) (d : Span) → i ≤ j → j < length spans → (get_or spans i d).last ≤ (get_or spans j d).last
 ends_rise low [] h i j d p q = absurd (omega arith)
 ends_rise low (span ∷ spans) h zero zero d p q = omega arith
-ends_rise low (span ∷ spans) h zero (suc j) d p q =
-    let is = apart_first low span spans h in
-    let more = apart_at (span.last + 2) spans is.1.1 j d (omega arith) in
-    let a = more.0 in
-    let b = more.1 in
-    omega arith
+ends_rise low (span ∷ spans) h zero (suc j) d p q = grind (arith, apart_first, apart_at)
 ends_rise low (span ∷ spans) h (suc i) zero d p q = absurd (omega arith)
 ends_rise low (span ∷ spans) h (suc i) (suc j) d p q = ends_rise (span.last + 2) spans (apart_first low span spans h).1.1 i j d (omega arith) (omega arith)
 
@@ -159,11 +151,7 @@ joined_has a b c d n p q r s = grind (arith, nat_tests)
 
 hull_next : (span next : Span) (spans : List Span) → next.first ≤ next.last → span.first ≤ next.last + 1 → are_apart (next.last + 2) spans ≡ true → IsNext (hull span next) spans
 hull_next span next [] v p h = tt
-hull_next span next (after ∷ spans) v p h =
-    let is = apart_first (next.last + 2) after spans h in
-    let a = is.0 in
-    let b = is.1.0 in
-    omega arith
+hull_next span next (after ∷ spans) v p h = grind (arith, apart_first)
 
 pub absorbed_has : (span : Span) (spans : List Span) (low : ℕ) → span.first ≤ span.last → IsNext span spans → are_apart low spans ≡ true → (n : ℕ) → any_span (absorbed span spans) n ≡ (span_has n span || any_span spans n)
 absorbed_has span [] low v at h n = refl
@@ -252,13 +240,7 @@ out_after n f l p = grind (arith, nat_tests)
 
 -- if the first span doesn't end before a counter, none does
 pub none_ended : (spans : List Span) → are_apart 0 spans ≡ true → (first : Span) → 0 < length spans → first ≡ get_or spans 0 first → (n : ℕ) → n ≤ first.last → HaveEnded spans 0 n
-none_ended spans h first some is n low = (
-  λ j d p q. absurd (omega arith),
-  λ j d p q.
-      let more = ends_rise 0 spans h 0 j d (omega arith) q in
-      let same : (get_or spans 0 d).last ≡ first.last = ap (λ (r : Span). r.last) (get_or_same spans 0 d first some ∙ sym is) in
-      le-ltb (get_or spans j d).last n (omega arith),
-)
+none_ended spans h first some is n low = grind (arith, ends_rise, get_or_same, le-ltb)
 
 -- if the last span ends before a counter with a gap, all do
 pub place_at_end : (spans : List Span) → are_apart 0 spans ≡ true → (last : Span) → 0 < length spans → last ≡ get_or spans (length spans - 1) last → (n : ℕ) → nat_lt (last.last + 1) n ≡ true → IsPlaceFor spans (length spans) n
@@ -366,9 +348,7 @@ apart_middle low (x ∷ xs) span ys h n e =
     ap (λ b. b || any_span (xs ++ ys) n) (out_after n x.first x.last (omega arith)) ∙ apart_middle (x.last + 2) xs span ys is.1.1 n e
 
 pub put_alone : (span : Span) (spans : List Span) (place : ℕ) → span.first ≤ span.last → IsPlaceFor spans place span.first → are_apart 0 spans ≡ true → absorbed span (drop place spans) ≡ span ∷ drop place spans → (n : ℕ) → span_has n span ≡ true → any_span spans n ≡ false
-put_alone span spans place v at h is n e =
-    ap (λ l. any_span l n) (sym (take-append-drop place spans))
-    ∙ apart_middle 0 (take place spans) span (drop place spans) (ap (λ l. are_apart 0 (take place spans ++ l)) (sym is) ∙ put_apart span spans place 0 v (omega arith) at h) n e
+put_alone span spans place v at h is n e = grind (arith, apart_middle, put_apart)
 
 -- ---- one span, or two
 
@@ -436,11 +416,7 @@ last_none (span ∷ spans) now view none = absurd (omega arith)
 
 -- the last counter before the first gap is the one after which a counter is missing
 pub reaches : (ns : List ℕ) → IsRising nat_cmp ns → (u : ℕ) → ((n : ℕ) → 1 ≤ n → n ≤ u → has_key nat_cmp ns n ≡ true) → has_key nat_cmp ns (u + 1) ≡ false → u ≡ reach_of ns
-reaches ns rising u all end = elim (cases_order u (reach_of ns)) [
-  | inl is ↦ is
-  | inr (inl less) ↦ absurd (true≢false (sym (on_the_way 0 (u + 1) ns (omega arith) (omega arith)) ∙ end))
-  | inr (inr more) ↦ absurd (true≢false (sym (all (reach_of ns + 1) (omega arith) (omega arith)) ∙ ends_there 0 ns rising))
-]
+reaches ns rising u all end = grind (arith, cases_order, on_the_way, ends_there)
 
 module _ (spans : List Span) (h : are_apart 0 spans ≡ true) (now : List ℕ) (view : counters_in spans ≡ now) where
   pub rising_now : IsRising nat_cmp now
@@ -522,15 +498,11 @@ before_next n l = grind (arith, nat_tests)
 
 pub one_listed : (f l : ℕ) → f ≤ l → (old mid new : List ℕ) → ((n : ℕ) → has_key nat_cmp mid n ≡ ((nat_le f n && nat_lt n l) || has_key nat_cmp old n)) → ((n : ℕ) → has_key nat_cmp new n ≡ (eq_by_cmp nat_cmp n l || has_key nat_cmp mid n))
     → (n : ℕ) → has_key nat_cmp new n ≡ ((nat_le f n && nat_lt n (l + 1)) || has_key nat_cmp old n)
-one_listed f l p old mid new so_far one n =
-    one n ∙ ap (λ b. eq_by_cmp nat_cmp n l || b) (so_far n) ∙ sym (or_assoc (eq_by_cmp nat_cmp n l) (nat_le f n && nat_lt n l) (has_key nat_cmp old n))
-    ∙ ap (λ b. b || has_key nat_cmp old n) (further f l n p)
+one_listed f l p old mid new so_far one n = grind (arith, or_assoc, further)
 
 pub all_listed : (f l k : ℕ) → f ≤ k → k ≡ l → (old mid new : List ℕ) → ((n : ℕ) → has_key nat_cmp mid n ≡ ((nat_le f n && nat_lt n k) || has_key nat_cmp old n)) → ((n : ℕ) → has_key nat_cmp new n ≡ (eq_by_cmp nat_cmp n l || has_key nat_cmp mid n))
     → (n : ℕ) → has_key nat_cmp new n ≡ ((nat_le f n && nat_le n l) || has_key nat_cmp old n)
-all_listed f l k p e old mid new so_far one n =
-    one_listed f l (omega arith) old mid new (λ m. so_far m ∙ ap (λ (k : ℕ). (nat_le f m && nat_lt m k) || has_key nat_cmp old m) e) one n
-    ∙ ap (λ b. (nat_le f n && b) || has_key nat_cmp old n) (before_next n l)
+all_listed f l k p e old mid new so_far one n = grind (arith, one_listed, before_next)
 
 pub any_more : (spans : List Span) (i : ℕ) (d : Span) → i < length spans → (n : ℕ) → any_span (take (i + 1) spans) n ≡ (any_span (take i spans) n || span_has n (get_or spans i d))
 any_more spans i d p n = list_any_more (span_has n) spans i d p
@@ -595,23 +567,16 @@ regroup dy dx ty tx = grind arith
 -- a span of the first list is inserted
 pub merged_first : (xs ys : List Span) (i j : ℕ) (d : Span) → i < length xs → (mid new : List ℕ) → ((n : ℕ) → has_key nat_cmp mid n ≡ (any_span (take j ys) n || any_span (take i xs) n)) → ((n : ℕ) → has_key nat_cmp new n ≡ (span_has n (get_or xs i d) || has_key nat_cmp mid n))
     → (n : ℕ) → has_key nat_cmp new n ≡ (any_span (take j ys) n || any_span (take (i + 1) xs) n)
-merged_first xs ys i j d p mid new so_far one n =
-    one n ∙ ap (λ b. span_has n (get_or xs i d) || b) (so_far n) ∙ or_last (span_has n (get_or xs i d)) (any_span (take j ys) n) (any_span (take i xs) n)
-    ∙ ap (λ b. any_span (take j ys) n || b) (sym (any_more xs i d p n))
+merged_first xs ys i j d p mid new so_far one n = grind (arith, or_last, any_more)
 
 -- a span of the second list is inserted
 pub merged_second : (xs ys : List Span) (i j : ℕ) (d : Span) → j < length ys → (mid new : List ℕ) → ((n : ℕ) → has_key nat_cmp mid n ≡ (any_span (take j ys) n || any_span (take i xs) n)) → ((n : ℕ) → has_key nat_cmp new n ≡ (span_has n (get_or ys j d) || has_key nat_cmp mid n))
     → (n : ℕ) → has_key nat_cmp new n ≡ (any_span (take (j + 1) ys) n || any_span (take i xs) n)
-merged_second xs ys i j d p mid new so_far one n =
-    one n ∙ ap (λ b. span_has n (get_or ys j d) || b) (so_far n) ∙ or_turn (span_has n (get_or ys j d)) (any_span (take j ys) n) (any_span (take i xs) n)
-    ∙ ap (λ b. b || any_span (take i xs) n) (sym (any_more ys j d p n))
+merged_second xs ys i j d p mid new so_far one n = grind (arith, or_turn, any_more)
 
 pub merged_both : (xs ys : List Span) (i j : ℕ) (both mid new : List ℕ) → ((n : ℕ) → has_key nat_cmp both n ≡ (any_span (take j ys) n || any_span (take i xs) n)) → ((n : ℕ) → has_key nat_cmp mid n ≡ (any_span (drop i xs) n || has_key nat_cmp both n)) → ((n : ℕ) → has_key nat_cmp new n ≡ (any_span (drop j ys) n || has_key nat_cmp mid n))
     → (n : ℕ) → has_key nat_cmp new n ≡ (any_span ys n || any_span xs n)
-merged_both xs ys i j both mid new so_far first second n =
-    second n ∙ ap (λ b. any_span (drop j ys) n || b) (first n ∙ ap (λ b. any_span (drop i xs) n || b) (so_far n))
-    ∙ regroup (any_span (drop j ys) n) (any_span (drop i xs) n) (any_span (take j ys) n) (any_span (take i xs) n)
-    ∙ (λ k. sym (any_parts ys j n) k || sym (any_parts xs i n) k)
+merged_both xs ys i j both mid new so_far first second n = grind (arith, regroup, any_parts)
 
 take_rest : (spans : List Span) (i : ℕ) → take (length spans - i) (drop i spans) ≡ drop i spans
 take_rest spans i = take_all (length spans - i) (drop i spans) (let left = length-drop i spans in omega arith)
@@ -622,9 +587,7 @@ valid_rest spans all i = subst AreSpans (sym (take_rest spans i)) (valid_drop sp
 pub merged_rest : (xs ys : List Span) (i j : ℕ) (both mid new : List ℕ) → ((n : ℕ) → has_key nat_cmp both n ≡ (any_span (take j ys) n || any_span (take i xs) n))
     → ((n : ℕ) → has_key nat_cmp mid n ≡ (any_span (take (length xs - i) (drop i xs)) n || has_key nat_cmp both n)) → ((n : ℕ) → has_key nat_cmp new n ≡ (any_span (take (length ys - j) (drop j ys)) n || has_key nat_cmp mid n))
     → (n : ℕ) → has_key nat_cmp new n ≡ (any_span ys n || any_span xs n)
-merged_rest xs ys i j both mid new so_far first second = merged_both xs ys i j both mid new so_far
-    (λ n. first n ∙ ap (λ l. any_span l n || has_key nat_cmp both n) (take_rest xs i))
-    (λ n. second n ∙ ap (λ l. any_span l n || has_key nat_cmp mid n) (take_rest ys j))
+merged_rest xs ys i j both mid new so_far first second = grind (arith, merged_both, take_rest)
 
 -- ---- spans that begin above a number
 
@@ -633,9 +596,7 @@ past_one upto spans i d p n = list_any_more (λ (span : Span). nat_lt upto span.
 
 pub past_more : (upto : ℕ) (spans : List Span) (i : ℕ) (d : Span) → i < length spans → nat_lt upto (get_or spans i d).first ≡ true → (old mid new : List ℕ) → ((n : ℕ) → has_key nat_cmp mid n ≡ (any_above upto (take i spans) n || has_key nat_cmp old n)) → ((n : ℕ) → has_key nat_cmp new n ≡ (span_has n (get_or spans i d) || has_key nat_cmp mid n))
     → (n : ℕ) → has_key nat_cmp new n ≡ (any_above upto (take (i + 1) spans) n || has_key nat_cmp old n)
-past_more upto spans i d p above old mid new so_far one n =
-    one n ∙ ap (λ b. span_has n (get_or spans i d) || b) (so_far n) ∙ or_turn (span_has n (get_or spans i d)) (any_above upto (take i spans) n) (has_key nat_cmp old n)
-    ∙ ap (λ b. b || has_key nat_cmp old n) (ap (λ t. any_above upto (take i spans) n || (t && span_has n (get_or spans i d))) (sym above) ∙ sym (past_one upto spans i d p n))
+past_more upto spans i d p above old mid new so_far one n = grind (arith, or_turn, past_one)
 
 pub past_same : (upto : ℕ) (spans : List Span) (i : ℕ) (d : Span) → i < length spans → nat_lt upto (get_or spans i d).first ≡ false → (n : ℕ) → any_above upto (take (i + 1) spans) n ≡ any_above upto (take i spans) n
 past_same upto spans i d p below n = past_one upto spans i d p n ∙ ap (λ t. any_above upto (take i spans) n || (t && span_has n (get_or spans i d))) below ∙ or-false (any_above upto (take i spans) n)
@@ -682,10 +643,7 @@ module _ (spans : List Span) (h : are_apart 0 spans ≡ true) (now : List ℕ) (
       not_zero n u p = grind (arith, nat_tests)
 
       at_zero : (n : ℕ) → (nat_eq n 0 && has_key nat_cmp now 0) ≡ (nat_eq n 0 && has_key nat_cmp now n)
-      at_zero n = elim (cases_Bool (nat_eq n 0)) [
-        | inl e ↦ ap (λ k. nat_eq n 0 && has_key nat_cmp now k) (sym (eqb-true n 0 e))
-        | inr e ↦ ap (λ t. t && has_key nat_cmp now 0) e ∙ sym (ap (λ t. t && has_key nat_cmp now n) e)
-      ]
+      at_zero n = grind (arith, cases_Bool, eqb-true)
 
   pub further_is : (ns : List ℕ) → IsRising nat_cmp ns → ((n : ℕ) → has_key nat_cmp ns n ≡ (any_above (reach_of now) spans n || (nat_eq n 0 && has_key nat_cmp now 0))) → ns ≡ further_of (reach_of now) now
   further_is ns rising all =

@@ -1,5 +1,5 @@
 -- The delta of one operation is its meaning alone.
-use Rattle.std.proofs.Common.{◌≡◌, Bool, true, false, not, cond, ◌&&◌, ◌||◌, List, [], ◌∷◌, Option, None, Some, refl, sym, ap, ◌∙◌}
+use Rattle.std.proofs.Common.{◌≡◌, Bool, true, false, not, cond, ◌&&◌, ◌||◌, List, [], ◌∷◌, Option, None, Some, refl, sym, ap, ◌∙◌, arith}
 use Rattle.std.specs.declared.cmp.Ordering.{Ordering}
 use Rattle.std.specs.Ordering.{eq_by_cmp}
 use Rattle.std.specs.Cmp.{IsTotalOrder}
@@ -57,12 +57,10 @@ one_is_heard o = set.same_set dots_total exact_dots _ _ (λ d.
 -- ---- known dots
 
 or_under : (s t a b : Bool) → (s || a) ≡ (s || b) → (s || (t || a)) ≡ (s || (t || b))
-or_under true t a b h = refl
-or_under false t a b h = ap (λ x. t || x) h
+or_under s t a b h = grind arith
 
 or_twice : (s a b : Bool) → (s || a) ≡ (s || b) → (s || a) ≡ (s || (s || b))
-or_twice true a b h = refl
-or_twice false a b h = h
+or_twice s a b h = grind arith
 
 -- with a dot, a list names the same dots as without it
 without_names : (d x : Dot) (over : List Dot) → (same_dot x d || has_key dot_cmp (without d over) x) ≡ (same_dot x d || has_key dot_cmp over x)
@@ -76,22 +74,10 @@ without_names d x (e ∷ over) =
     ] refl
 
 wish_over : (a : Act) → wish.over_of (wish_in a) ≡ over_list a
-wish_over Up = refl
-wish_over (Down n i) = refl
-wish_over (Permit k v over) = refl
-wish_over (Start k over) = refl
-wish_over (Stop k over) = refl
-wish_over (Drain n i v over) = refl
-wish_over (Claim app term how from) = refl
+wish_over a = grind arith
 
 permit_over : (a : Act) → permit.over_of (permit_in a) ≡ over_list a
-permit_over Up = refl
-permit_over (Down n i) = refl
-permit_over (Permit k v over) = refl
-permit_over (Start k over) = refl
-permit_over (Stop k over) = refl
-permit_over (Drain n i v over) = refl
-permit_over (Claim app term how from) = refl
+permit_over a = grind arith
 
 -- a piece's part of an act names the dots that the act names
 seen_names : {A : Type 0} (over_of : A → List Dot) (nothing : List Dot → A) (sees : Act → A) → ((ds : List Dot) → over_of (nothing ds) ≡ ds) → ((a : Act) → over_of (sees a) ≡ over_list a) → (d x : Dot) (a : Act)
@@ -109,22 +95,11 @@ known_alone o known h = set.same_set dots_total exact_dots _ _ (λ x. h x ∙ sy
 -- ---- start wishes
 
 wish_wishes : (key : Key) (a : Act) → wish.wishes key (wish_in a) ≡ wishes key a
-wish_wishes key Up = refl
-wish_wishes key (Down n i) = refl
-wish_wishes key (Permit k v over) = refl
-wish_wishes key (Start k over) = refl
-wish_wishes key (Stop k over) = refl
-wish_wishes key (Drain n i v over) = refl
-wish_wishes key (Claim app term how from) = refl
+wish_wishes key a = grind arith
 
 -- b: the act replaces its own dot; k: it starts the key; e: it has the dot; r: it replaces the dot
 start_alone : (b k e r : Bool) → (e ≡ true → r ≡ b) → cond b false (k && e) ≡ ((k && e) && not r)
-start_alone true true true r h = sym (ap not (h refl))
-start_alone true true false r h = refl
-start_alone true false e r h = refl
-start_alone false true true r h = sym (ap not (h refl))
-start_alone false true false r h = refl
-start_alone false false e r h = refl
+start_alone b k e r h = grind arith
 
 module _ (o : Operation) (w : Write) where
   -- an operation with the dot replaces it exactly if it replaces itself
@@ -172,11 +147,7 @@ vote_alone b n y false r h = nothing n y r
 
 -- the flag at a key, from a vote's value
 one_said : (down : Bool) (flag : Bool → Flag) → flag down ≡ IsDown → flag (not down) ≡ IsUp → (k v : Bool) → cond k (Some (flag v)) None ≡ flag_written (k && is_same v down) (k && is_same v (not down))
-one_said true flag p q true true = ap (λ f. Some f) p
-one_said true flag p q true false = ap (λ f. Some f) q
-one_said false flag p q true true = ap (λ f. Some f) q
-one_said false flag p q true false = ap (λ f. Some f) p
-one_said down flag p q false v = refl
+one_said down flag p q k v = grind arith
 
 -- a vote with its value as a flag
 abbrev pub as_flag : {K : Type 0} → (Bool → Flag) → Option (K × Bool) → Option (K × Flag)
@@ -189,8 +160,7 @@ module _ {K : Type 0} {R : K → K → Ordering} (total : IsTotalOrder R) (exact
     (of_nothing : (ds : List Dot) → over_of (nothing ds) ≡ ds) (of_seen : (a : Act) → over_of (sees a) ≡ over_list a)
     (no_vote : (ds : List Dot) → votes (nothing ds) ≡ None) (same_vote : (a : Act) → votes (sees a) ≡ as_flag flag (vote a)) where
   one_told : (key : K) (u : Option (K × Bool)) → says_of R key (as_flag flag u) ≡ flag_written (vote_says R key down u) (vote_says R key (not down) u)
-  one_told key None = refl
-  one_told key (Some u) = one_said down flag is_down is_up (eq_by_cmp R key u.0) u.1
+  one_told key u = grind (arith, one_said)
 
   seen_says : (o : Operation) (key : K) → says_of R key (votes (seen_by nothing sees o.dot o.act)) ≡ cond (replaces_itself o.dot o.act) None (flag_written (vote_says R key down (vote o.act)) (vote_says R key (not down) (vote o.act)))
   seen_says o key = elim (replaces_itself o.dot o.act) as (λ b. says_of R key (votes (cond b (nothing (without o.dot (over_list o.act))) (sees o.act))) ≡ cond b None (flag_written (vote_says R key down (vote o.act)) (vote_says R key (not down) (vote o.act)))) [
@@ -214,13 +184,7 @@ module _ {K : Type 0} {R : K → K → Ordering} (total : IsTotalOrder R) (exact
 -- ---- permits
 
 seen_permit_vote : (a : Act) → permit.vote_of (permit_in a) ≡ as_flag flag_of (permit_vote a)
-seen_permit_vote Up = refl
-seen_permit_vote (Down n i) = refl
-seen_permit_vote (Permit k v over) = refl
-seen_permit_vote (Start k over) = refl
-seen_permit_vote (Stop k over) = refl
-seen_permit_vote (Drain n i v over) = refl
-seen_permit_vote (Claim app term how from) = refl
+seen_permit_vote a = grind arith
 
 pub permit_delta_is_meaning : PermitDeltaIsMeaning
 permit_delta_is_meaning o =
@@ -230,22 +194,10 @@ permit_delta_is_meaning o =
 -- ---- drains
 
 drain_over : (a : Act) → drain.over_of (drain_in a) ≡ over_list a
-drain_over Up = refl
-drain_over (Down n i) = refl
-drain_over (Permit k v over) = refl
-drain_over (Start k over) = refl
-drain_over (Stop k over) = refl
-drain_over (Drain n i v over) = refl
-drain_over (Claim app term how from) = refl
+drain_over a = grind arith
 
 seen_drain_vote : (a : Act) → drain.vote_of (drain_in a) ≡ as_flag drain_flag (drain_vote a)
-seen_drain_vote Up = refl
-seen_drain_vote (Down n i) = refl
-seen_drain_vote (Permit k v over) = refl
-seen_drain_vote (Start k over) = refl
-seen_drain_vote (Stop k over) = refl
-seen_drain_vote (Drain n i v over) = refl
-seen_drain_vote (Claim app term how from) = refl
+seen_drain_vote a = grind arith
 
 pub drain_delta_is_meaning : DrainDeltaIsMeaning
 drain_delta_is_meaning o =

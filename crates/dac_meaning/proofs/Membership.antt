@@ -57,8 +57,7 @@ heard_are_dots os d = (
 )
 
 names_if : (d : Dot) (o : Operation) → Names d o → names d o ≡ true
-names_if d o (inl e) = or_left (has_dot d o) (replaces d o) (has_dot_of d o e)
-names_if d o (inr r) = or_right (has_dot d o) (replaces d o) r
+names_if d o p = grind (arith, or_left, has_dot_of, or_right)
 
 of_names : (d : Dot) (o : Operation) → names d o ≡ true → Names d o
 of_names d o t = elim (or_cases (has_dot d o) (replaces d o) t) [ inl e ↦ inl (dot_of d o e) | inr r ↦ inr r ]
@@ -79,13 +78,7 @@ of_stands : (d : Dot) (os : List Operation) → Stands d os → is_replaced d os
 of_stands d os s = false_from_ne_true (is_replaced d os) (λ t. let f = found (replaces d) os t in false≢true (sym (s f.0 f.1.0) ∙ f.1.1))
 
 start_act : (key : Key) (a : Act) → wishes key a ≡ true → (over : List Dot) × (a ≡ Start key over)
-start_act key (Start k over) t = (over, ap (λ j. Start j over) (sym (same_key_is key k t)))
-start_act key Up t = absurd (false≢true t)
-start_act key (Down n i) t = absurd (false≢true t)
-start_act key (Permit k v over) t = absurd (false≢true t)
-start_act key (Stop k over) t = absurd (false≢true t)
-start_act key (Drain n i v over) t = absurd (false≢true t)
-start_act key (Claim app term how from) t = absurd (false≢true t)
+start_act key a t = grind (arith, same_key_is)
 
 start_of : (w : Write) (o : Operation) → IsStart w o → is_start w o ≡ true
 start_of w o s = and_from (wishes w.key o.act) (has_dot w.dot o) (ap (wishes w.key) s.1.1 ∙ same_key_itself w.key) (has_dot_of w.dot o s.0)
@@ -110,17 +103,13 @@ some_pair a b e = ap (λ o. unwrap_or o a) e
 -- ---- votes
 
 same_itself : (v : Bool) → is_same v v ≡ true
-same_itself true = refl
-same_itself false = refl
+same_itself v = grind arith
 
 same_is : (v u : Bool) → is_same v u ≡ true → v ≡ u
-same_is true u t = sym t
-same_is false true t = absurd (false≢true t)
-same_is false false t = refl
+same_is v u t = grind arith
 
 stands_some : (b : Bool) (v : Option Flag) (f : Flag) → cond b None v ≡ Some f → (b ≡ false) × (v ≡ Some f)
-stands_some true v f h = absurd (false≢true (ap is_some h))
-stands_some false v f h = (refl, h)
+stands_some b v f h = grind arith
 
 differs : (b : Bool) → ¬ (not b ≡ b)
 differs true e = false≢true e
@@ -128,10 +117,7 @@ differs false e = false≢true (sym e)
 
 module _ {K : Type 0} {R : K → K → Ordering} (total : IsTotalOrder R) (exact : CmpEqualImpliesEq R) (vote : Act → Option (K × Bool)) (down : Bool) where
   told_is : (key : K) (v : Bool) (u : Option (K × Bool)) → vote_says R key v u ≡ true → u ≡ Some (key, v)
-  told_is key v None t = absurd (false≢true t)
-  told_is key v (Some u) t =
-      let parts = and_parts (eq_by_cmp R key u.0) (is_same u.1 v) t in
-      λ i. Some (sym (tied_is exact key u.0 parts.0) i, same_is u.1 v parts.1 i)
+  told_is key v u t = grind (arith, and_parts)
 
   is_told : (key : K) (v : Bool) → vote_says R key v (Some (key, v)) ≡ true
   is_told key v = and_from (eq_by_cmp R key key) (is_same v v) (ap is_eq (tied_itself total key)) (same_itself v)
@@ -167,8 +153,7 @@ module _ {K : Type 0} {R : K → K → Ordering} (total : IsTotalOrder R) (exact
 
   -- the flag of a vote is that of an operation that writes it
   there_said : (w : KeyedWrite K) (os : List Operation) → DotsDetermine os → (f : Flag) → list_any (is_vote R vote w (value_of down f)) os ≡ true → vote_flag R vote down w os ≡ Some f
-  there_said w os agree IsDown t = ap (λ b. flag_written b (list_any (is_vote R vote w (not down)) os)) t
-  there_said w os agree IsUp t = λ i. flag_written (not_both w os agree t i) (t i)
+  there_said w os agree f t = grind (arith, not_both)
 
   -- a vote stands with a value exactly if an operation writes it with this value and none replaces it
   pub votes_are_unreplaced : (os : List Operation) → DotsDetermine os → (w : KeyedWrite K) (f : Flag) → (vote_at R vote down os w ≡ Some f) ↔ (((o : Operation) × (IsOperationOf o os × IsVote vote w (value_of down f) o)) × Stands w.dot os)
@@ -186,17 +171,10 @@ module _ {K : Type 0} {R : K → K → Ordering} (total : IsTotalOrder R) (exact
 -- ---- permits
 
 permit_act : (key : Key) (v : Bool) (a : Act) → permit_vote a ≡ Some (key, v) → (over : List Dot) × (a ≡ Permit key v over)
-permit_act key v (Permit k u over) t = let p = some_pair (k, u) (key, v) t in (over, λ i. Permit (p i).0 (p i).1 over)
-permit_act key v Up t = absurd (false≢true (ap is_some t))
-permit_act key v (Down n i) t = absurd (false≢true (ap is_some t))
-permit_act key v (Start k over) t = absurd (false≢true (ap is_some t))
-permit_act key v (Stop k over) t = absurd (false≢true (ap is_some t))
-permit_act key v (Drain n i u over) t = absurd (false≢true (ap is_some t))
-permit_act key v (Claim app term how from) t = absurd (false≢true (ap is_some t))
+permit_act key v a t = grind (arith, some_pair)
 
 permit_value : (f : Flag) → value_of false f ≡ is_permitting f
-permit_value IsUp = refl
-permit_value IsDown = refl
+permit_value f = grind arith
 
 pub permits_are_unreplaced : PermitsAreUnreplaced
 permits_are_unreplaced os agree w f =
@@ -212,17 +190,10 @@ permits_are_unreplaced os agree w f =
 -- ---- drains
 
 drain_act : (n : NodeId) (i : ℕ) (v : Bool) (a : Act) → drain_vote a ≡ Some (origin n i, v) → (over : List Dot) × (a ≡ Drain n i v over)
-drain_act n i v (Drain m j u over) t = let p = some_pair (origin m j, u) (origin n i, v) t in (over, λ k. Drain (p k).0.node (p k).0.inc (p k).1 over)
-drain_act n i v Up t = absurd (false≢true (ap is_some t))
-drain_act n i v (Down m j) t = absurd (false≢true (ap is_some t))
-drain_act n i v (Permit k u over) t = absurd (false≢true (ap is_some t))
-drain_act n i v (Start k over) t = absurd (false≢true (ap is_some t))
-drain_act n i v (Stop k over) t = absurd (false≢true (ap is_some t))
-drain_act n i v (Claim app term how from) t = absurd (false≢true (ap is_some t))
+drain_act n i v a t = grind (arith, some_pair)
 
 drain_value : (f : Flag) → value_of true f ≡ says_drained f
-drain_value IsUp = refl
-drain_value IsDown = refl
+drain_value f = grind arith
 
 pub drains_are_unreplaced : DrainsAreUnreplaced
 drains_are_unreplaced os agree w f =
@@ -250,8 +221,7 @@ life_of n l o h = by_act o.act refl h
     by_act (Claim app term how from) e h = absurd (false≢true (ap is_some h))
 
 of_life : (n : NodeId) (l : Life) (o : Operation) → SaysLife n l o → life_said o.dot o.act ≡ Some (n, l)
-of_life n l o (inl s) = ap (life_said o.dot) s.1.0 ∙ (λ i. Some ((s.1.1 i).node, record { inc = (s.1.1 i).inc; flag = sym s.0 i }))
-of_life n l o (inr s) = ap (life_said o.dot) s.1 ∙ (λ i. Some (n, record { inc = l.inc; flag = sym s.0 i }))
+of_life n l o p = grind arith
 
 pub lives_are_greatest : LivesAreGreatest
 lives_are_greatest os n =

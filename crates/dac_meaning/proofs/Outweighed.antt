@@ -1,6 +1,6 @@
 -- In the order of states a vote to drain, or to forbid, prevails.
 use Rattle.std.specs.Prelude.{◌≡◌, Bool, true, false, cond, T, [], ◌∷◌, Option, None, Some, is_some, refl}
-use Rattle.std.proofs.Common.{sym, ap, subst, ◌∙◌, inl, inr, true≢false}
+use Rattle.std.proofs.Common.{sym, ap, subst, ◌∙◌, inl, inr, true≢false, arith}
 use Rattle.std.specs.Ordering.{is_eq}
 use Rattle.std.specs.Cmp.{tied_itself}
 use Rattle.std.specs.FinMap as map
@@ -24,8 +24,7 @@ use Rattle.dac_meaning.specs.Outweighed.{DrainedStays, ForbiddenStays}
 
 -- a standing vote has a value
 stands : (o : Option Flag) → is_some o ≡ true → (f : Flag) × (o ≡ Some f)
-stands None h = absurd (true≢false (sym h))
-stands (Some f) h = (f, refl)
+stands o h = grind arith
 
 -- only Down is above Down
 above_down : (a b : Option Flag) → StandsBelow IsFlagBelow a b → a ≡ Some Down → is_some b ≡ true → b ≡ Some Down
@@ -49,9 +48,7 @@ drained_stays x y state below at keeps drained =
 
 -- only Up is below Up
 below_up : (f g : Flag) → IsFlagBelow f g → g ≡ Up → f ≡ Up
-below_up Up g h e = refl
-below_up Down Up h e = absurd h
-below_up Down Down h e = e
+below_up f g h e = grind arith
 
 none_some : {X : Type 0} {v : X} {Y : Type 0} → ◌≡◌ {A = Option X} None (Some v) → Y
 none_some e = cc

@@ -10,9 +10,7 @@ use Rattle.dac_origins.specs.laws.InOrder.{less, below_more}
 
 -- a conjunct that follows from the next one can be dropped
 and_follows : (x y z : Bool) → (y ≡ true → x ≡ true) → (x && (y && z)) ≡ (y && z)
-and_follows true y z h = refl
-and_follows false true z h = absurd (false≢true (h refl))
-and_follows false false z h = refl
+and_follows x y z h = grind arith
 
 module _ {K : Type 0} {R : K → K → Ordering} (o : IsTotalOrder R) where
   -- a first element below the second one doesn't change whether the list is sorted
@@ -36,9 +34,7 @@ module _ {K : Type 0} {R : K → K → Ordering} (o : IsTotalOrder R) where
   not_rising ks i j e is p not_below = ap (is_rising R) (two_at ks i j e is p) ∙ and_left _ _ (and_left _ _ not_below)
 
   one_rises : (ks : List K) → length ks ≤ 1 → is_rising R ks ≡ true
-  one_rises [] p = refl
-  one_rises (k ∷ []) p = refl
-  one_rises (k ∷ l ∷ ks) p = absurd (omega arith)
+  one_rises ks p = grind arith
 
   -- a list is sorted from its last element on
   pub rising_last : (ks : List K) (i : ℕ) → length ks ≤ i + 1 → is_rising R (drop i ks) ≡ true

@@ -1,5 +1,5 @@
 -- The delta of an operation is below a state exactly if each of its parts is.
-use Rattle.std.proofs.Common.{◌≡◌, true, false, cond, List, ◌↔◌, refl, sym, ap, ◌∙◌, inl, inr}
+use Rattle.std.proofs.Common.{◌≡◌, true, false, cond, List, ◌↔◌, refl, sym, ap, ◌∙◌, inl, inr, arith}
 use Rattle.std.specs.FinSet as set
 use Rattle.std.specs.Ordering.{eq_by_cmp, is_eq}
 use Rattle.std.specs.Cmp.{tied_itself, Equal-is}
@@ -34,31 +34,13 @@ sees_so : {A : Type 0} (nothing : List Dot → A) (sees : Act → A) (d : Dot) (
 sees_so nothing sees d a e = ap (λ b. cond b (nothing (without d (over_list a))) (sees a)) e
 
 permit_so : (a : Act) → permit_in a ≡ permit_act (permit_vote a) (over_list a)
-permit_so Up = refl
-permit_so (Down node inc) = refl
-permit_so (Permit key value over) = refl
-permit_so (Start key over) = refl
-permit_so (Stop key over) = refl
-permit_so (Drain node inc value over) = refl
-permit_so (Claim app term how from) = refl
+permit_so a = grind arith
 
 wish_so : (a : Act) → wish_in a ≡ wish_act (started_in a) (over_list a)
-wish_so Up = refl
-wish_so (Down node inc) = refl
-wish_so (Permit key value over) = refl
-wish_so (Start key over) = refl
-wish_so (Stop key over) = refl
-wish_so (Drain node inc value over) = refl
-wish_so (Claim app term how from) = refl
+wish_so a = grind arith
 
 drain_so : (a : Act) → drain_in a ≡ drain_act (drain_vote a) (over_list a)
-drain_so Up = refl
-drain_so (Down node inc) = refl
-drain_so (Permit key value over) = refl
-drain_so (Start key over) = refl
-drain_so (Stop key over) = refl
-drain_so (Drain node inc value over) = refl
-drain_so (Claim app term how from) = refl
+drain_so a = grind arith
 
 module _ (o : Operation) (sound : IsSound o) where
   pub permit_seen : permit_act (permit_vote o.act) (over_list o.act) ≡ seen_permit o.dot o.act

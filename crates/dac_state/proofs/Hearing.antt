@@ -1,6 +1,6 @@
 -- Conditions under which all known dots were heard.
 use Rattle.std.specs.Prelude.{◌≡◌, List, []}
-use Rattle.std.proofs.Common.{refl, ap}
+use Rattle.std.proofs.Common.{refl, ap, arith}
 use Rattle.std.specs.FinSet as set
 use Rattle.dac_origins.specs.Dots.{Dots, IsSubset}
 use Rattle.dac_origins.specs.declared.dot.Dot.{Dot}
@@ -20,10 +20,4 @@ all_heard h g k m p q a b = same_context (set.union h g) (set.union k m)
 
 -- an operation that replaces nothing knows only its own dot
 pub names_itself : (d : Dot) (a : Act) → over_list a ≡ [] → named_by over_of d (seen_wish d a) ≡ set.insert set.empty d
-names_itself d Up e = refl
-names_itself d (Down node inc) e = refl
-names_itself d (Permit key value over) e = ap (λ (l : List Dot). named_by over_of d (seen_wish d (Permit key value l))) e
-names_itself d (Start key over) e = ap (λ (l : List Dot). named_by over_of d (seen_wish d (Start key l))) e
-names_itself d (Stop key over) e = ap (λ (l : List Dot). named_by over_of d (seen_wish d (Stop key l))) e
-names_itself d (Drain node inc value over) e = ap (λ (l : List Dot). named_by over_of d (seen_wish d (Drain node inc value l))) e
-names_itself d (Claim app term how from) e = refl
+names_itself d a e = grind arith

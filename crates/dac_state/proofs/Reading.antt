@@ -1,5 +1,5 @@
 -- Reading the dots heard and known, and all bytes of a state.
-use Rattle.std.proofs.Common.{◌≡◌, ℕ, Bool, true, false, cond, List, [], ◌++◌, length, Result, Ok, Err, refl, sym, ap, subst, ◌∙◌}
+use Rattle.std.proofs.Common.{◌≡◌, ℕ, Bool, true, false, cond, List, [], ◌++◌, length, Result, Ok, Err, refl, sym, ap, subst, ◌∙◌, arith}
 use Rattle.std.specs.Prelude.{◌==◌, IfOk}
 use Rattle.std.specs.FinSet as set
 use Rattle.std.proofs.lemmas.List.{append-nil, nil_from_length}
@@ -19,8 +19,7 @@ use Rattle.dac_state.specs.StateSpelling.{state_bytes}
 use Rattle.dac_bytes.specs.declared.version.Version.{Version}
 
 not_true : (b : Bool) → (b ≡ true → ⊥) → b ≡ false
-not_true true h = absurd (h refl)
-not_true false h = refl
+not_true b h = grind arith
 
 -- ---- the dots heard and the dots known
 
@@ -62,8 +61,7 @@ module _ (version : Version) (t : Table) (codec : IsCodec (parts_at version t) (
 
   -- the returned state is well-formed, with these bytes as its spelling
   pub state_found : IsBytes bytes → (result : Result StateValue ReadFault) → Gives (λ (s : StateValue). s) result (state_at version t bytes) → IfOk result (λ s. IsInForm version t s × (bytes ≡ state_bytes version s))
-  state_found fits (Ok s) gives = found s fits gives
-  state_found fits (Err e) gives = tt
+  state_found fits result gives = grind (arith, found)
 
   -- a well-formed state is returned for its spelling
   pub state_again : (result : Result StateValue ReadFault) → Gives (λ (s : StateValue). s) result (state_at version t bytes) → (s : StateValue) → IsInForm version t s → bytes ≡ state_bytes version s → Gives (λ (s : StateValue). s) result (Ok s)

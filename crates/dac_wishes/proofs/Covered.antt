@@ -1,6 +1,6 @@
 -- A value is above an operation's delta exactly if it knows the dots that the operation names, and each of its standing
 -- writes is one that such a value can contain.
-use Rattle.std.proofs.Common.{◌≡◌, Bool, true, false, not, cond, ◌&&◌, ◌||◌, List, [], ◌∷◌, Option, None, Some, is_some, ◌↔◌, refl, sym, ap, subst, ◌∙◌, inl, inr}
+use Rattle.std.proofs.Common.{◌≡◌, Bool, true, false, not, cond, ◌&&◌, ◌||◌, List, [], ◌∷◌, Option, None, Some, is_some, ◌↔◌, refl, sym, ap, subst, ◌∙◌, inl, inr, arith}
 use Rattle.std.specs.Prelude.{T}
 use Rattle.std.specs.declared.cmp.Ordering.{Ordering}
 use Rattle.std.specs.Ordering.{eq_by_cmp, is_eq}
@@ -115,16 +115,11 @@ module _ (dot : Dot) (over : List Dot) where
 -- ---- votes
 
 said_below : (o : Option Flag) (g : Flag) → (is_flag_at_most o g ≡ true) ↔ StandsBelow IsFlagBelow o (Some g)
-said_below None g = (λ e. absurd (false≢true e), λ h. absurd h)
-said_below (Some Up) g = (λ _. tt, λ _. refl)
-said_below (Some Down) Up = (λ e. absurd (false≢true e), λ h. absurd h)
-said_below (Some Down) Down = (λ _. tt, λ _. refl)
+said_below o g = grind arith
 
 -- a vote that a value above the delta can contain satisfies the order, if its dot is named
 may_stand : (same replaced : Bool) (said : Option Flag) (g : Flag) → (cond same (is_flag_at_most said g) (not replaced) ≡ true) ↔ ((same || replaced) ≡ true → StandsBelow IsFlagBelow (cond same said None) (Some g))
-may_stand true replaced said g = (λ e _. (said_below said g).0 e, λ f. (said_below said g).1 (f refl))
-may_stand false true said g = (λ e. absurd (false≢true e), λ f. absurd (f refl))
-may_stand false false said g = (λ _ e. absurd (false≢true e), λ _. refl)
+may_stand same replaced said g = grind (arith, said_below)
 
 module _ {K : Type 0} {R : K → K → Ordering} (total : IsTotalOrder R) (exact : CmpEqualImpliesEq R) (dot : Dot) (vote : Option (K × Flag)) (over : List Dot) (v : VotesValue R) where
   abbrev m : List (K × DotFlags)
@@ -178,33 +173,26 @@ module _ {K : Type 0} {R : K → K → Ordering} (total : IsTotalOrder R) (exact
 
 pub permit_covered : (dot : Dot) (permit : Option (Key × Bool)) (over : List Dot) (v : PermissionsValue)
     → (IsSubset (named dot over) v.known × (let_stand key_cmp dot (permits_by (permit_act permit over)) over (votes_by_key key_cmp v.standing) ≡ true)) ↔ IsPermissionsBelow (permit_delta dot (permit_act permit over)) v
-permit_covered dot None over v = votes_covered keys_total exact_keys dot None over v
-permit_covered dot (Some p) over v = votes_covered keys_total exact_keys dot (Some (p.0, permit_flag p.1)) over v
+permit_covered dot permit over v = grind (arith, votes_covered, keys_total, exact_keys)
 
 pub drain_covered : (dot : Dot) (drain : Option (Origin × Bool)) (over : List Dot) (v : DrainsValue)
     → (IsSubset (named dot over) v.known × (let_stand origin_cmp dot (drains_by (drain_act drain over)) over (votes_by_key origin_cmp v.standing) ≡ true)) ↔ AreDrainsBelow (drain_delta dot (drain_act drain over)) v
-drain_covered dot None over v = votes_covered origins_total exact_origins dot None over v
-drain_covered dot (Some p) over v = votes_covered origins_total exact_origins dot (Some (p.0, drain_flag p.1)) over v
+drain_covered dot drain over v = grind (arith, votes_covered, origins_total, exact_origins)
 
 -- ---- start wishes
 
 may_wish : (same replaced wish : Bool) → (cond same wish (not replaced) ≡ true) ↔ ((same || replaced) ≡ true → (wish && same) ≡ true)
-may_wish true replaced true = (λ _ _. refl, λ _. refl)
-may_wish true replaced false = (λ e _. e, λ f. f refl)
-may_wish false true wish = (λ e. absurd (false≢true e), λ f. absurd (false≢true (and_parts wish false (f refl)).1))
-may_wish false false wish = (λ _ e. absurd (false≢true e), λ _. refl)
+may_wish same replaced wish = grind (arith, and_parts)
 
 module _ (dot : Dot) (start : Option Key) (over : List Dot) (v : WishesValue) where
   abbrev ms : List (Key × Dots)
   ms = starts_by_key v.standing
 
   wishes_so : (start : Option Key) (key : Key) → wishes key (wish_act start over) ≡ is_wish_of start key
-  wishes_so None key = refl
-  wishes_so (Some k) key = refl
+  wishes_so start key = grind arith
 
   names_so : (start : Option Key) → (wish_delta dot (wish_act start over)).known ≡ named dot over
-  names_so None = refl
-  names_so (Some k) = refl
+  names_so start = grind arith
 
   wished : (w : Write) → set.contains (wish_delta dot (wish_act start over)).standing w ≡ (is_wish_of start w.key && same_dot w.dot dot)
   wished w = contains-delta dot (wish_act start over) w ∙ ap (λ b. b && same_dot w.dot dot) (wishes_so start w.key)
@@ -217,11 +205,7 @@ module _ (dot : Dot) (start : Option Key) (over : List Dot) (v : WishesValue) wh
 
   stays : let_wishes dot start over ms ≡ true → (w : Write) (o : Option Dots) → find key_cmp w.key ms ≡ o → set.contains (store_at set.empty o) w.dot ≡ true → set.contains (named dot over) w.dot ≡ true
       → (is_wish_of start w.key && same_dot w.dot dot) ≡ true
-  stays h w None is stands there = absurd (false≢true (sym (set.contains-empty dot_cmp w.dot) ∙ stands))
-  stays h w (Some ds) is stands there =
-      (may_wish (same_dot w.dot dot) (has_key dot_cmp over w.dot) (is_wish_of start w.key)).0
-      (named_passes (lets_wish dot start over w.key) (in_order ds) w.dot (found_passes exact_keys (λ (e : Key × Dots). list_all (lets_wish dot start over e.0) (in_order e.1)) ms w.key ds h is) (at_list ds w.dot ∙ stands))
-      (sym (is_named dot over w.dot) ∙ there)
+  stays h w o is stands there = grind arith
 
   wish_below : AreWishesBelow (wish_delta dot (wish_act start over)) v → (key : Key) (ds : Dots) → find key_cmp key ms ≡ Some ds → (d : Dot) → has_key dot_cmp (in_order ds) d ≡ true → lets_wish dot start over key d ≡ true
   wish_below below key ds is d there =

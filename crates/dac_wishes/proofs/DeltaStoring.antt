@@ -1,6 +1,6 @@
 -- The deltas of start wishes, in their stored form.
 use Rattle.std.specs.Prelude.{◌≡◌, Bool, true, false, cond, ◌&&◌, ◌||◌, Some, None, nat_eq, ◌+◌, refl}
-use Rattle.std.proofs.Common.{sym, ap, ◌∙◌}
+use Rattle.std.proofs.Common.{sym, ap, ◌∙◌, arith}
 use Rattle.std.specs.Ordering.{eq_by_cmp}
 use Rattle.std.specs.FinSet as set
 use Rattle.std.specs.FinMap.{find}
@@ -48,8 +48,7 @@ start_keyed d (Start key over) = record { in_order = tt; stores = λ k. start_ke
 start_keyed d (OtherWish over) = record { in_order = tt; stores = λ k. tt }
 
 start_held : (d : Dot) (a : WishAct) (x : Dot) → has_in set.contains (stored_start d a) x ≡ true → same_dot x d ≡ true
-start_held d (Start key over) x e = sym (one_dot d x) ∙ sym (or-false _) ∙ e
-start_held d (OtherWish over) x e = absurd (false≢true e)
+start_held d a x e = grind (arith, one_dot, or-false)
 
 -- a delta's dot is known
 pub start_known : (d : Dot) (a : WishAct) → IsHeld (has_in set.contains (stored_start d a)) (named_by wish.over_of d a)
@@ -60,12 +59,10 @@ abbrev pub stored_wish : Dot → WishAct → StoredDots
 stored_wish d a = record { store = stored_start d a; context = named_by wish.over_of d a }
 
 start_at : (d : Dot) (k e : Bool) (x : Dot) → same_dot x d ≡ e → set.contains (store_at set.empty (cond k (Some (set.insert (set.empty {R = dot_cmp}) d)) None)) x ≡ (k && e)
-start_at d true e x is = one_dot d x ∙ is
-start_at d false e x is = set.contains-empty dot_cmp x
+start_at d k e x is = grind (arith, one_dot)
 
 start_there : (d : Dot) (a : WishAct) (w : Write) → set.contains (store_at set.empty (find key_cmp w.key (stored_start d a))) w.dot ≡ wish.is_start w (d, a)
-start_there d (Start key over) w = start_at d (same_key w.key key) (same_dot w.dot d) w.dot refl
-start_there d (OtherWish over) w = set.contains-empty dot_cmp w.dot
+start_there d a w = grind (arith, start_at)
 
 pub wishes_of-delta : (d : Dot) (a : WishAct) → wishes_of (stored_wish d a) ≡ wish_delta d a
 wishes_of-delta d a = same_wishes (wishes_of (stored_wish d a)) (wish_delta d a) refl (λ w.

@@ -1,5 +1,5 @@
 -- Presence of values: through a reference, of a result without error, and of permits at a key.
-use Rattle.std.proofs.Common.{◌≡◌, Bool, false, List, [], ◌∷◌, length, nat_eq, Option, Some, None, Result, Ok, Err, is_some, Bor, refl, subst}
+use Rattle.std.proofs.Common.{◌≡◌, Bool, false, List, [], ◌∷◌, length, nat_eq, Option, Some, None, Result, Ok, Err, is_some, Bor, refl, subst, arith}
 use Rattle.std.specs.Prelude.{IsOk, IfOk, IfErr}
 use Rattle.std.specs.Option.{option_copied}
 use Rattle.std.specs.List.{list_all}
@@ -9,8 +9,7 @@ use Rattle.dac_lattice.specs.declared.flags.Flag.{Flag}
 use Rattle.dac_wishes.specs.PermissionsValue.{is_permitting, is_permitted_by}
 
 pub is_some-copied : {X : Type 0} (o : Option (Bor X)) → is_some o ≡ is_some (option_copied o)
-is_some-copied None = refl
-is_some-copied (Some x) = refl
+is_some-copied o = grind arith
 
 -- if each error contradicts a fact that holds, there is no error
 pub no_error : {X E : Type 0} (P : E → Type 0) (H : Type 0) (r : Result X E) → IfErr r (λ e. P e × ¬ H) → H → IsOk r
@@ -23,5 +22,4 @@ said_of P r x f e = subst (λ s. IfOk s P) e f
 
 -- if there are permits, all must be true
 pub by_permits : (default : Bool) (ps : List (Dot × Flag)) → nat_eq (length ps) 0 ≡ false → is_permitted_by default ps ≡ list_all (λ (p : Dot × Flag). is_permitting p.1) ps
-by_permits default [] e = absurd (true≢false e)
-by_permits default (p ∷ ps) e = refl
+by_permits default ps e = grind arith

@@ -1,5 +1,5 @@
 -- The set of dots that an operation names, dot by dot.
-use Rattle.std.proofs.Common.{◌≡◌, ◌∙◌, ℕ, ◌+◌, ◌<◌, ◌||◌, List, ◌∷◌, Bool, true, false, length, ap, sym, refl, take, get_or}
+use Rattle.std.proofs.Common.{◌≡◌, ◌∙◌, ℕ, ◌+◌, ◌<◌, ◌||◌, List, ◌∷◌, Bool, true, false, length, ap, sym, refl, take, get_or, arith}
 use Rattle.std.specs.Ordering.{eq_by_cmp}
 use Rattle.std.specs.FinSet as set
 use Rattle.std.proofs.lemmas.List.Folds.{list_any_more}
@@ -10,12 +10,7 @@ use Rattle.dac_origins.specs.Keys.{has_key}
 
 -- d: the operation's own; e: one more; r: one of the earlier ones
 turn : (d e r : Bool) → (e || (d || r)) ≡ (d || (r || e))
-turn true true r = refl
-turn true false r = refl
-turn false true true = refl
-turn false true false = refl
-turn false false true = refl
-turn false false false = refl
+turn d e r = grind arith
 
 -- the set contains the dot and those of the list
 abbrev pub HasNamed : Dot → List Dot → Dots → Type 0

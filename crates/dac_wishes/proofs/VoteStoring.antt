@@ -1,6 +1,6 @@
 -- Votes and the deltas of operations, in their stored form.
 use Rattle.std.specs.Prelude.{◌≡◌, Bool, true, false, cond, ◌||◌, List, [], ◌∷◌, Option, None, Some, is_some, refl}
-use Rattle.std.proofs.Common.{sym, ap, subst, ◌∙◌}
+use Rattle.std.proofs.Common.{sym, ap, subst, ◌∙◌, arith}
 use Rattle.std.specs.declared.cmp.Ordering.{Ordering}
 use Rattle.std.specs.Ordering.{eq_by_cmp}
 use Rattle.std.specs.Cmp.{IsTotalOrder}
@@ -118,28 +118,23 @@ vote_kept d f true = (record { in_order = tt; values = λ x. one_in (same_dot x 
 vote_kept d f false = tt
 
 some_test : (b : Bool) (f : Flag) → (is_some (cond b (Some f) None) || false) ≡ true → b ≡ true
-some_test true f e = refl
-some_test false f e = e
+some_test b f e = grind arith
 
 vote_keyed : {K : Type 0} (R : K → K → Ordering) (d : Dot) (u : Option (K × Flag)) → AreKeyedVotes R (stored_vote d u)
 vote_keyed R d None = record { in_order = tt; stores = λ k. tt }
 vote_keyed R d (Some v) = record { in_order = tt; stores = λ k. vote_kept d v.1 (eq_by_cmp R k v.0) }
 
 vote_held : {K : Type 0} (d : Dot) (u : Option (K × Flag)) (x : Dot) → has_in has_dot (stored_vote d u) x ≡ true → same_dot x d ≡ true
-vote_held d None x e = absurd (false≢true e)
-vote_held d (Some v) x e = some_test (same_dot x d) v.1 e
+vote_held d u x e = grind (arith, some_test)
 
 none_at : (b : Bool) → ◌≡◌ {A = Option Flag} None (cond b None None)
-none_at true = refl
-none_at false = refl
+none_at b = grind arith
 
 vote_at : (d : Dot) (f : Flag) (k : Bool) (x : Dot) → find dot_cmp x (store_at [] (cond k (Some ((d, f) ∷ [])) None)) ≡ cond (same_dot x d) (cond k (Some f) None) None
-vote_at d f true x = refl
-vote_at d f false x = none_at (same_dot x d)
+vote_at d f k x = grind (arith, none_at)
 
 vote_there : {K : Type 0} (R : K → K → Ordering) (d : Dot) (u : Option (K × Flag)) (w : KeyedWrite K) → find dot_cmp w.dot (store_at [] (find R w.key (stored_vote d u))) ≡ cond (same_dot w.dot d) (says_of R w.key u) None
-vote_there R d None w = none_at (same_dot w.dot d)
-vote_there R d (Some v) w = vote_at d v.1 (eq_by_cmp R w.key v.0) w.dot
+vote_there R d u w = grind (arith, none_at, vote_at)
 
 -- a delta's dot is known
 pub vote_held_by : {K : Type 0} (d : Dot) (u : Option (K × Flag)) (over : List Dot) → IsHeld (has_in has_dot (stored_vote d u)) (set.from_list (d ∷ over))

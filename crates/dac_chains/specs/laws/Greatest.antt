@@ -1,6 +1,6 @@
 -- Laws of the definitions in `Greatest`.
 use Rattle.std.specs.Prelude.{◌≡◌, ◌⊎◌, true, false, cond, List, [], ◌∷◌, Option, None, Some, refl}
-use Rattle.std.proofs.Common.{inl, inr, sym, ap, subst, ◌∙◌}
+use Rattle.std.proofs.Common.{inl, inr, sym, ap, subst, ◌∙◌, arith}
 use Rattle.std.specs.declared.cmp.Ordering.{Ordering}
 use Rattle.std.specs.Ordering.{eq_by_cmp, is_eq, is_lt, ord_max}
 use Rattle.std.specs.Cmp.{IsTotalOrder, Equal-is}
@@ -19,10 +19,7 @@ use Rattle.dac_chains.specs.Greatest.{IsSaid, IsGreatest, AreGreatest, AreNotAbo
 
 module _ {T : Type 0} {cmp : T → T → Ordering} (o : IsTotalOrder cmp) (exact : CmpEqualImpliesEq cmp) where
   greatest_one : (P : T → Type 0) (x y : Option T) → IsGreatest cmp P x → IsGreatest cmp P y → x ≡ y
-  greatest_one P None None g h = refl
-  greatest_one P None (Some w) g h = absurd (g w h.0)
-  greatest_one P (Some v) None g h = absurd (h v g.0)
-  greatest_one P (Some v) (Some w) g h = ap (λ z. Some z) ((chain_laws o exact).antisymm v w tt tt (h.1 v g.0) (g.1 w h.0))
+  greatest_one P x y g h = grind (arith, chain_laws, exact)
 
   pub greatest_either : (P Q : T → Type 0) (x y : Option T) → IsGreatest cmp P x → IsGreatest cmp Q y → IsGreatest cmp (λ v. P v ⊎ Q v) (join_options (ord_max cmp) x y)
   greatest_either P Q None None g h = λ v. λ s. elim s [ inl p ↦ g v p | inr q ↦ h v q ]

@@ -1,5 +1,5 @@
 -- The orders of claims and of lives equal their spelled-out forms.
-use Rattle.std.proofs.Common.{◌≡◌, ◌⊎◌, ℕ, ◌<◌, Option, Some, None, inl, inr, refl, sym, ap, subst, ◌∙◌}
+use Rattle.std.proofs.Common.{◌≡◌, ◌⊎◌, ℕ, ◌<◌, Option, Some, None, inl, inr, refl, sym, ap, subst, ◌∙◌, arith}
 use Rattle.std.specs.Prelude.{◌↔◌}
 use Rattle.std.specs.declared.cmp.Ordering.{Ordering}
 use Rattle.std.specs.declared.cmp.Ordering.TheVariants.{Less, Equal, Greater}
@@ -45,24 +45,14 @@ by_numbers : {B : Type 0} (x y : ℕ) (rest : Ordering) → (rest ≡ Less) ↔ 
 by_numbers x y rest more = by_parts (nat_cmp x y) rest (less_is x y) (same_is x y) more
 
 then_apart : (p q r : Ordering) → ordering_then (ordering_then p q) r ≡ ordering_then p (ordering_then q r)
-then_apart Less q r = refl
-then_apart Equal q r = refl
-then_apart Greater q r = refl
+then_apart p q r = grind arith
 
 through : {B : Type 0} {p q : Ordering} → p ≡ q → (q ≡ Less) ↔ B → (p ≡ Less) ↔ B
 through same h = (λ e. h.0 (sym same ∙ e), λ k. same ∙ h.1 k)
 
 -- ---- claims
 how_less : (a b : How) → (how_cmp b a ≡ Less) ↔ IsHowAbove a b
-how_less Normal Normal = (λ e. cc, λ h. absurd h)
-how_less Normal Failover = (λ e. cc, λ h. absurd h)
-how_less Normal Takeover = (λ e. cc, λ h. absurd h)
-how_less Failover Normal = (λ e. tt, λ h. refl)
-how_less Failover Failover = (λ e. cc, λ h. absurd h)
-how_less Failover Takeover = (λ e. cc, λ h. absurd h)
-how_less Takeover Normal = (λ e. tt, λ h. refl)
-how_less Takeover Failover = (λ e. tt, λ h. refl)
-how_less Takeover Takeover = (λ e. cc, λ h. absurd h)
+how_less a b = grind arith
 
 how_same : (a b : How) → (how_cmp b a ≡ Equal) ↔ (b ≡ a)
 how_same a b = (exact b a, λ h. subst (λ (k : How). how_cmp b k ≡ Equal) h (itself b))
@@ -73,21 +63,10 @@ how_same a b = (exact b a, λ h. subst (λ (k : How). how_cmp b k ≡ Equal) h (
     itself Takeover = refl
 
     exact : (b a : How) → how_cmp b a ≡ Equal → b ≡ a
-    exact Normal Normal e = refl
-    exact Normal Failover e = cc
-    exact Normal Takeover e = cc
-    exact Failover Normal e = cc
-    exact Failover Failover e = refl
-    exact Failover Takeover e = cc
-    exact Takeover Normal e = cc
-    exact Takeover Failover e = cc
-    exact Takeover Takeover e = refl
+    exact b a e = grind arith
 
 from_less : (a b : Option NodeId) → (option_cmp node_cmp b a ≡ Less) ↔ IsFromAbove a b
-from_less None None = (λ e. cc, λ h. absurd h)
-from_less None (Some n) = (λ e. cc, λ h. absurd h)
-from_less (Some m) None = (λ e. tt, λ h. refl)
-from_less (Some m) (Some n) = less_is n.0 m.0
+from_less a b = grind (arith, less_is)
 
 pub claims_in_words : ClaimsInWords
 claims_in_words a b =
@@ -99,10 +78,7 @@ claims_in_words a b =
 
 -- ---- lives
 flag_less : (a b : Flag) → (flag_cmp b a ≡ Less) ↔ ((a ≡ Down) × (b ≡ Up))
-flag_less Up Up = (λ e. cc, λ h. cc)
-flag_less Up Down = (λ e. cc, λ h. cc)
-flag_less Down Up = (λ e. (refl, refl), λ h. refl)
-flag_less Down Down = (λ e. cc, λ h. cc)
+flag_less a b = grind arith
 
 pub lives_in_words : LivesInWords
 lives_in_words a b = by_numbers b.inc a.inc (flag_cmp b.flag a.flag) (flag_less a.flag b.flag)

@@ -1,6 +1,6 @@
 -- The test of live incarnations, for every value.
 use Rattle.std.specs.Prelude.{◌≡◌, ◌↔◌, ℕ, Option, None, Some}
-use Rattle.std.proofs.Common.{ap}
+use Rattle.std.proofs.Common.{ap, arith}
 use Rattle.std.specs.Option.{is_some, option_and_then, option_map}
 use Rattle.std.specs.FinMap as map
 use Rattle.std.proofs.lemmas.Bool.{false≢true}
@@ -15,12 +15,10 @@ module _ (lives : Lives) (node : NodeId) where
   live_in life = option_and_then (λ (l : Life). if_up l.inc l.flag) life
 
   by_flag : (i inc : ℕ) (flag : Flag) → if_up i flag ≡ Some inc → ◌≡◌ {A = Option Life} (Some (record { inc = i; flag = flag })) (Some (record { inc = inc; flag = Up }))
-  by_flag i inc Up e = ap (option_map (λ j. record { inc = j; flag = Up })) e
-  by_flag i inc Down e = absurd (false≢true (ap is_some e))
+  by_flag i inc flag e = grind arith
 
   by_life : (life : Option Life) (inc : ℕ) → live_in life ≡ Some inc → life ≡ Some (record { inc = inc; flag = Up })
-  by_life None inc e = absurd (false≢true (ap is_some e))
-  by_life (Some life) inc e = by_flag life.inc inc life.flag e
+  by_life life inc e = grind (arith, by_flag)
 
   -- the test returns an incarnation exactly if it is live
   pub live_is : (inc : ℕ) → (live_at lives node ≡ Some inc) ↔ IsLive lives node inc

@@ -16,10 +16,7 @@ use Rattle.dac_dots.specs.Rows.{Row, row_of, rows_of, origins_of, counters_of, f
 use Rattle.dac_dots.specs.laws.CounterLaws.{on_the_way, ends_there, has_key-filter, rising_filter, has_key-counters, rising_counters}
 
 outside : (v n : ℕ) → (nat_le 1 n && nat_le n v) ≡ false → (nat_lt v n || nat_eq n 0) ≡ true
-outside v n out = elim (and_cases (nat_le 1 n) (nat_le n v) out) [
-  | inl low ↦ or_right _ _ (eq-eqb n 0 (let p = leb-false 1 n low in omega arith))
-  | inr high ↦ or_left _ _ (lt-ltb v n (leb-false n v high))
-]
+outside v n out = grind (arith, and_cases, or_right, leb-false, or_left, lt-ltb)
 
 -- a set of counters that contains 1 to v is 1 to v and the rest
 pub splits : (v n : ℕ) (h : Bool) → ((nat_le 1 n && nat_le n v) ≡ true → h ≡ true) → h ≡ ((nat_le 1 n && nat_le n v) || ((nat_lt v n || nat_eq n 0) && h))

@@ -178,19 +178,11 @@ module _ (dots : Dots) where
       true≢false (sym there ∙ sym (h.exact (x.upto + 1)) ∙ ap (λ (o : Origin). set.contains dots (dot o (x.upto + 1))) (sym same) ∙ g.ends)
 
   same_upto : (x y : Row) → IsRowOf dots x → IsRowOf dots y → x.origin ≡ y.origin → x.upto ≡ y.upto
-  same_upto x y g h same = elim (cases_order x.upto y.upto) [
-    | inl is ↦ is
-    | inr (inl before) ↦ absurd (not_less x y g h same before)
-    | inr (inr beyond) ↦ absurd (not_less y x h g (sym same) beyond)
-  ]
+  same_upto x y g h same = grind (arith, cases_order, not_less)
 
   -- no further counter is in 1 to upto
   outside : (x : Row) → IsRowOf dots x → (n : ℕ) → (nat_le 1 n && nat_le n x.upto) ≡ true → has_key nat_cmp x.further n ≡ false
-  outside x g n inside = false_from_ne_true (has_key nat_cmp x.further n) (λ e.
-      let parts = and_parts _ _ inside in
-      let low = leb-true 1 n parts.0 in
-      let high = leb-true n x.upto parts.1 in
-      elim (g.apart n e) [ inl none ↦ omega arith | inr past ↦ omega arith ])
+  outside x g n inside = grind (arith, false_from_ne_true, and_parts, leb-true)
 
   same_further : (x y : Row) → IsRowOf dots x → IsRowOf dots y → x.origin ≡ y.origin → x.upto ≡ y.upto → x.further ≡ y.further
   same_further x y g h same upto = same_rising nat_cmp_total exact_unsigned x.further y.further g.rising h.rising (λ n.

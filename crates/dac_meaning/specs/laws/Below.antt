@@ -1,6 +1,6 @@
 -- Laws of the definitions in `Below`.
 use Rattle.std.specs.Prelude.{◌≡◌, Bool, true, false, not, ◌&&◌, ◌||◌, List, [], ◌∷◌, Option, Some, None, is_some, refl}
-use Rattle.std.proofs.Common.{sym, ap, subst, ◌∙◌, inl, inr, true≢false}
+use Rattle.std.proofs.Common.{sym, ap, subst, ◌∙◌, inl, inr, true≢false, arith}
 use Rattle.std.proofs.lemmas.Bool.{and_parts, and_from, or_cases}
 use Rattle.std.proofs.lemmas.Map.Lookups.{CmpEqualImpliesEq}
 use Rattle.std.specs.declared.cmp.Ordering.{Ordering}
@@ -48,9 +48,7 @@ passes {R = R} exact p k (m ∷ ks) h there = elim (or_cases (eq_by_cmp R k m) (
 
 module _ {K T : Type 0} {R : K → K → Ordering} (exact : CmpEqualImpliesEq R) (cmp : T → T → Ordering) where
   within-is : (a b : Option T) → (IsOptionBelow (IsAtMost cmp) a b → is_within cmp a b ≡ true) × (is_within cmp a b ≡ true → IsOptionBelow (IsAtMost cmp) a b)
-  within-is None b = (λ _. refl, λ _. tt)
-  within-is (Some v) None = (λ h. absurd h, λ h. absurd (true≢false (sym h)))
-  within-is (Some v) (Some w) = (λ h. h, λ h. h)
+  within-is a b = grind arith
 
   not_above-is : (x y : map.FinMap R T) → (AreNotAbove cmp x y → are_not_above cmp x y ≡ true) × (are_not_above cmp x y ≡ true → AreNotAbove cmp x y)
   not_above-is x y = (
@@ -65,22 +63,16 @@ module _ {K T : Type 0} {R : K → K → Ordering} (exact : CmpEqualImpliesEq R)
 -- ---- permits
 
 flag_below-is : (a b : Flag) → (IsFlagBelow a b → is_flag_below a b ≡ true) × (is_flag_below a b ≡ true → IsFlagBelow a b)
-flag_below-is Up b = (λ _. refl, λ _. tt)
-flag_below-is Down Up = (λ h. absurd h, λ h. absurd (true≢false (sym h)))
-flag_below-is Down Down = (λ _. refl, λ _. tt)
+flag_below-is a b = grind arith
 
 stands_below-is : (a b : Option Flag) → (StandsBelow IsFlagBelow a b → stands_below a b ≡ true) × (stands_below a b ≡ true → StandsBelow IsFlagBelow a b)
-stands_below-is a None = (λ _. refl, λ _. tt)
-stands_below-is None (Some g) = (λ h. absurd h, λ h. absurd (true≢false (sym h)))
-stands_below-is (Some f) (Some g) = flag_below-is f g
+stands_below-is a b = grind (arith, flag_below-is)
 
 if_known : (a b : Bool) → (a ≡ true → b ≡ true) → (not a || b) ≡ true
-if_known true b h = h refl
-if_known false b h = refl
+if_known a b h = grind arith
 
 known_then : (a b : Bool) → a ≡ true → (not a || b) ≡ true → b ≡ true
-known_then true b k h = h
-known_then false b k h = absurd (true≢false (sym k))
+known_then a b k h = grind arith
 
 module _ {K : Type 0} {R : K → K → Ordering} (exact : CmpEqualImpliesEq R) (known : Dots) (x y : Votes R) where
   vote_at_write : (w : KeyedWrite K) (o : Option Flag) → map.get y w ≡ o → votes_below R known x y ≡ true → set.contains known w.dot ≡ true → StandsBelow IsFlagBelow (map.get x w) o

@@ -1,6 +1,6 @@
 -- The laws of meanings: order and repetition don't matter, a meaning is a state, and the join of two meanings is the
 -- meaning of all the operations.
-use Rattle.std.proofs.Common.{◌≡◌, Bool, true, false, not, cond, ◌&&◌, ◌||◌, List, [], ◌∷◌, ◌++◌, Option, None, Some, is_some, refl, sym, ap, ◌∙◌, inl, inr}
+use Rattle.std.proofs.Common.{◌≡◌, Bool, true, false, not, cond, ◌&&◌, ◌||◌, List, [], ◌∷◌, ◌++◌, Option, None, Some, is_some, refl, sym, ap, ◌∙◌, inl, inr, arith}
 use Rattle.std.specs.List.{list_any}
 use Rattle.std.specs.declared.cmp.Ordering.{Ordering}
 use Rattle.std.specs.Cmp.{IsTotalOrder}
@@ -78,9 +78,7 @@ module _ {K : Type 0} (R : K → K → Ordering) (vote : Act → Option (K × Bo
     ]
       where
         either : (a b : Bool) → is_some (flag_written a b) ≡ true → (a || b) ≡ true
-        either true b h = refl
-        either false true h = refl
-        either false false h = h
+        either a b h = grind arith
 
     vote_at-same : (os ps : List Operation) → AreOperationsOf os ps → AreOperationsOf ps os → (w : KeyedWrite K) → vote_at R vote down os w ≡ vote_at R vote down ps w
     vote_at-same os ps f g w = λ i. cond (list_any-same (replaces w.dot) os ps f g i) None (flag_written (list_any-same (is_vote R vote w down) os ps f g i) (list_any-same (is_vote R vote w (not down)) os ps f g i))
@@ -128,37 +126,12 @@ names-or d (o ∷ os) = ap (λ b. (has_dot d o || replaces d o) || b) (names-or 
 -- a, b: started on each side; r, q: replaced there; h, g: heard there
 starts_stand : (a b r q h g : Bool) → (a ≡ true → g ≡ true → b ≡ true) → (b ≡ true → h ≡ true → a ≡ true) →
     (((a && not r) && ((b && not q) || not (q || g))) || ((b && not q) && ((a && not r) || not (r || h)))) ≡ ((a || b) && not (r || q))
-starts_stand true true true true h g f k = refl
-starts_stand true true true false h g f k = refl
-starts_stand true true false true h g f k = refl
-starts_stand true true false false h g f k = refl
-starts_stand true false true q h g f k = refl
-starts_stand true false false true h g f k = refl
-starts_stand true false false false h true f k = absurd (false≢true (f refl refl))
-starts_stand true false false false h false f k = refl
-starts_stand false true true true h g f k = refl
-starts_stand false true true false h g f k = refl
-starts_stand false true false true h g f k = refl
-starts_stand false true false false true g f k = absurd (false≢true (k refl refl))
-starts_stand false true false false false g f k = refl
-starts_stand false false r q h g f k = refl
+starts_stand a b r q h g f k = grind arith
 
 -- u, v: the flag on each side; r, q: replaced there; h, g: heard there
 votes_stand : (r q h g : Bool) (u v : Option Flag) → (is_some u ≡ true → h ≡ true) → (is_some v ≡ true → g ≡ true) → (h ≡ true → g ≡ true → u ≡ v) →
     join_at join_flags (r || h) (q || g) (cond r None u) (cond q None v) ≡ cond (r || q) None (join_options join_flags u v)
-votes_stand true true h g u v a b same = refl
-votes_stand true false h g u None a b same = refl
-votes_stand true false h g u (Some y) a b same = refl
-votes_stand false true h g None v a b same = refl
-votes_stand false true h g (Some x) v a b same = refl
-votes_stand false false h g None None a b same = refl
-votes_stand false false h false (Some x) None a b same = refl
-votes_stand false false true true (Some x) None a b same = absurd (false≢true (sym (ap is_some (same refl refl))))
-votes_stand false false false true (Some x) None a b same = absurd (false≢true (a refl))
-votes_stand false false false g None (Some y) a b same = refl
-votes_stand false false true true None (Some y) a b same = absurd (false≢true (ap is_some (same refl refl)))
-votes_stand false false true false None (Some y) a b same = absurd (false≢true (b refl))
-votes_stand false false h g (Some x) (Some y) a b same = refl
+votes_stand r q h g u v a b same = grind arith
 
 -- the flag of a vote from two lists together
 said-append : {K : Type 0} (R : K → K → Ordering) (vote : Act → Option (K × Bool)) (down : Bool) (w : KeyedWrite K) (os ps : List Operation) → vote_flag R vote down w (os ++ ps) ≡ join_options join_flags (vote_flag R vote down w os) (vote_flag R vote down w ps)

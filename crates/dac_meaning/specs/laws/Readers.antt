@@ -1,5 +1,5 @@
 -- The parts of a meaning, one by one.
-use Rattle.std.proofs.Common.{◌≡◌, Bool, true, false, not, cond, ◌&&◌, ◌||◌, List, ◌∷◌, Option, None, map as list_map, refl, sym, ap, ◌∙◌, Some}
+use Rattle.std.proofs.Common.{◌≡◌, Bool, true, false, not, cond, ◌&&◌, ◌||◌, List, ◌∷◌, Option, None, map as list_map, refl, sym, ap, ◌∙◌, Some, arith}
 use Rattle.std.specs.List.{list_any, flat_map}
 use Rattle.std.specs.declared.cmp.Ordering.{Ordering}
 use Rattle.std.specs.Ordering.{eq_by_cmp}
@@ -35,8 +35,7 @@ use Rattle.dac_meaning.specs.laws.Chained.{are_greatest}
 use Rattle.dac_operations.specs.declared.act.Act.TheVariants.{Up, Down, Permit, Start, Stop, Drain, Claim}
 
 pub or-false : (b : Bool) → (b || false) ≡ b
-or-false true = refl
-or-false false = refl
+or-false b = grind arith
 
 -- heard: an operation has the dot
 pub heard-meaning : (os : List Operation) (d : Dot) → set.contains (meaning_of os).heard d ≡ list_any (has_dot d) os
@@ -51,13 +50,7 @@ known-meaning os d =
     ∙ list_any-flat_map (same_dot d) (λ (o : Operation). o.dot ∷ over_list o.act) os
 
 starts_in-is : (w : Write) (d : Dot) (a : Act) → list_any (eq_by_cmp write_cmp w) (starts_in d a) ≡ (wishes w.key a && same_dot w.dot d)
-starts_in-is w d (Start key over) = or-false _ ∙ same_write w key d
-starts_in-is w d Up = refl
-starts_in-is w d (Down node inc) = refl
-starts_in-is w d (Permit key value over) = refl
-starts_in-is w d (Stop key over) = refl
-starts_in-is w d (Drain node inc value over) = refl
-starts_in-is w d (Claim app term how from) = refl
+starts_in-is w d a = grind (arith, or-false, same_write)
 
 -- start wishes: an operation writes the wish, and none replaces it
 pub starts-meaning : (os : List Operation) (w : Write) → set.contains (meaning_of os).starts w ≡ (list_any (is_start w) os && not (is_replaced w.dot os))
@@ -75,10 +68,7 @@ starts-meaning os w =
 module _ {K : Type 0} {R : K → K → Ordering} (total : IsTotalOrder R) (exact : CmpEqualImpliesEq R) (vote : Act → Option (K × Bool)) (down : Bool) where
   -- an operation that is a vote has its write
   vote_here : (w : KeyedWrite K) (v : Bool) (d : Dot) (u : Option (K × Bool)) → (vote_says R w.key v u && same_dot w.dot d) ≡ true → list_any (eq_by_cmp (keyed_write_cmp R) w) (writes_by_vote d u) ≡ true
-  vote_here w v d None h = absurd (false≢true h)
-  vote_here w v d (Some u) h =
-      let parts = and_parts (eq_by_cmp R w.key u.0 && is_same u.1 v) (same_dot w.dot d) h in
-      or_left (eq_by_cmp (keyed_write_cmp R) w (keyed_write u.0 d)) false (same_keyed_write R w u.0 d ∙ and_from _ _ (and_parts (eq_by_cmp R w.key u.0) (is_same u.1 v) parts.0).0 parts.1)
+  vote_here w v d u h = grind arith
 
   -- the writes of the votes of operations
   abbrev all_told : List Operation → List (KeyedWrite K)
@@ -95,8 +85,7 @@ module _ {K : Type 0} {R : K → K → Ordering} (total : IsTotalOrder R) (exact
       not_said v h = list_any-narrower (is_vote R vote w v) (λ o. list_any (eq_by_cmp (keyed_write_cmp R) w) (writes_by_vote o.dot (vote o.act))) (λ o. vote_here w v o.dot (vote o.act)) os h
 
       nothing : (b : Bool) → ◌≡◌ {A = Option Flag} (cond b None None) None
-      nothing true = refl
-      nothing false = refl
+      nothing b = grind arith
 
   -- the flag from the operations that write the vote, if none replaces it
   pub get-votes_of : (os : List Operation) (w : KeyedWrite K) → map.get (votes_of R vote down os) w ≡ vote_at R vote down os w

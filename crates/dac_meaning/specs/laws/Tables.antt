@@ -1,6 +1,6 @@
 -- Laws of the definitions in `Tables`.
 use Rattle.std.specs.Prelude.{◌≡◌, Bool, true, false, cond, ◌||◌, List, [], ◌∷◌, Option, Some, None, refl}
-use Rattle.std.proofs.Common.{sym, ap, ◌∙◌}
+use Rattle.std.proofs.Common.{sym, ap, ◌∙◌, arith}
 use Rattle.std.specs.declared.cmp.Ordering.{Ordering}
 use Rattle.std.specs.Ordering.{eq_by_cmp}
 use Rattle.std.specs.List.{list_any}
@@ -11,28 +11,17 @@ use Rattle.std.proofs.lemmas.Map.Lookups.{CmpEqualImpliesEq}
 use Rattle.dac_meaning.specs.Tables.{entries_at, table, with_entry}
 
 none_either : {V : Type 0} (b : Bool) (w : Option V) → None ≡ w → cond b w None ≡ w
-none_either true w h = refl
-none_either false w h = h
+none_either b w h = grind arith
 
 pub given_or_none : {V : Type 0} (b : Bool) (v : Option V) → (b ≡ false → v ≡ None) → cond b v None ≡ v
-given_or_none true v h = refl
-given_or_none false v h = sym (h refl)
+given_or_none b v h = grind arith
 
 module _ {K V : Type 0} {R : K → K → Ordering} (o : IsTotalOrder R) (exact : CmpEqualImpliesEq R) (f : K → Option V) (q : K) where
   tied_value : (k : K) → eq_by_cmp R q k ≡ true → f k ≡ f q
   tied_value k t = ap f (sym (exact q k ((Equal-is (R q k)).0 t)))
 
   one_more_entry : (k : K) (v : Option V) (es : List (K × V)) (b : Bool) → v ≡ f k → find R q es ≡ cond b (f q) None → find R q (with_entry k v es) ≡ cond (eq_by_cmp R q k || b) (f q) None
-  one_more_entry k None es b e rest =
-      elim (eq_by_cmp R q k) as (λ t. eq_by_cmp R q k ≡ t → find R q es ≡ cond (t || b) (f q) None) [
-        | true ↦ λ t. rest ∙ none_either b (f q) (e ∙ tied_value k t)
-        | false ↦ λ t. rest
-      ] refl
-  one_more_entry k (Some w) es b e rest =
-      elim (eq_by_cmp R q k) as (λ t. eq_by_cmp R q k ≡ t → cond t (Some w) (find R q es) ≡ cond (t || b) (f q) None) [
-        | true ↦ λ t. e ∙ tied_value k t
-        | false ↦ λ t. rest
-      ] refl
+  one_more_entry k v es b e rest = grind arith
 
   find-entries_at : (ks : List K) → find R q (entries_at f ks) ≡ cond (list_any (eq_by_cmp R q) ks) (f q) None
   find-entries_at [] = refl

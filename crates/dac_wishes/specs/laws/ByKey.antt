@@ -1,6 +1,6 @@
 -- Laws of the definitions in `ByKey`.
 use Rattle.std.specs.Prelude.{◌≡◌, Bool, true, false, not, cond, ◌||◌, T, List, [], ◌∷◌, Option, None, Some, refl, filter, map as list_map}
-use Rattle.std.proofs.Common.{sym, ap, subst, ◌∙◌}
+use Rattle.std.proofs.Common.{sym, ap, subst, ◌∙◌, arith}
 use Rattle.std.specs.declared.cmp.Ordering.{Ordering}
 use Rattle.std.specs.Ordering.{eq_by_cmp}
 use Rattle.std.specs.FinMap.{find, is_sorted}
@@ -96,8 +96,7 @@ module _ {K S : Type 0} {R : K → K → Ordering} (exact_keys : CmpEqualImplies
 module _ {S : Type 0} (is_empty : S → Bool) (nothing : S) where
   -- the value at a key of a list that satisfies the stored invariant
   pub kept_again : (is_store : S → Type 0) (v : Option S) → is_empty nothing ≡ true → IsKept is_store is_empty v → unless_empty is_empty (store_at nothing v) ≡ v
-  kept_again is_store None e u = ap (λ b. cond b None (Some nothing)) e
-  kept_again is_store (Some s) e u = ap (λ b. cond b None (Some s)) u.1
+  kept_again is_store v e u = grind arith
 
   pub again_kept : (s : S) → (is_empty s ≡ true → s ≡ nothing) → store_at nothing (unless_empty is_empty s) ≡ s
   again_kept s one = elim (is_empty s) as (λ b. is_empty s ≡ b → store_at nothing (cond b None (Some s)) ≡ s) [

@@ -1,6 +1,6 @@
 -- The test of drains equals its spelled-out form, for every value.
 use Rattle.std.specs.Prelude.{◌≡◌, ◌↔◌, Bool, true, false, cond, ◌||◌, T, [], ◌∷◌, Option, None, Some, is_some, refl}
-use Rattle.std.proofs.Common.{sym, ap, ◌∙◌, inl, inr}
+use Rattle.std.proofs.Common.{sym, ap, ◌∙◌, inl, inr, arith}
 use Rattle.std.specs.List.{list_any}
 use Rattle.std.specs.Ordering.{is_eq}
 use Rattle.std.specs.Cmp.{tied_itself}
@@ -21,8 +21,7 @@ use Rattle.dac_wishes.specs.DrainsValue.{DrainsValue, drains_at, says_drained, i
 use Rattle.dac_wishes.specs.laws.VotesByKey.{find-votes_at, votes_at-sorted}
 
 down_if : (f : Flag) → says_drained f ≡ true → f ≡ Down
-down_if Up e = absurd (false≢true e)
-down_if Down e = refl
+down_if f e = grind arith
 
 find_first : (p : Dot × Flag) (ps : DotFlags) → find dot_cmp p.0 (p ∷ ps) ≡ Some p.1
 find_first p ps = ap (λ r. cond (is_eq r) (Some p.1) (find dot_cmp p.0 ps)) (tied_itself dots_total p.0)

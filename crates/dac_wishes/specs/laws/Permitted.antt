@@ -1,6 +1,6 @@
 -- The test of permissions equals its spelled-out form, for every value.
 use Rattle.std.specs.Prelude.{◌≡◌, ◌↔◌, ◌⊎◌, Bool, true, false, cond, T, [], ◌∷◌, Option, None, Some, is_some, refl}
-use Rattle.std.proofs.Common.{sym, ap, ◌∙◌, inl, inr}
+use Rattle.std.proofs.Common.{sym, ap, ◌∙◌, inl, inr, arith}
 use Rattle.std.specs.List.{list_all, All}
 use Rattle.std.specs.Ordering.{is_eq}
 use Rattle.std.specs.Cmp.{tied_itself}
@@ -20,8 +20,7 @@ use Rattle.dac_wishes.specs.StoredPermits.{DotFlags}
 use Rattle.dac_wishes.specs.laws.PermitsByKey.{find-permits_at, permits_at-sorted}
 
 up_if : (f : Flag) → is_permitting f ≡ true → f ≡ Up
-up_if Up e = refl
-up_if Down e = absurd (false≢true e)
+up_if f e = grind arith
 
 -- if all permits are true, each that a search finds is
 said_by_all : (ps : DotFlags) → list_all (λ (p : Dot × Flag). is_permitting p.1) ps ≡ true → (d : Dot) (f : Flag) → find dot_cmp d ps ≡ Some f → f ≡ Up
@@ -56,10 +55,7 @@ module _ (default : Bool) where
   permitted_if (p ∷ ps) h = inr ((p, find_first p ps), said_by_all (p ∷ ps) h)
 
   pub if_permitted : (ps : DotFlags) → T (is_sorted dot_cmp ps) → IsPermittedBy ps → is_permitted_by default ps ≡ true
-  if_permitted [] s (inl none) = none.1
-  if_permitted [] s (inr some) = absurd (false≢true (ap is_some some.0.1))
-  if_permitted (p ∷ ps) s (inl none) = absurd (false≢true (ap is_some (sym (none.0 p.0) ∙ find_first p ps)))
-  if_permitted (p ∷ ps) s (inr some) = all_if_each (p ∷ ps) (each_entry dots_total exact_dots (λ d o. (f : Flag) → o ≡ Some f → f ≡ Up) (p ∷ ps) s (λ d f e. some.1 d f e))
+  if_permitted ps s p = grind (arith, find_first, all_if_each, each_entry, dots_total, exact_dots)
 
 -- the test returns whether the key is permitted
 pub is_permitted-is : (key : Key) (default : Bool) (v : PermissionsValue) → (is_permitted key default v ≡ true) ↔ IsPermitted key default v

@@ -1,6 +1,6 @@
 -- Laws of the definitions in `StartsByKey`.
 use Rattle.std.specs.Prelude.{◌≡◌, Bool, true, false, not, cond, ◌&&◌, ◌||◌, T, List, [], ◌∷◌, None, Some, nat_eq, refl}
-use Rattle.std.proofs.Common.{sym, ap, ◌∙◌}
+use Rattle.std.proofs.Common.{sym, ap, ◌∙◌, arith}
 use Rattle.std.specs.List.{list_any, flat_map}
 use Rattle.std.specs.Ordering.{eq_by_cmp, is_eq}
 use Rattle.std.specs.FinSet as set
@@ -36,8 +36,7 @@ list_any-and false p [] = refl
 list_any-and false p (x ∷ xs) = list_any-and false p xs
 
 or_none : (a b : Bool) → b ≡ false → (a || b) ≡ a
-or_none true b e = refl
-or_none false b e = e
+or_none a b e = grind arith
 
 -- whether a write is among those of a key
 in_writes_at : (w : Write) (key : Key) (ds : Dots) → list_any (eq_by_cmp write_cmp w) (writes_at key ds) ≡ (same_key w.key key && set.contains ds w.dot)
@@ -73,10 +72,7 @@ dots_stored m h key = set.same_set dots_total exact_dots _ _ (λ d. sym (contain
 -- ---- to the list by key and back
 
 bare_list : (ds : List Dot) → is_empty_set (set.from_list ds) ≡ is_empty_list ds
-bare_list [] = ap (λ n. nat_eq n 0) (set.len-empty dot_cmp)
-bare_list (d ∷ ds) = false_from_ne_true _ (λ e.
-    let none : set.insert (set.from_list ds) d ≡ set.empty = set.empty_of_len (set.insert (set.from_list ds) d) (eqb-true _ _ e) in
-    false≢true (sym (set.contains-empty dot_cmp d) ∙ ap (λ s. set.contains s d) (sym none) ∙ set.contains-insert dots_total (set.from_list ds) d d ∙ or_left _ _ (ap is_eq (tied_itself dots_total d))))
+bare_list ds = grind (arith, false_from_ne_true, eqb-true)
 
 bare_exactly : (writes : Writes) (key : Key) → is_empty_set (dots_at key writes) ≡ not (has_key key_cmp (keys_of writes) key)
 unfolding keys_of

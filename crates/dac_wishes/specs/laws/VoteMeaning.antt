@@ -1,6 +1,6 @@
 -- Laws of the definitions in `VoteMeaning`.
 use Rattle.std.specs.Prelude.{◌≡◌, Bool, true, false, ◌&&◌, ◌||◌, List, [], ◌∷◌, Option, None, Some, is_some, unwrap_or, cond, refl}
-use Rattle.std.proofs.Common.{sym, ap, ◌∙◌, inl, inr}
+use Rattle.std.proofs.Common.{sym, ap, ◌∙◌, inl, inr, arith}
 use Rattle.std.specs.declared.cmp.Ordering.{Ordering}
 use Rattle.std.specs.List.{list_any}
 use Rattle.std.specs.Ordering.{eq_by_cmp}
@@ -29,13 +29,10 @@ use Rattle.dac_wishes.specs.VoteMeaning.{IsVoteMeaning, or_else, said, says_of, 
 -- ---- the joined deltas of operations are their meaning
 
 one_entry : (k e : Bool) (f : Flag) → cond (k && e) (Some f) None ≡ cond e (cond k (Some f) None) None
-one_entry true e f = refl
-one_entry false true f = refl
-one_entry false false f = refl
+one_entry k e f = grind arith
 
 none_of : (e : Bool) → ◌≡◌ {A = Option Flag} None (cond e None None)
-none_of true = refl
-none_of false = refl
+none_of e = grind arith
 
 joined_again : (f g : Flag) → Some g ≡ Some f → ◌≡◌ {A = Option Flag} (Some (join_flags g f)) (Some f)
 joined_again f g e = ap (λ (x : Flag). Some (join_flags x f)) (ap (λ (o : Option Flag). unwrap_or o Up) e) ∙ same f
@@ -48,30 +45,13 @@ joined_again f g e = ap (λ (x : Flag). Some (join_flags x f)) (ap (λ (o : Opti
 -- the dot, some replaces it, their flag
 one_stands : (e o ov dt : Bool) (st u : Option Flag) → (e ≡ true → o ≡ false) → (is_some st ≡ true → dt ≡ true) → (e ≡ true → dt ≡ true → st ≡ u)
     → join_at join_flags (ov || dt) (e || o) (cond ov None st) (cond e u None) ≡ cond (o || ov) None (or_else (cond e u None) st)
-one_stands true true ov dt st u f g h = absurd (true≢false (f refl))
-one_stands true false true dt st None f g h = refl
-one_stands true false true dt st (Some x) f g h = refl
-one_stands true false false true None None f g h = refl
-one_stands true false false true None (Some x) f g h = absurd (false≢true (ap is_some (h refl refl)))
-one_stands true false false true (Some y) None f g h = absurd (true≢false (ap is_some (h refl refl)))
-one_stands true false false true (Some y) (Some x) f g h = joined_again x y (h refl refl)
-one_stands true false false false None None f g h = refl
-one_stands true false false false None (Some x) f g h = refl
-one_stands true false false false (Some y) u f g h = absurd (false≢true (g refl))
-one_stands false true true dt st u f g h = refl
-one_stands false true false dt None u f g h = refl
-one_stands false true false dt (Some y) u f g h = refl
-one_stands false false true dt st u f g h = refl
-one_stands false false false dt None u f g h = refl
-one_stands false false false dt (Some y) u f g h = refl
+one_stands e o ov dt st u f g h = grind (arith, joined_again)
 
 else_same : {X : Type 0} (x : Option X) → or_else x x ≡ x
-else_same None = refl
-else_same (Some x) = refl
+else_same x = grind arith
 
 pub else_none : {X : Type 0} (x : Option X) → or_else x None ≡ x
-else_none None = refl
-else_none (Some x) = refl
+else_none x = grind arith
 
 module _ {K : Type 0} {R : K → K → Ordering} (total : IsTotalOrder R) (exact : CmpEqualImpliesEq R) {A : Type 0} (over : A → List Dot) (vote : A → Option (K × Flag)) where
   pub get-vote_delta : (d : Dot) (a : A) (w : KeyedWrite K) → map.get (vote_delta R over vote d a).standing w ≡ vote_in R vote w (d, a)

@@ -1,6 +1,6 @@
 -- Laws of the definitions in `WishMeaning`.
 use Rattle.std.specs.Prelude.{◌≡◌, Bool, true, false, not, ◌&&◌, ◌||◌, List, ◌∷◌, refl}
-use Rattle.std.proofs.Common.{sym, ap, ◌∙◌, inl, inr}
+use Rattle.std.proofs.Common.{sym, ap, ◌∙◌, inl, inr, arith}
 use Rattle.std.specs.List.{list_any}
 use Rattle.std.specs.Ordering.{eq_by_cmp}
 use Rattle.std.specs.FinSet as set
@@ -34,28 +34,7 @@ contains-delta d a w = set.contains-from_list writes_total (starts_in d a) w ∙
 -- wish, some has the dot, some replaces it
 one_stands : (k e o st dt ov : Bool) → (e ≡ true → o ≡ false) → (st ≡ true → dt ≡ true) → (e ≡ true → dt ≡ true → st ≡ k)
     → (((st && not ov) && ((k && e) || not (e || o))) || ((k && e) && ((st && not ov) || not (ov || dt)))) ≡ (((k && e) || st) && not (o || ov))
-one_stands k true true st dt ov f g h = absurd (true≢false (f refl))
-one_stands true true false true true true f g h = refl
-one_stands true true false true true false f g h = refl
-one_stands true true false false true ov f g h = absurd (false≢true (h refl refl))
-one_stands false true false true true ov f g h = absurd (true≢false (h refl refl))
-one_stands false true false false true ov f g h = refl
-one_stands k true false true false ov f g h = absurd (false≢true (g refl))
-one_stands true true false false false true f g h = refl
-one_stands true true false false false false f g h = refl
-one_stands false true false false false ov f g h = refl
-one_stands true false true true dt true f g h = refl
-one_stands true false true true dt false f g h = refl
-one_stands true false false true dt true f g h = refl
-one_stands true false false true dt false f g h = refl
-one_stands true false true false dt ov f g h = refl
-one_stands true false false false dt ov f g h = refl
-one_stands false false true true dt true f g h = refl
-one_stands false false true true dt false f g h = refl
-one_stands false false false true dt true f g h = refl
-one_stands false false false true dt false f g h = refl
-one_stands false false true false dt ov f g h = refl
-one_stands false false false false dt ov f g h = refl
+one_stands k e o st dt ov f g h = grind arith
 
 -- a start's dot is that of an operation
 start_has_dot : (w : Write) (os : List (Dot × WishAct)) → list_any (is_start w) os ≡ true → list_any (is_under w.dot) os ≡ true

@@ -6,8 +6,7 @@ use Rattle.dac_state.proofs.Hearing.{names_itself}
 use Rattle.dac_state.proofs.delta.heard_by.Goals as goal
 
 none : (l : List Dot) → length l ≡ 0 → l ≡ []
-none [] e = λ i. []
-none (x ∷ l) e = absurd (omega arith)
+none l e = grind arith
 
 pub returns-then-is_empty : goal.returns-then-is_empty
 returns-then-is_empty c =
