@@ -19,7 +19,7 @@ use Rattle.dac_placement.specs.Choices.{choice_by, load_by, rank_by, verdict_on}
 use Rattle.dac_placement.specs.Placement.{key_at, key_of, is_eligible, is_allowed_at, is_started_at, holder_of, is_up, runs_at, group_held, load_of, rank_of, standing_at, standing_of, verdict_of}
 use Rattle.dac_board.specs.declared.spot.Spot.{Spot}
 use Rattle.dac_board.specs.Boards.{RowValue, spot_of, spots_of, row_of, rows_of}
-use Rattle.dac_board.specs.Rows.{no_row, row_runs, row_at, runs_on, group_in, group_on, is_on, first_on, row_verdict}
+use Rattle.dac_board.specs.Rows.{no_row, row_runs, row_at, runs_on, group_in, group_on, first_on, row_verdict}
 use Rattle.dac_placement.specs.laws.Counting.{load_alike, numbered_app}
 use Rattle.dac_placement.specs.laws.Choosing.{numbered}
 use Rattle.dac_placement.specs.laws.Judged.{judged_same}
@@ -97,16 +97,16 @@ module _ (table : Table) (s : StateValue) where
     spotted node eligible group = cond eligible (option_map (λ (g : ℕ). record { group = g; node = node }) group) None
 
     ranked : (node : NodeId) (load : ℕ) (eligible : Bool) (group : Option ℕ)
-        → cond (is_some (group_in (spotted node eligible group))) (made node load (group_in (spotted node eligible group))) None ≡ cond eligible (made node load group) None
+        → made node load (group_in (spotted node eligible group)) ≡ cond eligible (made node load group) None
     ranked node load false group = refl
     ranked node load true None = refl
     ranked node load true (Some group) = refl
 
     rank_same : (app : AppId) (k : ℕ) → k < node_count table
-        → rank_by (group_on (spots_of table s app)) (is_on (spots_of table s app)) (load_by (runs_on rows) (length rows) app) (numbered k) ≡ rank_of table s app (numbered k)
+        → rank_by (group_on (spots_of table s app)) (load_by (runs_on rows) (length rows) app) (numbered k) ≡ rank_of table s app (numbered k)
     rank_same app k lt =
         let spot : get_or (spots_of table s app) k None ≡ spot_of table s app (numbered k) = filled_at numbered (spot_of table s app) (node_count table) k None lt in
-        (λ i. cond (is_some (group_in (spot i))) (made (numbered k) (load_same app (numbered k) i) (group_in (spot i))) None)
+        (λ i. made (numbered k) (load_same app (numbered k) i) (group_in (spot i)))
         ∙ ranked (numbered k) (load_of table s app (numbered k)) (is_eligible table s app (numbered k)) (group_of table app (numbered k))
 
     pub verdict_same : (app : AppId) → app.0 < app_count table → row_verdict rows app ≡ verdict_of table s app
@@ -115,5 +115,5 @@ module _ (table : Table) (s : StateValue) where
         let standing : Standing = standing_of table s app in
         ap (λ (o : Option RowValue). option_map_or (λ (row : RowValue). verdict_on row.standing row.group (first_on rows app row.spots)) o Nobody)
         (slice_get-get_or rows app.0 no_row (omega (arith, length_rows)) ∙ ap (λ x. Some x) (row_is app lt))
-        ∙ ap (λ n. verdict_on standing (group_held table app standing) (choice_by (group_on spots) (is_on spots) (load_by (runs_on rows) (length rows) app) n)) (length_filled numbered (spot_of table s app) (node_count table))
-        ∙ judged_same table s app (rank_by (group_on spots) (is_on spots) (load_by (runs_on rows) (length rows) app)) standing (group_held table app standing) refl refl (rank_same app)
+        ∙ ap (λ n. verdict_on standing (group_held table app standing) (choice_by (group_on spots) (load_by (runs_on rows) (length rows) app) n)) (length_filled numbered (spot_of table s app) (node_count table))
+        ∙ judged_same table s app (rank_by (group_on spots) (load_by (runs_on rows) (length rows) app)) standing (group_held table app standing) refl refl (rank_same app)

@@ -42,12 +42,9 @@ group_in spot = option_map (λ (p : Spot). p.group) spot
 abbrev pub group_on : List (Option Spot) → NodeId → Option ℕ
 group_on spots node = group_in (get_or spots node.0 None)
 
-abbrev pub is_on : List (Option Spot) → NodeId → Bool
-is_on spots node = is_some (group_on spots node)
-
 -- the first choice for an application with these eligible nodes
 abbrev pub first_on : List RowValue → AppId → List (Option Spot) → Option Choice
-first_on rows app spots = choice_by (group_on spots) (is_on spots) (load_by (runs_on rows) (length rows) app) (length spots)
+first_on rows app spots = choice_by (group_on spots) (load_by (runs_on rows) (length rows) app) (length spots)
 
 -- the verdict of an application, by its row and those of the others
 abbrev pub row_verdict : List RowValue → AppId → Verdict

@@ -1,6 +1,6 @@
 //! Rows and their eligible nodes, as what tells where applications run and which nodes are candidates.
 ghost use Rattle.std.specs.Prelude.{◌≡◌, ◌<◌, ◌^◌, length};
-ghost use Rattle.dac_board.specs.Rows.{group_in, group_on, is_on, runs_on};
+ghost use Rattle.dac_board.specs.Rows.{group_in, group_on, runs_on};
 
 use crate::row::Row;
 use crate::spot::Spot;
@@ -43,8 +43,6 @@ impl<'a> Candidates for Spots<'a> {
 
     ghost group = { λ it node. group_on it.spots.now node };
 
-    ghost eligible = { λ it node. is_on it.spots.now node };
-
     fn nodes(&self) -> u8 {
         self.spots.len() as u8
     }
@@ -54,10 +52,6 @@ impl<'a> Candidates for Spots<'a> {
             Some(spot) => group_in(*spot),
             None => None,
         }
-    }
-
-    fn is_eligible(&self, node: NodeId) -> bool {
-        self.group(node).is_some()
     }
 }
 

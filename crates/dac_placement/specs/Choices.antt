@@ -6,13 +6,15 @@ use Rattle.std.specs.Option.{option_map, option_and_then}
 use Rattle.std.specs.Ordering.{ord_min}
 use Rattle.dac_base.specs.declared.NodeId.{NodeId}
 use Rattle.dac_base.specs.declared.AppId.{AppId}
+use Rattle.dac_config.specs.Table.{Table, group_of}
+use Rattle.dac_state.specs.StateValue.{StateValue}
 use Rattle.dac_placement.specs.declared.leading.Lead.{Lead}
 use Rattle.dac_placement.specs.declared.ranking.Choice.{Choice}
 use Rattle.dac_placement.specs.declared.standing.Standing.{Standing}
 use Rattle.dac_placement.specs.declared.standing.Standing.TheVariants.{Unclaimed, Lost, Stopped, Barred, Upheld}
 use Rattle.dac_placement.specs.declared.verdicts.Verdict.{Verdict}
 use Rattle.dac_placement.specs.declared.verdicts.Verdict.TheVariants.{Start, Failover, Halted, Move, Takeover, Kept, Nobody}
-use Rattle.dac_placement.specs.Placement.{is_less}
+use Rattle.dac_placement.specs.Placement.{is_eligible, is_less}
 use Rattle.dac_placement.specs.Ranks.{Rank, rank_cmp}
 
 -- how many of the first n applications, other than this one, run at the node
@@ -20,17 +22,18 @@ abbrev pub load_by : (AppId → NodeId → Bool) → ℕ → AppId → NodeId �
 load_by runs n app node =
     length (filter (λ other. not (other.0 == app.0) && runs other node) (list_map (λ k. record { 0 = k }) (range_with_len 0 n)))
 
--- the rank of an eligible node: group, load and name
-abbrev pub rank_by : (NodeId → Option ℕ) → (NodeId → Bool) → (NodeId → ℕ) → NodeId → Option Rank
-rank_by groups may loads node =
-    if may node then option_map (λ group. record { group = group; load = loads node; node = node }) (groups node)
-    else None
+-- the group of a node in the application's list, if it is eligible
+abbrev pub group_if : Table → StateValue → AppId → NodeId → Option ℕ
+group_if table s app node = if is_eligible table s app node then group_of table app node else None
 
--- the rank of a node, if it is in this group and eligible
-abbrev pub rank_in : (NodeId → Option ℕ) → (NodeId → Bool) → (NodeId → ℕ) → ℕ → NodeId → Option Rank
-rank_in groups may loads group node = option_and_then (λ own.
-    if (own == group) && may node then Some (record { group = group; load = loads node; node = node }) else None)
-    (groups node)
+-- the rank of an eligible node: group, load and name
+abbrev pub rank_by : (NodeId → Option ℕ) → (NodeId → ℕ) → NodeId → Option Rank
+rank_by groups loads node = option_map (λ group. record { group = group; load = loads node; node = node }) (groups node)
+
+-- the rank of an eligible node, if it is in this group
+abbrev pub rank_in : (NodeId → Option ℕ) → (NodeId → ℕ) → ℕ → NodeId → Option Rank
+rank_in groups loads group node = option_and_then (λ own.
+    if own == group then Some (record { group = group; load = loads node; node = node }) else None) (groups node)
 
 -- the least rank of the first n nodes
 abbrev pub first_of : (NodeId → Option Rank) → ℕ → Option Rank
@@ -41,8 +44,8 @@ abbrev pub choice_of : Rank → Choice
 choice_of rank = record { group = rank.group; node = rank.node }
 
 -- the first choice among the first n nodes
-abbrev pub choice_by : (NodeId → Option ℕ) → (NodeId → Bool) → (NodeId → ℕ) → ℕ → Option Choice
-choice_by groups may loads n = option_map choice_of (first_of (rank_by groups may loads) n)
+abbrev pub choice_by : (NodeId → Option ℕ) → (NodeId → ℕ) → ℕ → Option Choice
+choice_by groups loads n = option_map choice_of (first_of (rank_by groups loads) n)
 
 -- ---- the lead, found before any load is computed
 
@@ -57,10 +60,6 @@ pub record IsLead (lead : Lead) (first : Option Rank) : Type 0 where
 abbrev pub Leads : Option Lead → Option Rank → Type 0
 Leads None first = first ≡ None
 Leads (Some lead) first = IsLead lead first
-
--- the group of a node if it is eligible
-abbrev pub group_by : (NodeId → Option ℕ) → (NodeId → Bool) → NodeId → Option ℕ
-group_by groups may node = if may node then groups node else None
 
 -- the lead after a later node of this group
 abbrev pub beside : Lead → ℕ → NodeId → Lead

@@ -28,21 +28,14 @@ pub trait Candidates {
     /// How many nodes there are.
     ghost nodes: { Self → ℕ };
 
-    /// A node's group in the application's list.
+    /// The group of a node in the application's list, if it is eligible.
     ghost group: { Self → Node → Option ℕ };
-
-    /// Whether a node in a group can run the application.
-    ghost eligible: { Self → Node → Bool };
 
     /// How many nodes there are.
     fn nodes(&self) -> u8
         ensures { result ≡ nodes self.now };
 
-    /// A node's group in the application's list, from 0.
+    /// The group of a node in the application's list, from 0, if it is eligible.
     fn group(&self, node: NodeId) -> Option<u16>
         ensures { result ≡ group self.now node };
-
-    /// Whether a node in a group can run the application.
-    fn is_eligible(&self, node: NodeId) -> bool
-        ensures { result ≡ eligible self.now node };
 }

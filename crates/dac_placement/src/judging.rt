@@ -22,8 +22,8 @@ pub fn verdict_for<R: Runs, C: Candidates>(
     late: Option<u16>,
 ) -> Verdict
     ensures { result ≡ verdict_on standing late
-        (choice_by (C.group candidates.now) (C.eligible candidates.now)
-        (load_by (R.runs runners.now) (R.apps runners.now) app) (C.nodes candidates.now)) }
+        (choice_by (C.group candidates.now) (load_by (R.runs runners.now) (R.apps runners.now) app)
+        (C.nodes candidates.now)) }
 {
     match settled_verdict(candidates, standing, late) {
         Some(verdict) => verdict,
@@ -38,8 +38,7 @@ pub fn settled_verdict<C: Candidates>(
     late: Option<u16>,
 ) -> Option<Verdict>
     ensures { (loads : Node → ℕ) → IfSome result (λ verdict. verdict ≡ verdict_on standing late
-        (choice_by (C.group candidates.now) (C.eligible candidates.now) loads
-        (C.nodes candidates.now))) }
+        (choice_by (C.group candidates.now) loads (C.nodes candidates.now))) }
 {
     if let Some(verdict) = early_verdict(standing, late) {
         return Some(verdict);

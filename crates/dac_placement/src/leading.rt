@@ -1,7 +1,7 @@
 //! The first node by groups alone, found before any load is computed.
 ghost use Rattle.std.specs.Prelude.{◌≡◌, ℕ};
 ghost use Rattle.dac_base.specs.declared.NodeId.{NodeId as Node};
-ghost use Rattle.dac_placement.specs.Choices.{Leads, beside, first_of, group_by, lead_with, rank_by};
+ghost use Rattle.dac_placement.specs.Choices.{Leads, beside, first_of, lead_with, rank_by};
 
 use crate::candidates::Candidates;
 use dac_base::NodeId;
@@ -20,26 +20,15 @@ pub struct Lead {
 /// The lead among all nodes, if any is eligible. It doesn't depend on loads.
 pub fn leader<C: Candidates>(candidates: &C) -> Option<Lead>
     ensures { (loads : Node → ℕ) → Leads result
-        (first_of (rank_by (C.group candidates.now) (C.eligible candidates.now) loads)
-        (C.nodes candidates.now)) }
+        (first_of (rank_by (C.group candidates.now) loads) (C.nodes candidates.now)) }
 {
     let mut lead = None;
     for number in 0..candidates.nodes() {
         let node = NodeId(number);
-        let group = group_if(candidates, node);
+        let group = candidates.group(node);
         lead = lead_with(lead, group, node);
     }
     lead
-}
-
-/// The group of a node in the application's list, if it is eligible.
-fn group_if<C: Candidates>(candidates: &C, node: NodeId) -> Option<u16>
-    ensures { result ≡ group_by (C.group candidates.now) (C.eligible candidates.now) node }
-{
-    if !candidates.is_eligible(node) {
-        return None;
-    }
-    candidates.group(node)
 }
 
 /// The lead after a later node, whose group is given if it is eligible.

@@ -38,7 +38,7 @@ pub fn first_choice_by<R: Runs, C: Candidates>(
     candidates: &C,
     app: AppId,
 ) -> Option<Choice>
-    ensures { result ≡ choice_by (C.group candidates.now) (C.eligible candidates.now)
+    ensures { result ≡ choice_by (C.group candidates.now)
         (load_by (R.runs runners.now) (R.apps runners.now) app) (C.nodes candidates.now) }
 {
     let lead = leader(candidates)?;
@@ -53,9 +53,9 @@ fn least_ranked<R: Runs, C: Candidates>(
     lead: Lead,
 ) -> Option<Choice>
     requires { IsLead lead
-        (first_of (rank_by (C.group candidates.now) (C.eligible candidates.now)
+        (first_of (rank_by (C.group candidates.now)
         (load_by (R.runs runners.now) (R.apps runners.now) app)) (C.nodes candidates.now)) }
-    ensures { result ≡ choice_by (C.group candidates.now) (C.eligible candidates.now)
+    ensures { result ≡ choice_by (C.group candidates.now)
         (load_by (R.runs runners.now) (R.apps runners.now) app) (C.nodes candidates.now) }
 {
     let mut first = None;
@@ -70,7 +70,7 @@ fn least_ranked<R: Runs, C: Candidates>(
     })
 }
 
-/// The rank of a node, if it is in this group and eligible. The group is compared first because that is cheapest.
+/// The rank of an eligible node, if it is in this group.
 fn rank_in<R: Runs, C: Candidates>(
     runners: &R,
     candidates: &C,
@@ -78,11 +78,11 @@ fn rank_in<R: Runs, C: Candidates>(
     group: u16,
     node: NodeId,
 ) -> Option<Rank>
-    ensures { result ≡ rank_in (C.group candidates.now) (C.eligible candidates.now)
+    ensures { result ≡ rank_in (C.group candidates.now)
         (load_by (R.runs runners.now) (R.apps runners.now) app) group node }
 {
     let own = candidates.group(node)?;
-    if own != group || !candidates.is_eligible(node) {
+    if own != group {
         return None;
     }
     let load = load_by(runners, app, node);

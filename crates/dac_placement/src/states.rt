@@ -1,7 +1,8 @@
 //! A state under a configuration, as what tells where applications run and which nodes are candidates.
 ghost use Rattle.std.specs.Prelude.{◌<◌};
-ghost use Rattle.dac_config.specs.Table.{app_count, group_of, node_count};
-ghost use Rattle.dac_placement.specs.Placement.{is_eligible, runs_at};
+ghost use Rattle.dac_config.specs.Table.{app_count, node_count};
+ghost use Rattle.dac_placement.specs.Choices.{group_if};
+ghost use Rattle.dac_placement.specs.Placement.{runs_at};
 
 use crate::candidates::{Candidates, Runs};
 use crate::eligibility::eligible;
@@ -43,19 +44,16 @@ pub(crate) struct Listed<'a> {
 impl<'a> Candidates for Listed<'a> {
     ghost nodes = { λ it. node_count it.config.now };
 
-    ghost group = { λ it node. group_of it.config.now it.app node };
-
-    ghost eligible = { λ it node. is_eligible it.config.now it.state.now it.app node };
+    ghost group = { λ it node. group_if it.config.now it.state.now it.app node };
 
     fn nodes(&self) -> u8 {
         self.config.nodes()
     }
 
     fn group(&self, node: NodeId) -> Option<u16> {
+        if !eligible(self.config, self.state, self.app, node) {
+            return None;
+        }
         self.config.group_of(self.app, node)
-    }
-
-    fn is_eligible(&self, node: NodeId) -> bool {
-        eligible(self.config, self.state, self.app, node)
     }
 }

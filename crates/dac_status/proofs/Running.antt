@@ -20,7 +20,7 @@ use Rattle.dac_placement.specs.laws.Counting.{load_alike}
 use Rattle.dac_placement.specs.laws.Tests as tests
 use Rattle.dac_status.specs.declared.marks.Mark.{Mark}
 use Rattle.dac_status.specs.declared.marks.Mark.TheVariants.{Down}
-use Rattle.dac_status.specs.Kept.{is_ok, is_there, runners_of, runs_in}
+use Rattle.dac_status.specs.Kept.{group_by, is_ok, is_there, runners_of, runs_in}
 use Rattle.dac_status.specs.Summaries.{live_in, mark_at, mark_of, marks_of}
 use Rattle.dac_status.proofs.Places.{app_numbered, node_numbered, placed_at}
 use Rattle.dac_status.proofs.Staying.{mark_placed, marked}
@@ -68,14 +68,14 @@ module _ (table : Table) (s : StateValue) (app : AppId) where
   abbrev made : NodeId → ℕ → Option ℕ → Option Rank
   made node load group = option_map (λ (g : ℕ). record { group = g; load = load; node = node }) group
 
-  by_group : (node : NodeId) (load : ℕ) (ok : Bool) (group : Option ℕ) → cond ok (made node load group) None ≡ cond (is_some group && ok) (made node load group) None
+  by_group : (node : NodeId) (load : ℕ) (ok : Bool) (group : Option ℕ) → made node load (cond ok group None) ≡ cond (is_some group && ok) (made node load group) None
   by_group node load true None = refl
   by_group node load true (Some g) = refl
   by_group node load false None = refl
   by_group node load false (Some g) = refl
 
   pub rank_is : (node : NodeId) (ok : Bool) (group : Option ℕ) (load : ℕ) → is_ok (mark_of table s app node) ≡ ok → group_of table app node ≡ group → load_of table s app node ≡ load
-      → cond ok (made node load group) None ≡ rank_of table s app node
+      → made node load (cond ok group None) ≡ rank_of table s app node
   rank_is node ok group load of_mark of_group of_load =
       by_group node load ok group
       ∙ (λ i. cond (is_some (sym of_group i) && sym of_mark i) (made node (sym of_load i) (sym of_group i)) None)
@@ -94,7 +94,7 @@ module _ (table : Table) (s : StateValue) (app : AppId) where
 
   -- the rank of a node by its mark, and by the runners of applications
   abbrev pub rank_seen : List (Option NodeId) → List Mark → NodeId → Option Rank
-  rank_seen runners marks = rank_by (group_of table app) (λ node. is_ok (get_or marks node.0 Down)) (load_by (runs_in runners) (app_count table) app)
+  rank_seen runners marks = rank_by (λ node. group_by (get_or marks node.0 Down) (group_of table app node)) (load_by (runs_in runners) (app_count table) app)
 
   pub rank_by_marks : (runners : List (Option NodeId)) (marks : List Mark) → runners ≡ runners_of table s → marks ≡ marks_of table s app → (n : ℕ) → n < node_count table
       → rank_seen runners marks (node_numbered n) ≡ rank_of table s app (node_numbered n)

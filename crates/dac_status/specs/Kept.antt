@@ -1,5 +1,5 @@
 -- Eligible nodes by their marks, and the node at which each application runs.
-use Rattle.std.specs.Prelude.{◌==◌, Bool, true, false, List, get_or, map as list_map, Option, None}
+use Rattle.std.specs.Prelude.{ℕ, ◌==◌, Bool, true, false, List, get_or, map as list_map, Option, None, if◌then◌else◌}
 use Rattle.std.specs.Option.{option_map_or}
 use Rattle.std.specs.FinMap as map
 use Rattle.dac_base.specs.declared.limits.TheConstants.{MAX_APPS}
@@ -21,6 +21,10 @@ is_ok Barred = false
 is_ok Drained = false
 is_ok Idle = false
 is_ok Ok = true
+
+-- the group of a node in an application's list, if the node of this mark is eligible
+abbrev pub group_by : Mark → Option ℕ → Option ℕ
+group_by mark group = if is_ok mark then group else None
 
 -- an application of this runner runs at the node
 abbrev pub is_there : Option NodeId → NodeId → Bool

@@ -2,7 +2,7 @@
 ghost use Rattle.std.specs.Prelude.{◌≡◌, ◌<◌, get_or};
 ghost use Rattle.dac_config.specs.Table.{app_count, group_of, node_count};
 ghost use Rattle.dac_status.specs.declared.marks.Mark.TheVariants.{Down};
-ghost use Rattle.dac_status.specs.Kept.{is_ok, is_there, runs_in};
+ghost use Rattle.dac_status.specs.Kept.{group_by, is_ok, is_there, runs_in};
 
 use crate::kept::is_ok;
 use crate::marks::Mark;
@@ -57,23 +57,28 @@ pub(crate) struct Marked<'a> {
 impl<'a> Candidates for Marked<'a> {
     ghost nodes = { λ it. node_count it.config.now };
 
-    ghost group = { λ it node. group_of it.config.now it.app node };
-
-    ghost eligible = { λ it node. is_ok (get_or it.marks.now node.0 Down) };
+    ghost group = { λ it node. group_by (get_or it.marks.now node.0 Down)
+        (group_of it.config.now it.app node) };
 
     fn nodes(&self) -> u8 {
         self.config.nodes()
     }
 
     fn group(&self, node: NodeId) -> Option<u16> {
-        self.config.group_of(self.app, node)
-    }
-
-    fn is_eligible(&self, node: NodeId) -> bool {
-        let marks = self.marks;
-        match marks.get(node.0 as usize) {
-            Some(mark) => is_ok(*mark),
-            None => false,
+        if is_ok_at(self.marks, node) {
+            self.config.group_of(self.app, node)
+        } else {
+            None
         }
+    }
+}
+
+/// Whether nothing keeps the application from a node.
+fn is_ok_at(marks: &[Mark; MAX_NODES], node: NodeId) -> bool
+    ensures { result ≡ is_ok (get_or marks.now node.0 Down) }
+{
+    match marks.get(node.0 as usize) {
+        Some(mark) => is_ok(*mark),
+        None => false,
     }
 }

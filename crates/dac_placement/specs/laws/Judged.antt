@@ -1,5 +1,5 @@
 -- The standing and the first choice determine the verdict in words.
-use Rattle.std.proofs.Common.{◌≡◌, ◌↔◌, ℕ, ◌<◌, ◌≤◌, true, false, cond, Option, Some, None, refl, sym, ap, ◌∙◌, arith, inl, inr}
+use Rattle.std.proofs.Common.{◌≡◌, ◌↔◌, ℕ, ◌<◌, ◌≤◌, Bool, true, false, cond, Option, Some, None, refl, sym, ap, ◌∙◌, arith, inl, inr}
 use Rattle.std.specs.Prelude.{MatchOption, nat_lt, is_some, option_map}
 use Rattle.std.proofs.lemmas.Bool.{true≢false, false≢true, ltb-true, ltb-false, lt-ltb}
 use Rattle.dac_base.specs.declared.NodeId.{NodeId}
@@ -9,10 +9,10 @@ use Rattle.dac_state.specs.StateValue.{StateValue}
 use Rattle.dac_placement.specs.declared.standing.Standing.{Standing}
 use Rattle.dac_placement.specs.declared.standing.Standing.TheVariants.{Unclaimed, Lost, Stopped, Barred, Upheld}
 use Rattle.dac_placement.specs.declared.verdicts.Verdict.TheVariants.{Takeover, Kept}
-use Rattle.dac_placement.specs.Placement.{EachEligible, IsEarlier, is_less, is_earlier, IsFirst, IsStanding, standing_of, group_held, rank_of, first_choice, IsVerdict, verdict_by, verdict_of}
+use Rattle.dac_placement.specs.Placement.{EachEligible, IsEarlier, is_less, is_earlier, IsFirst, IsStanding, standing_of, group_held, is_eligible, load_of, rank_of, first_choice, IsVerdict, verdict_by, verdict_of}
 use Rattle.dac_placement.specs.laws.Standing.{standing_is}
 use Rattle.dac_placement.specs.Ranks.{Rank}
-use Rattle.dac_placement.specs.Choices.{choice_of, first_of, verdict_on}
+use Rattle.dac_placement.specs.Choices.{choice_of, first_of, group_if, rank_by, verdict_on}
 use Rattle.dac_placement.specs.laws.Choosing.{first_alike, numbered}
 use Rattle.dac_placement.specs.laws.FirstChoice.{first_is, first_below, first_parts}
 
@@ -81,6 +81,17 @@ module _ (table : Table) (s : StateValue) (app : AppId) where
   by_first Lost (Some r) grouped = refl
   by_first Barred None grouped = refl
   by_first Barred (Some r) grouped = refl
+
+  -- the rank by a node's group and load is its rank
+  pub rank_is : (node : NodeId) → rank_by (group_if table s app) (load_of table s app) node ≡ rank_of table s app node
+  rank_is node = by_test (is_eligible table s app node)
+    where
+      made : Option ℕ → Option Rank
+      made o = option_map (λ group. record { group = group; load = load_of table s app node; node = node }) o
+
+      by_test : (b : Bool) → made (cond b (group_of table app node) None) ≡ cond b (made (group_of table app node)) None
+      by_test true = refl
+      by_test false = refl
 
   -- whatever computes the ranks of nodes, the verdict by them is the verdict
   pub judged_same : (ranks : NodeId → Option Rank) (standing : Standing) (late : Option ℕ) → standing ≡ standing_of table s app → late ≡ group_held table app standing

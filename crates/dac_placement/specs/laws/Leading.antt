@@ -50,16 +50,14 @@ module _ (lead : Lead) (r : Rank) (group load : ℕ) (node : NodeId) where
       (record { rank = r; least = ap (λ o. Some (cond (is_lt (ordering_then o tie)) q r)) is; group = of_r; alone = alone }))
 
 -- the lead after one more node
-pub lead_more : (lead : Option Lead) (first : Option Rank) (may : Bool) (group : Option ℕ) (load : ℕ) (node : NodeId) → Leads lead first
-    → Leads (lead_with lead (cond may group None) node) (join_options (ord_min rank_cmp) first (cond may (option_map (λ group. record { group = group; load = load; node = node }) group) None))
-lead_more lead None false group load node leads = leads
-lead_more lead (Some r) false group load node leads = leads
-lead_more lead None true None load node leads = leads
-lead_more lead (Some r) true None load node leads = leads
-lead_more None None true (Some group) load node leads = record { rank = record { group = group; load = load; node = node }; least = refl; group = refl; alone = λ _. refl }
-lead_more None (Some r) true (Some group) load node leads = absurd (false≢true (ap is_some (sym leads)))
-lead_more (Some lead) None true (Some group) load node leads = absurd (false≢true (ap is_some leads.least))
-lead_more (Some lead) (Some r) true (Some group) load node leads =
+pub lead_more : (lead : Option Lead) (first : Option Rank) (group : Option ℕ) (load : ℕ) (node : NodeId) → Leads lead first
+    → Leads (lead_with lead group node) (join_options (ord_min rank_cmp) first (option_map (λ group. record { group = group; load = load; node = node }) group))
+lead_more lead None None load node leads = leads
+lead_more lead (Some r) None load node leads = leads
+lead_more None None (Some group) load node leads = record { rank = record { group = group; load = load; node = node }; least = refl; group = refl; alone = λ _. refl }
+lead_more None (Some r) (Some group) load node leads = absurd (false≢true (ap is_some (sym leads)))
+lead_more (Some lead) None (Some group) load node leads = absurd (false≢true (ap is_some leads.least))
+lead_more (Some lead) (Some r) (Some group) load node leads =
     let is : r ≡ leads.rank = one r leads.rank leads.least in
     by_order lead r group load node (nat_cmp group r.group) refl (ranked group r.group (nat_cmp group r.group) refl) (ap (λ (q : Rank). q.group) is ∙ leads.group) (λ a. ap (λ (q : Rank). q.node) is ∙ leads.alone a)
   where

@@ -12,13 +12,12 @@ loop-number-init g c = refl
 
 pub loop-number-preserved : goal.loop-number-preserved
 loop-number-preserved g c =
-    let ranks : NodeId → Option Rank = rank_in (g.C.Candidates.group c.args.candidates.now) (g.C.Candidates.eligible c.args.candidates.now) (load_by (g.R.Runs.runs c.args.runners.now) (g.R.Runs.apps c.args.runners.now) c.args.app) c.args.lead.group in
+    let ranks : NodeId → Option Rank = rank_in (g.C.Candidates.group c.args.candidates.now) (load_by (g.R.Runs.runs c.args.runners.now) (g.R.Runs.apps c.args.runners.now) c.args.app) c.args.lead.group in
     c.lesser-first.ensures ∙ ap₂ (join_options (ord_min rank_cmp)) c.loop-number.invariant c.rank_in-rank.ensures ∙ sym (first_more ranks c.loop-number.number)
 
 pub returns : goal.returns
 returns g c =
     let groups = g.C.Candidates.group c.args.candidates.now in
-    let may = g.C.Candidates.eligible c.args.candidates.now in
     let nodes = g.C.Candidates.nodes c.args.candidates.now in
     let loads = load_by (g.R.Runs.runs c.args.runners.now) (g.R.Runs.apps c.args.runners.now) c.args.app in
     let lead = c.requires in
@@ -27,13 +26,12 @@ returns g c =
     let count = c.nodes-number-end.ensures in
     let all : c.loop-number.number ≡ nodes = omega (arith, up_to, not_below, count) in
     let is : Some c.in_ok-first.first ≡ Some lead.rank =
-    sym c.in_ok-first.was ∙ c.loop-number.invariant ∙ ap (first_of (rank_in groups may loads c.args.lead.group)) all ∙ first_in groups may loads c.args.lead.group nodes lead.rank lead.least lead.group in
+    sym c.in_ok-first.was ∙ c.loop-number.invariant ∙ ap (first_of (rank_in groups loads c.args.lead.group)) all ∙ first_in groups loads c.args.lead.group nodes lead.rank lead.least lead.group in
     ap (option_map choice_of) (is ∙ sym lead.least)
 
 pub returns-in_err-first : goal.returns-in_err-first
 returns-in_err-first g c =
     let groups = g.C.Candidates.group c.args.candidates.now in
-    let may = g.C.Candidates.eligible c.args.candidates.now in
     let nodes = g.C.Candidates.nodes c.args.candidates.now in
     let loads = load_by (g.R.Runs.runs c.args.runners.now) (g.R.Runs.apps c.args.runners.now) c.args.app in
     let lead = c.requires in
@@ -42,4 +40,4 @@ returns-in_err-first g c =
     let count = c.nodes-number-end.ensures in
     let all : c.loop-number.number ≡ nodes = omega (arith, up_to, not_below, count) in
     c.from_residual.ensures ∙ ap (option_map choice_of)
-    (sym c.in_err-first.was ∙ c.loop-number.invariant ∙ ap (first_of (rank_in groups may loads c.args.lead.group)) all ∙ first_in groups may loads c.args.lead.group nodes lead.rank lead.least lead.group ∙ sym lead.least)
+    (sym c.in_err-first.was ∙ c.loop-number.invariant ∙ ap (first_of (rank_in groups loads c.args.lead.group)) all ∙ first_in groups loads c.args.lead.group nodes lead.rank lead.least lead.group ∙ sym lead.least)
