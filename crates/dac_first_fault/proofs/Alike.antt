@@ -4,7 +4,7 @@ use Rattle.dac_tokens.specs.declared.fault.ConfigFault.{ConfigFault}
 use Rattle.dac_tokens.specs.Words.{Located}
 use Rattle.dac_shapes.specs.Limits.{Seen}
 use Rattle.dac_shapes.specs.Shape.{State}
-use Rattle.dac_shapes.specs.laws.AgainLists.{at}
+use Rattle.dac_shapes.specs.laws.Splits.{at}
 use Rattle.dac_first_fault.proofs.Outcomes.{Wants, Fails, Outcome, Took, Failed, Asked, Reader, Gives}
 
 -- a reader with the same result at each state

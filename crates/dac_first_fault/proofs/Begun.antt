@@ -10,7 +10,7 @@ use Rattle.dac_tokens.specs.Words.{Word, Punctuation, End, Located}
 use Rattle.dac_shapes.specs.Limits.{nothing}
 use Rattle.dac_shapes.specs.Shape.{State, fails, is_symbol, token, symbol_at, more_at, comma_list, list_of, pair_at, closed, room}
 use Rattle.dac_shapes.specs.Grammar.{Parted, IsListOf}
-use Rattle.dac_shapes.specs.laws.AgainLists.{at}
+use Rattle.dac_shapes.specs.laws.Splits.{at}
 use Rattle.dac_first_fault.proofs.Steps.{mark_is}
 
 -- A fault placed after the tokens. No reader returns this kind itself, so whoever returns it reached the end of the

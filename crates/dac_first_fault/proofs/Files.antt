@@ -13,14 +13,12 @@ use Rattle.dac_tokens.specs.Stream.{Stream, tokens_of, end_at as end_of, ended a
 use Rattle.dac_tokens.specs.TokenGrammar.{AreTokensOf, AreSpelled, Spells, depth_after_word}
 use Rattle.dac_tokens.specs.TokenFaults.{StopAt}
 use Rattle.dac_shapes.specs.Written.{Section, Written, written}
-use Rattle.dac_shapes.specs.Limits.{Seen, nothing, steps, with_section, MaySections}
+use Rattle.dac_shapes.specs.Limits.{Seen, nothing, steps, with_section, MaySections, Keeps, Every}
 use Rattle.dac_shapes.specs.Within.{AreWithinLimits, nodes_in}
-use Rattle.dac_shapes.specs.Grammar.{IsFile, IsSection, IsListOf}
+use Rattle.dac_shapes.specs.Grammar.{IsFile, IsLooseSection, IsListOf, IsLooseFile}
 use Rattle.dac_shapes.specs.Shape.{State, fails, is_symbol, list_of, section_at, end_at, file_at, draft_at}
-use Rattle.dac_shapes.specs.laws.AgainLists.{at, ended}
-use Rattle.dac_shapes.specs.laws.Again.{sections_again}
-use Rattle.dac_first_fault.specs.Loose.{IsLooseSection, IsLooseFile}
-use Rattle.dac_first_fault.specs.Keeps.{Keeps}
+use Rattle.dac_shapes.specs.laws.Splits.{at, ended}
+use Rattle.dac_shapes.specs.laws.AgainSections.{sections_again, sections_met}
 use Rattle.dac_first_fault.specs.FirstFault.{IsLocatedAt, Itself, InList, InTuple, words, CanBegin, CanCause, Only, Before, IsOfName, Breaks, NoKind, CanBeginLoosely, Spoils, Brings, IsWell, IsFileWithinLimits, IsNoName, apps_in, BeginsWith, IsFaultOf, Long, NoToken, Token, Ends, Nobody}
 use Rattle.dac_first_fault.proofs.Outcomes.{Took, Failed, Asked, Takes, Always, Plain, Gives}
 use Rattle.dac_first_fault.proofs.Steps.{mark_is, symbol_yes, symbol_no, symbol_none, symbol_end}
@@ -29,14 +27,13 @@ use Rattle.dac_first_fault.proofs.Begun.{halt, by_pair}
 use Rattle.dac_first_fault.proofs.BegunSections.{file_begun}
 use Rattle.dac_first_fault.proofs.Held.{IsQuiet, QuietBehind, Stops, Lone, Had, Holds}
 use Rattle.dac_first_fault.proofs.HeldSections.{AreSections, sections_held}
-use Rattle.dac_first_fault.proofs.Past.{Unkept, Fine, fine_front, Met}
-use Rattle.dac_first_fault.proofs.PastSections.{sections_met}
+use Rattle.dac_shapes.specs.laws.Again.{Unkept, Nowhere, fine_nowhere, Fine, fine_front, Met}
 use Rattle.dac_first_fault.proofs.Spared.{Strict, sections_so, strictly_so}
-use Rattle.dac_first_fault.proofs.Loosely.{file_loose, sections_strict, file_strict}
+use Rattle.dac_first_fault.proofs.Loosely.{file_loose, loosely}
 use Rattle.dac_first_fault.proofs.Order.{words_append}
 use Rattle.dac_first_fault.proofs.Fewer.{keeps_fewer}
-use Rattle.dac_first_fault.proofs.Bounds.{Every, sections_may, beyond, lone_beyond, lone_last, lone_two}
-use Rattle.dac_first_fault.proofs.Offsets.{At, Nowhere, Strictly, Clear, name_of_it, stops_so, fine_both, fine_nowhere, not_name, not_kept, name_or_not, last_named, spelled_fine, text_clear, text_fine, begins_front}
+use Rattle.dac_first_fault.proofs.Bounds.{beyond, lone_beyond, lone_last, lone_two}
+use Rattle.dac_first_fault.proofs.Offsets.{At, Strictly, Clear, name_of_it, stops_so, fine_both, not_name, not_kept, name_or_not, last_named, spelled_fine, text_clear, text_fine, begins_front}
 use Rattle.dac_first_fault.proofs.HeldFile.{file_kept}
 
 brings_by : (w : Word) (ws : List Word) (k : FaultKind) → Breaks ws k → (IsNoName w → Spoils ws k) → Brings w ws k
@@ -164,7 +161,7 @@ module _ (ts : List Located) (k : Takes Always Plain (λ _. list_of section_at) 
       let bad = beyond ts in
       let q : Had bad Every by_pair (AreSections bad Every) (words ts) (k.x, at (Err halt) (c ∷ []) k.after) =
       subst (λ (r : Result (List Section × State) ConfigFault). Holds bad Every by_pair (AreSections bad Every) (words ts) r) (k.goes tt (Err halt) (c ∷ []) tt) (sections_held bad Every ts (lone_beyond bad Every ts (omega arith))) in
-      (k.x, (q.own, q.whole ∙ ap (λ (w : Word). q.own ++ w ∷ []) (mark_is FullStop c.word is), sections_strict Every tt tt tt tt q.own k.x q.is.0), sections_may k.x q.is.1)
+      (k.x, (q.own, q.whole ∙ ap (λ (w : Word). q.own ++ w ∷ []) (mark_is FullStop c.word is), q.is.0), q.is.1)
 
   stopped_by : (c : Located) (b : List Located) → is_symbol FullStop c.word ≡ true → NoEnd b → Judged (k.a ++ c ∷ b)
   stopped_by c [] is no_end = Unsettled (stop_wants c is)
@@ -203,18 +200,18 @@ module _ (order : (sections : List Section) → (MaySections sections ↔ AreWit
         rest = k.rest;
         parts = k.parts;
         no_name = quiet_names k.rest k.quiet;
-        keeps = record { more = k.begun.more; sections = k.begun.x; file = file_strict Every tt tt tt tt (k.named ++ k.begun.more) k.begun.x k.begun.is.0; keeps = (order k.begun.x).0 (sections_may k.begun.x k.begun.is.1) };
+        keeps = record { more = k.begun.more; sections = k.begun.x; file = k.begun.is.0; keeps = (order k.begun.x).0 k.begun.is.1 };
       }
 
   within_judged : (end : Located) (ts : List Located) (sections : List Section) → end.word ≡ End → IsFile (words ts) sections → AreWithinLimits sections
       → file_at (at (Ok end) ts nothing) ≡ cond (eqb (apps_in sections) 0) (fails NoDistributed end.at) (Ok (written sections (nodes_in sections)))
   within_judged end ts sections w file within =
       let c = ended ts file.0 (Punctuation FullStop) file.1 in
-      let list : IsListOf IsSection (words c.front) sections = subst (λ (l : List Word). IsListOf IsSection l sections) (sym c.first) file.2 in
+      let list : IsListOf (IsLooseSection Every) (words c.front) sections = subst (λ (l : List Word). IsListOf (IsLooseSection Every) l sections) (sym c.first) file.2 in
       let seen = steps with_section nothing sections in
       let stop : is_symbol FullStop c.end.word ≡ true = ap (is_symbol FullStop) c.is in
       ap (λ (l : List Located). file_at (at (Ok end) l nothing)) c.whole ∙ file_is (at (Ok end) (c.front ++ c.end ∷ []) nothing)
-      ∙ ap (λ r. r >>= behind) (sections_again (Ok end) c.front (c.end ∷ []) sections nothing list ((order sections).1 within))
+      ∙ ap (λ r. r >>= behind) (sections_again (Ok end) c.front (c.end ∷ []) sections list ((order sections).1 within))
       ∙ ap (λ r. r >>= judged sections) (stop_end c.end seen end stop w)
       ∙ ap (λ (n : List (List ℕ)). cond (eqb (length (written sections n).apps) 0) (fails NoDistributed end.at) (Ok (written sections n))) (nodes sections)
 
@@ -279,11 +276,11 @@ module _ (order : (sections : List Section) → (MaySections sections ↔ AreWit
       → (more : List Word) (sections : List Section) → IsFile ((words a ++ l.word ∷ []) ++ more) sections → ⊥
   no_file a l e fault stands no_name fine more sections file =
       let all = fine_both (At l.at) a (l ∷ map (place_at (suc l.at)) more) fine (λ name is. absurd (subst IsNoName is no_name), placed_fine l.at more) in
-      not_name a l e stands no_name (goes_on a l e fault (At l.at) Strict (suc l.at) more sections (file_loose Strict ((words a ++ l.word ∷ []) ++ more) sections file) (strictly_so sections) all)
+      not_name a l e stands no_name (goes_on a l e fault (At l.at) Strict (suc l.at) more sections (loosely Strict ((words a ++ l.word ∷ []) ++ more) sections file) (strictly_so sections) all)
 
   -- no file that keeps the limit of the fault continues with its token
   none_keeps : (a : List Located) (l : Located) (e : ConfigFault) → ((last : Result Located ConfigFault) (rest : List Located) → file_at (at last (a ++ l ∷ rest) nothing) ≡ Err e) → CanBegin (Keeps (Only e.kind)) (words a ++ l.word ∷ []) → ⊥
-  none_keeps a l e fault c = not_kept e.kind e.at (goes_on a l e fault Nowhere (Only e.kind) 0 c.more c.sections (file_loose (Only e.kind) ((words a ++ l.word ∷ []) ++ c.more) c.sections c.file) c.keeps (fine_nowhere (a ++ l ∷ map (place_at 0) c.more)))
+  none_keeps a l e fault c = not_kept e.kind e.at (goes_on a l e fault Nowhere (Only e.kind) 0 c.more c.sections (loosely (Only e.kind) ((words a ++ l.word ∷ []) ++ c.more) c.sections c.file) c.keeps (fine_nowhere (a ++ l ∷ map (place_at 0) c.more)))
 
   -- if reading stopped at the last token, some loose file begins with all tokens
   stopped_kept : (bad : ℕ) (Bound : FaultKind → Type 0) (a : List Located) (l : Located) (e : ConfigFault) → ((last : Result Located ConfigFault) (rest : List Located) → file_at (at last (a ++ l ∷ rest) nothing) ≡ Err e) → Lone bad Bound (a ++ l ∷ []) → Stops bad Bound e.kind e.at → (IsQuiet l.word → ⊥)
@@ -301,7 +298,7 @@ module _ (order : (sections : List Section) → (MaySections sections ↔ AreWit
       let n = name_of_it a l e stands of in
       let Bound = Strictly e.kind in
       let k = stopped_kept l.at Bound a l e fault (lone_last l.at Bound a l clear) (stops_so e.kind e.at l.at n.1 of) (λ quiet. subst IsQuiet n.0.1 quiet) in
-      record { more = k.0; sections = k.1; file = file_strict Bound (inr tt) (inr tt) (inr tt) (inr tt) ((words a ++ l.word ∷ []) ++ k.0) k.1 k.2; keeps = keeps_fewer (Before e.kind) Bound (λ kind less. inl less) k.1 k.3 }
+      record { more = k.0; sections = k.1; file = file_loose Bound Every (λ kind strict _. inr strict) ((words a ++ l.word ∷ []) ++ k.0) k.1 k.2; keeps = keeps_fewer (Before e.kind) Bound (λ kind less. inl less) k.1 k.3 }
 
   breaks : (a : List Located) (l : Located) (e : ConfigFault) → ((last : Result Located ConfigFault) (rest : List Located) → file_at (at last (a ++ l ∷ rest) nothing) ≡ Err e) → IsLocatedAt a l e → Clear l.at a → Breaks (words a ++ l.word ∷ []) e.kind
   breaks a l e fault stands clear = record { broken = none_keeps a l e fault; first = first_kept a l e fault stands clear }
@@ -392,7 +389,7 @@ module _ (order : (sections : List Section) → (MaySections sections ↔ AreWit
     end_fault e tokens so_far h which = elim which [
       | inl is ↦
           Ends s.tokens short tokens so_far
-          (λ sections file. ends_no_file sections e is (file_read (end_of (length text)) (At (length text)) Strict s.tokens sections e refl (file_loose Strict (words s.tokens) sections file) (strictly_so sections) (spelled_fine (length text) 0 text s.tokens tokens.spelled (omega arith)) h)) is
+          (λ sections file. ends_no_file sections e is (file_read (end_of (length text)) (At (length text)) Strict s.tokens sections e refl (loosely Strict (words s.tokens) sections file) (strictly_so sections) (spelled_fine (length text) 0 text s.tokens tokens.spelled (omega arith)) h)) is
       | inr is ↦
           Nobody s.tokens short tokens (record { sections = is.1.0; file = is.1.1; within = (order is.1.0).0 is.1.2 })
           (λ w. none_listed (length text) (apps_in w.sections) (eqb (apps_in w.sections) 0) (written w.sections (nodes_in w.sections)) refl (sym (within_judged (end_of (length text)) s.tokens w.sections refl w.file w.within) ∙ h ∙ ap (λ (f : ConfigFault). Err f) is.0)) is.0

@@ -9,11 +9,10 @@ use Rattle.dac_tokens.specs.declared.token.Symbol.TheVariants.{OpenList, CloseLi
 use Rattle.dac_tokens.specs.Gives.{◌>>=◌}
 use Rattle.dac_tokens.specs.Words.{Word, Punctuation, Located, is_end}
 use Rattle.dac_shapes.specs.Written.{Section, Written, written}
-use Rattle.dac_shapes.specs.Limits.{Seen, nothing}
+use Rattle.dac_shapes.specs.Limits.{Seen, nothing, Keeps}
 use Rattle.dac_shapes.specs.Shape.{State, fails, is_symbol, token, symbol_at, list_of, section_at, end_at, file_at}
-use Rattle.dac_shapes.specs.laws.AgainLists.{at}
-use Rattle.dac_first_fault.specs.Loose.{IsLooseFile}
-use Rattle.dac_first_fault.specs.Keeps.{Keeps}
+use Rattle.dac_shapes.specs.laws.Splits.{at}
+use Rattle.dac_shapes.specs.Grammar.{IsLooseFile}
 use Rattle.dac_first_fault.proofs.Steps.{mark_is}
 use Rattle.dac_first_fault.proofs.Begun.{halt, words_in, by_pair}
 use Rattle.dac_first_fault.proofs.Held.{words, IsQuiet, Kept, Stops, Lone, Holds}

@@ -13,14 +13,12 @@ use Rattle.dac_tokens.specs.declared.token.Symbol.TheVariants.{OpenList, CloseLi
 use Rattle.dac_tokens.specs.Gives.{◌>>=◌}
 use Rattle.dac_tokens.specs.Words.{Word, Punctuation, Name, Number, Text, End, Located}
 use Rattle.dac_shapes.specs.Written.{App, Permission}
-use Rattle.dac_shapes.specs.Limits.{Seen, nothing, is_among, with_name, with_node, with_nodes, with_groups, listing, with_app, with_permission, AllMay, steps}
+use Rattle.dac_shapes.specs.Limits.{Seen, nothing, is_among, with_name, with_node, with_nodes, with_groups, listing, with_app, with_permission, AllMay, steps, NodeKeeps, NodesKeep, GroupsKeep, AppKeeps, PermissionKeeps}
 use Rattle.dac_tokens.specs.Digits.{value_from}
 use Rattle.dac_shapes.specs.Shape.{State, fails, is_symbol, token, symbol_at, atom_of, short_name_of, milliseconds_of, flag_of, app_name_of, node_of, names_at, item_at, items_at, groups_at, timeout_at, app_value_at, app_at, permission_value_at, permission_at, closed, room}
-use Rattle.dac_shapes.specs.Grammar.{Parted, IsNode, IsMs, IsFlag, IsPermission}
-use Rattle.dac_shapes.specs.laws.AgainLists.{at}
+use Rattle.dac_shapes.specs.Grammar.{Parted, IsNode, IsMs, IsFlag, IsPermission, IsLooseItem, IsLooseNodeList, IsLooseMs, IsLooseTimeout, IsLooseAppValue, IsLooseApp}
+use Rattle.dac_shapes.specs.laws.Splits.{at}
 use Rattle.dac_shapes.specs.laws.Names.{is_named}
-use Rattle.dac_first_fault.specs.Loose.{IsLooseItem, IsLooseNodeList, IsLooseMs, IsLooseTimeout, IsLooseAppValue, IsLooseApp}
-use Rattle.dac_first_fault.specs.Keeps.{NodeKeeps, NodesKeep, GroupsKeep, AppKeeps, PermissionKeeps}
 use Rattle.dac_first_fault.proofs.Steps.{mark_is}
 use Rattle.dac_first_fault.proofs.Readers.{not_negative}
 use Rattle.dac_first_fault.proofs.Begun.{halt, Begun, Via, words_in, by_pair}

@@ -12,14 +12,12 @@ use Rattle.dac_shapes.specs.declared.param.ParamName.{ParamName}
 use Rattle.dac_shapes.specs.declared.param.ParamName.TheVariants as named
 use Rattle.dac_shapes.specs.declared.draft.SyncWait.TheVariants.{Forever, Ms}
 use Rattle.dac_shapes.specs.Written.{Param, Distributed, Permissions, Mandatory, Optional, Timeout, Section, Kernel, spelled, name_of}
-use Rattle.dac_shapes.specs.Limits.{Seen, nothing, has_param, has_kernel, with_node, with_app, with_permission, with_param, with_section, steps, AllMay}
+use Rattle.dac_shapes.specs.Limits.{Seen, nothing, has_param, has_kernel, with_node, with_app, with_permission, with_param, with_section, steps, AllMay, NodeKeeps, AppKeeps, PermissionKeeps, ValueKeeps, ParamKeeps, SectionKeeps, Keeps}
 use Rattle.dac_tokens.specs.Digits.{value_from}
 use Rattle.dac_shapes.specs.Shape.{State, fails, is_symbol, is_text, token, room, atom_of, list_of, app_at, permission_at, node_of, wait_of, milliseconds_of, passed_at, terms_at, terms_in, texts_at, term_by, term_at, param_named, first_param, param_name_of, param_value_at, param_rest_at, param_at, names_kernel, kernel_at, section_rest_at, section_at, pair_at, closed}
-use Rattle.dac_shapes.specs.Grammar.{IsListOf, IsNode, IsPermission, IsMs}
-use Rattle.dac_shapes.specs.laws.AgainLists.{at}
+use Rattle.dac_shapes.specs.Grammar.{IsListOf, IsNode, IsPermission, IsMs, IsLooseApp, IsLooseWait, IsLooseParam, IsLooseSection}
+use Rattle.dac_shapes.specs.laws.Splits.{at}
 use Rattle.dac_shapes.specs.laws.Names.{is_named, param_is, same_seen}
-use Rattle.dac_first_fault.specs.Loose.{IsLooseApp, IsLooseWait, IsLooseParam, IsLooseSection}
-use Rattle.dac_first_fault.specs.Keeps.{NodeKeeps, AppKeeps, PermissionKeeps, ValueKeeps, ParamKeeps, SectionKeeps, Keeps}
 use Rattle.dac_first_fault.proofs.Begun.{halt, Halts, Begun, words_in, by_pair, by_state, Sees}
 use Rattle.dac_first_fault.proofs.BegunTerms.{text_is, IsPassed, passed_sees, a_term}
 use Rattle.dac_first_fault.proofs.BegunReaders.{pair_of, pair_is}

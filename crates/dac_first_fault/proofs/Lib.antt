@@ -14,9 +14,6 @@ pub mod HeldReaders
 pub mod HeldSections
 pub mod HeldFile
 pub mod Loosely
-pub mod Past
-pub mod PastReaders
-pub mod PastSections
 pub mod Spared
 pub mod Offsets
 pub mod Bounds

@@ -8,7 +8,7 @@ use Rattle.dac_tokens.specs.Gives.{◌>>=◌}
 use Rattle.dac_tokens.specs.Words.{End, Located}
 use Rattle.dac_shapes.specs.Limits.{Seen}
 use Rattle.dac_shapes.specs.Shape.{State, fails, is_symbol, token, more_at, comma_list, list_of, room}
-use Rattle.dac_shapes.specs.laws.AgainLists.{at}
+use Rattle.dac_shapes.specs.laws.Splits.{at}
 use Rattle.dac_first_fault.specs.FirstFault.{Itself}
 use Rattle.dac_first_fault.proofs.Outcomes.{Wants, Takes, Outcome, Took, Failed, Asked, further, Always, Plain, Reader, Gives, IsReader, Wanting}
 use Rattle.dac_first_fault.proofs.Alike.{alike}

@@ -11,23 +11,16 @@ use Rattle.dac_tokens.specs.Words.{Word, Punctuation, Name, Number, Text, End, L
 use Rattle.dac_tokens.specs.TokenGrammar.{AreTokensOf, AreSpelled, Spells, Begins, depth_after_word}
 use Rattle.dac_tokens.specs.TokenFaults.{StopAt}
 use Rattle.dac_first_fault.specs.FirstFault.{IsLocatedAt, Itself, InList, InTuple, CanCause, IsNoName, BeginsWith, Only, Before, IsOfName, rank}
-use Rattle.dac_first_fault.proofs.Past.{Unkept, Fine}
+use Rattle.dac_shapes.specs.laws.Again.{Unkept, Nowhere, Fine}
 use Rattle.dac_first_fault.proofs.Held.{Frees, Stops}
 use Rattle.dac_first_fault.proofs.Spared.{Strict}
 
 abbrev pub At : ℕ → ℕ → Type 0
 At bad offset = offset ≡ bad
 
-abbrev pub Nowhere : ℕ → Type 0
-Nowhere offset = ⊥
-
 pub fine_both : (Bad : ℕ → Type 0) (a b : List Located) → Fine Bad a → Fine Bad b → Fine Bad (a ++ b)
 fine_both Bad [] b f g = g
 fine_both Bad (t ∷ a) b f g = (f.0, fine_both Bad a b f.1 g)
-
-pub fine_nowhere : (ts : List Located) → Fine Nowhere ts
-fine_nowhere [] = tt
-fine_nowhere (t ∷ ts) = (λ name is no. absurd no, fine_nowhere ts)
 
 -- ---- names
 
@@ -75,16 +68,7 @@ not_name a l e (InTuple front o is w v f) plain of = (subst (λ (f : ConfigFault
 -- a fault breaks its own limit
 pub not_kept : (k : FaultKind) (offset : ℕ) → Unkept Nowhere (Only k) k offset → ⊥
 not_kept kind.BadShape offset of = of.1 refl
-not_kept kind.TwiceApp offset of = of refl
-not_kept kind.TwiceInList offset of = of refl
-not_kept kind.TooManyApps offset of = of refl
-not_kept kind.TooManyNodes offset of = of refl
-not_kept kind.NameTooLong offset of = of refl
-not_kept kind.EmptyList offset of = of refl
-not_kept kind.EmptyTuple offset of = of refl
-not_kept kind.NumberTooLarge offset of = of refl
-not_kept kind.Unsupported offset of = of refl
-not_kept _ offset of = absurd of
+not_kept _ offset of = of refl
 
 -- ---- a limit that a name breaks
 

@@ -12,7 +12,7 @@ use Rattle.dac_shapes.specs.Written.{Section, Written}
 use Rattle.dac_shapes.specs.Limits.{nothing, steps, with_section, MaySections}
 use Rattle.dac_shapes.specs.Within.{AreWithinLimits, nodes_in}
 use Rattle.dac_shapes.specs.Shape.{fails, file_at, draft_at}
-use Rattle.dac_shapes.specs.laws.AgainLists.{at}
+use Rattle.dac_shapes.specs.laws.Splits.{at}
 use Rattle.dac_first_fault.specs.FirstFault.{IsFaultOf}
 use Rattle.dac_first_fault.proofs.Files.{whole_read, listed_read, text_fault}
 use Rattle.dac_first_fault.proofs.Alone.{Cause, TooFar, Brought, Final, Stopped, NoFile, Empty, cause_of, not_final, one_fault}

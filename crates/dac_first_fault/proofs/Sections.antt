@@ -10,7 +10,7 @@ use Rattle.dac_shapes.specs.declared.param.ParamName.TheVariants as named
 use Rattle.dac_shapes.specs.Written.{Param, Distributed, Permissions, Mandatory, Optional, Timeout, Section, Kernel}
 use Rattle.dac_shapes.specs.Limits.{Seen, has_kernel}
 use Rattle.dac_shapes.specs.Shape.{State, fails, is_text, token, atom_of, list_of, app_at, permission_at, node_of, wait_of, param_named, first_param, param_name_of, param_value_at, param_rest_at, param_at, names_kernel, kernel_at, section_rest_at, section_at, pair_at}
-use Rattle.dac_shapes.specs.laws.AgainLists.{at}
+use Rattle.dac_shapes.specs.laws.Splits.{at}
 use Rattle.dac_first_fault.specs.FirstFault.{Itself}
 use Rattle.dac_first_fault.proofs.Outcomes.{Asked, Always, Plain, Reader, Gives, IsReader, Wanting, made}
 use Rattle.dac_first_fault.proofs.Alike.{alike}

@@ -9,7 +9,7 @@ use Rattle.dac_tokens.specs.Gives.{◌>>=◌}
 use Rattle.dac_tokens.specs.Words.{Word, Punctuation, Name, Number, Text, End, Located}
 use Rattle.dac_shapes.specs.Limits.{Seen}
 use Rattle.dac_shapes.specs.Shape.{State, fails, is_symbol, is_text, token, room, terms_at, terms_in, texts_at, term_by, term_at, passed_at, closing_of}
-use Rattle.dac_shapes.specs.laws.AgainLists.{at}
+use Rattle.dac_shapes.specs.laws.Splits.{at}
 use Rattle.dac_shapes.specs.laws.TermCases.{by_name, by_number, by_text, by_mark, by_other_mark, by_end}
 use Rattle.dac_first_fault.specs.FirstFault.{Itself}
 use Rattle.dac_first_fault.proofs.Outcomes.{Wants, Fails, Took, Failed, Asked, fails_further, wants_further, Always, Reader, Gives, IsReader, Wanting}

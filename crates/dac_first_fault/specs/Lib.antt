@@ -1,3 +1,1 @@
-pub mod Loose
-pub mod Keeps
 pub mod FirstFault

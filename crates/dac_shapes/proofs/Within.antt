@@ -13,12 +13,12 @@ use Rattle.std.proofs.lemmas.Cmp.{nat_list_eq_equiv}
 use Rattle.std.proofs.lemmas.Map.Made.{length-le_from_is_member}
 use Rattle.dac_base.specs.declared.limits.TheConstants.{MAX_NODES}
 use Rattle.dac_tokens.specs.Words.{Word}
-use Rattle.dac_shapes.specs.Limits.{Seen, AllMay, steps, is_among, with_name, with_node, MayNode, with_nodes, MayNodes, with_groups, nothing, number_of, is_named, has_param, is_kernel, has_kernel, listing, with_app, MayApp, with_permission, MayPermission, with_param, MayValue, MayParam, with_section, MaySection, MaySections}
+use Rattle.dac_shapes.specs.Limits.{Seen, AllMay, steps, is_among, with_name, with_node, NodeKeeps, with_nodes, NodesKeep, with_groups, nothing, number_of, is_named, has_param, is_kernel, has_kernel, listing, with_app, AppKeeps, with_permission, PermissionKeeps, with_param, ValueKeeps, ParamKeeps, with_section, SectionKeeps, Every, MaySections}
 use Rattle.dac_shapes.specs.Within.{joined, params_in, names_of_app, names_of_param, names_in, nodes_in, AreAppsWithin, IsValueWithin, AreWithinLimits, ArePermissionsWithin, IsWithinLimits}
 use Rattle.dac_shapes.specs.declared.param.ParamName.{ParamName}
 use Rattle.dac_shapes.specs.declared.param.ParamName.TheVariants as named
 use Rattle.dac_shapes.specs.Written.{App, Permission, Param, Distributed, Permissions, Mandatory, Optional, Section, Kernel, name_of, Timeout, Written, unsaid, put, put_all, put_section}
-use Rattle.dac_shapes.specs.Grammar.{Parted, IsListOf, IsNode, IsItem, IsApp, IsParam, IsSection, IsTextOf}
+use Rattle.dac_shapes.specs.Grammar.{Parted, IsListOf, IsNode, IsLooseItem, IsLooseApp, IsLooseParam, IsLooseSection, IsTextOf}
 
 pub each_append : {A : Type 0} (P : A → Type 0) (xs ys : List A) → Each P xs → Each P ys → Each P (xs ++ ys)
 each_append P [] ys a b = b
@@ -90,22 +90,22 @@ nodes_listed seen [] = sym (append-nil seen.listed)
 nodes_listed seen (name ∷ names) = nodes_listed (with_node seen name) names ∙ append_assoc seen.listed (name ∷ []) names
 
 -- names that are allowed: each is new unless repeats are allowed, and they fit
-pub nodes_to : (repeats : Bool) (before : List (List ℕ)) (seen : Seen) (names : List (List ℕ)) → IsFew seen.met → AllMay with_node (λ _. MayNode repeats) before seen names → (repeats ≡ false → AllNew seen.listed names) × Fit seen.met names
+pub nodes_to : (repeats : Bool) (before : List (List ℕ)) (seen : Seen) (names : List (List ℕ)) → IsFew seen.met → AllMay with_node (λ _. NodeKeeps Every repeats) before seen names → (repeats ≡ false → AllNew seen.listed names) × Fit seen.met names
 nodes_to repeats before seen [] few may = (λ _. tt, (tt, few))
 nodes_to repeats before seen (name ∷ names) few may =
-    let here : IsFew (with_name seen.met name) = cond_both (is_among name seen.met) seen.met (seen.met ++ name ∷ []) IsFew (λ _. few) (λ new. let less = may.0.few new in omega (arith, less, length-append seen.met (name ∷ []))) in
+    let here : IsFew (with_name seen.met name) = cond_both (is_among name seen.met) seen.met (seen.met ++ name ∷ []) IsFew (λ _. few) (λ new. let less = may.0.few tt new in omega (arith, less, length-append seen.met (name ∷ []))) in
     let rest = nodes_to repeats (before ++ name ∷ []) (with_node seen name) names here may.1 in
-    (λ r. (may.0.once r, rest.0 r), ((may.0.short, rest.1.0), rest.1.1))
+    (λ r. (may.0.once tt r, rest.0 r), ((may.0.short tt, rest.1.0), rest.1.1))
 
 few_before : (b : Bool) (met : List (List ℕ)) (name : List ℕ) → IsFew (cond b met (met ++ name ∷ [])) → b ≡ false → length met < MAX_NODES
 few_before true met name few e = absurd cc
 few_before false met name few e = omega (arith, few, length-append met (name ∷ []))
 
-pub nodes_from : (repeats : Bool) (before : List (List ℕ)) (seen : Seen) (names : List (List ℕ)) → (repeats ≡ false → AllNew seen.listed names) → Fit seen.met names → AllMay with_node (λ _. MayNode repeats) before seen names
+pub nodes_from : (repeats : Bool) (before : List (List ℕ)) (seen : Seen) (names : List (List ℕ)) → (repeats ≡ false → AllNew seen.listed names) → Fit seen.met names → AllMay with_node (λ _. NodeKeeps Every repeats) before seen names
 nodes_from repeats before seen [] new fit = tt
 nodes_from repeats before seen (name ∷ names) new fit =
     let here : IsFew (with_name seen.met name) = omega (arith, fit.1, longer (with_name seen.met name) names) in (
-      record { short = fit.0.0; once = λ r. (new r).0; few = few_before (is_among name seen.met) seen.met name here },
+      record { short = λ _. fit.0.0; once = λ _ r. (new r).0; few = λ _. few_before (is_among name seen.met) seen.met name here },
       nodes_from repeats (before ++ name ∷ []) (with_node seen name) names (λ r. (new r).1) (fit.0.1, fit.1),
     )
 
@@ -115,7 +115,7 @@ pub groups_met : (seen : Seen) (groups : List (List (List ℕ))) → (with_group
 groups_met seen [] = refl
 groups_met seen (group ∷ groups) = groups_met (with_nodes seen group) groups ∙ ap (λ met. with_all met (joined groups)) (nodes_met seen group) ∙ sym (fold-append with_name seen.met group (joined groups))
 
-pub groups_to : (before : List (List (List ℕ))) (seen : Seen) (groups : List (List (List ℕ))) → IsFew seen.met → AllMay with_nodes (λ _. MayNodes false) before seen groups → AllNew seen.listed (joined groups) × Fit seen.met (joined groups)
+pub groups_to : (before : List (List (List ℕ))) (seen : Seen) (groups : List (List (List ℕ))) → IsFew seen.met → AllMay with_nodes (λ _. NodesKeep Every false) before seen groups → AllNew seen.listed (joined groups) × Fit seen.met (joined groups)
 groups_to before seen [] few may = (tt, (tt, few))
 groups_to before seen (group ∷ groups) few may =
     let one = nodes_to false [] seen group few may.0 in
@@ -123,7 +123,7 @@ groups_to before seen (group ∷ groups) few may =
     let new = subst (λ (l : List (List ℕ)). AllNew l (joined groups)) (nodes_listed seen group) rest.0 in
     (new_append seen.listed group (joined groups) (one.0 refl) new, fit_append seen.met group (joined groups) one.1 (subst (λ met. Fit met (joined groups)) (nodes_met seen group) rest.1))
 
-pub groups_from : (before : List (List (List ℕ))) (seen : Seen) (groups : List (List (List ℕ))) → AllNew seen.listed (joined groups) → Fit seen.met (joined groups) → AllMay with_nodes (λ _. MayNodes false) before seen groups
+pub groups_from : (before : List (List (List ℕ))) (seen : Seen) (groups : List (List (List ℕ))) → AllNew seen.listed (joined groups) → Fit seen.met (joined groups) → AllMay with_nodes (λ _. NodesKeep Every false) before seen groups
 groups_from before seen [] new fit = tt
 groups_from before seen (group ∷ groups) new fit =
     let rest = subst (λ (l : List (List ℕ)). AllNew l (joined groups)) (sym (nodes_listed seen group)) (new_right seen.listed group (joined groups) new) in (
@@ -221,13 +221,13 @@ record KeepsApp (before : List App) (app : App) : Type 0 where
   pub few : length before < 64
   pub nodes : AllNew [] (names_of_app app)
 
-app_walk : IsWalk with_app MayApp names_of_app KeepsApp
+app_walk : IsWalk with_app (AppKeeps Every) names_of_app KeepsApp
 app_walk = record {
   met = λ seen app. groups_met (listing seen) app.groups;
   to = λ before seen app few may.
       let g = groups_to [] (listing seen) app.groups few may.nodes in
-      (record { short = may.short; once = may.once; few = may.few; nodes = g.0 }, g.1);
-  from = λ before seen app keep fit. record { short = keep.short; once = keep.once; few = keep.few; nodes = groups_from [] (listing seen) app.groups keep.nodes fit };
+      (record { short = may.short tt; once = may.once tt; few = may.few tt (may.once tt); nodes = g.0 }, g.1);
+  from = λ before seen app keep fit. record { short = λ _. keep.short; once = λ _. keep.once; few = λ _ _. keep.few; nodes = groups_from [] (listing seen) app.groups keep.nodes fit };
 }
 
 -- there are few applications, and their names differ
@@ -265,13 +265,13 @@ within_apps apps w =
 
 -- ---- parameters
 
-permissions_to : (before : List Permission) (seen : Seen) (permissions : List Permission) → AllMay with_permission MayPermission before seen permissions → Each (λ p. length p.name ≤ 255) permissions
+permissions_to : (before : List Permission) (seen : Seen) (permissions : List Permission) → AllMay with_permission (PermissionKeeps Every) before seen permissions → Each (λ p. length p.name ≤ 255) permissions
 permissions_to before seen [] may = tt
-permissions_to before seen (p ∷ ps) may = (may.0, permissions_to (before ++ p ∷ []) seen ps may.1)
+permissions_to before seen (p ∷ ps) may = (may.0 tt, permissions_to (before ++ p ∷ []) seen ps may.1)
 
-permissions_from : (before : List Permission) (seen : Seen) (permissions : List Permission) → Each (λ p. length p.name ≤ 255) permissions → AllMay with_permission MayPermission before seen permissions
+permissions_from : (before : List Permission) (seen : Seen) (permissions : List Permission) → Each (λ p. length p.name ≤ 255) permissions → AllMay with_permission (PermissionKeeps Every) before seen permissions
 permissions_from before seen [] short = tt
-permissions_from before seen (p ∷ ps) short = (short.0, permissions_from (before ++ p ∷ []) seen ps short.1)
+permissions_from before seen (p ∷ ps) short = (λ _. short.0, permissions_from (before ++ p ∷ []) seen ps short.1)
 
 -- the limits of a parameter that don't depend on the nodes seen
 record KeepsParam (before : List Param) (param : Param) : Type 0 where
@@ -284,25 +284,25 @@ param_met seen (Mandatory names) = nodes_met seen names
 param_met seen (Optional names) = nodes_met seen names
 param_met seen _ = refl
 
-value_to : (seen : Seen) (param : Param) → IsFew seen.met → MayValue seen param → IsValueWithin param × Fit seen.met (names_of_param param)
+value_to : (seen : Seen) (param : Param) → IsFew seen.met → ValueKeeps Every seen param → IsValueWithin param × Fit seen.met (names_of_param param)
 value_to seen (Distributed apps) few may = let a = all_to app_walk [] seen apps few may in (apps_within apps a.0, a.1)
 value_to seen (Permissions permissions) few may = (each_all (λ p. length p.name ≤ 255) permissions (permissions_to [] seen permissions may), (tt, few))
 value_to seen (Mandatory names) few may = (tt, (nodes_to true [] seen names few may).1)
 value_to seen (Optional names) few may = (tt, (nodes_to true [] seen names few may).1)
 value_to seen _ few may = (tt, (tt, few))
 
-value_from : (seen : Seen) (param : Param) → IsValueWithin param → Fit seen.met (names_of_param param) → MayValue seen param
+value_from : (seen : Seen) (param : Param) → IsValueWithin param → Fit seen.met (names_of_param param) → ValueKeeps Every seen param
 value_from seen (Distributed apps) within fit = all_from app_walk [] seen apps (within_apps apps within) fit
 value_from seen (Permissions permissions) within fit = permissions_from [] seen permissions (all_each (λ p. length p.name ≤ 255) permissions within)
 value_from seen (Mandatory names) within fit = nodes_from true [] seen names (λ e. absurd cc) fit
 value_from seen (Optional names) within fit = nodes_from true [] seen names (λ e. absurd cc) fit
 value_from seen _ within fit = tt
 
-param_walk : IsWalk with_param MayParam names_of_param KeepsParam
+param_walk : IsWalk with_param (ParamKeeps Every) names_of_param KeepsParam
 param_walk = record {
   met = param_met;
-  to = λ before seen param few may. let v = value_to seen param few may.value in (record { once = may.once; value = v.0 }, v.1);
-  from = λ before seen param keep fit. record { once = keep.once; value = value_from seen param keep.value fit };
+  to = λ before seen param few may. let v = value_to seen param few may.value in (record { once = may.once tt; value = v.0 }, v.1);
+  from = λ before seen param keep fit. record { once = λ _. keep.once; value = value_from seen param keep.value fit };
 }
 
 -- ---- at most one occurrence
@@ -401,15 +401,15 @@ section_met : (seen : Seen) (section : Section) → (with_section seen section).
 section_met seen (Kernel params) = all_met param_walk seen params
 section_met seen Section.Other = refl
 
-section_to : (before : List Section) (seen : Seen) (section : Section) → IsFew seen.met → MaySection before seen section → KeepsSection before section × Fit seen.met (names_of_section section)
-section_to before seen (Kernel params) few may = let a = all_to param_walk [] seen params few may.params in ((may.once, a.0), a.1)
+section_to : (before : List Section) (seen : Seen) (section : Section) → IsFew seen.met → SectionKeeps Every before seen section → KeepsSection before section × Fit seen.met (names_of_section section)
+section_to before seen (Kernel params) few may = let a = all_to param_walk [] seen params few may.params in ((may.once tt, a.0), a.1)
 section_to before seen Section.Other few may = (tt, (tt, few))
 
-section_from : (before : List Section) (seen : Seen) (section : Section) → KeepsSection before section → Fit seen.met (names_of_section section) → MaySection before seen section
-section_from before seen (Kernel params) keep fit = record { once = keep.0; params = all_from param_walk [] seen params keep.1 fit }
+section_from : (before : List Section) (seen : Seen) (section : Section) → KeepsSection before section → Fit seen.met (names_of_section section) → SectionKeeps Every before seen section
+section_from before seen (Kernel params) keep fit = record { once = λ _. keep.0; params = all_from param_walk [] seen params keep.1 fit }
 section_from before seen Section.Other keep fit = tt
 
-section_walk : IsWalk with_section MaySection names_of_section KeepsSection
+section_walk : IsWalk with_section (SectionKeeps Every) names_of_section KeepsSection
 section_walk = record { met = section_met; to = section_to; from = section_from }
 
 joined_map : {A : Type 0} (f : A → List (List ℕ)) (xs ys : List A) → joined (map f (xs ++ ys)) ≡ joined (map f xs) ++ joined (map f ys)
@@ -561,19 +561,23 @@ some_parted : (words : List Word) (group : List (List ℕ)) → Parted IsNode wo
 some_parted words [] h = absurd h
 some_parted words (x ∷ xs) h = omega arith
 
-some_item : (words : List Word) (group : List (List ℕ)) → IsItem words group → HasMember group
-some_item words group (inl h) = subst HasMember (sym h.2) (omega arith)
-some_item words group (inr h) = some_parted h.0 group h.2
+some_item : (words : List Word) (group : List (List ℕ)) → IsLooseItem Every words group → HasMember group
+some_item words group (inl (inl h)) = subst HasMember (sym h.2) (omega arith)
+some_item words group (inl (inr h)) = some_parted h.0 group h.2
+some_item words group (inr h) = absurd (h.0 tt)
 
-some_app : (words : List Word) (app : App) → IsApp words app → HasMembers app
-some_app words app h = let list = h.2.4 in each_parted IsItem HasMember some_item list.0 app.groups list.2
+some_app : (words : List Word) (app : App) → IsLooseApp Every words app → HasMembers app
+some_app words app h = elim h.2.4 [
+  | inl list ↦ each_parted (IsLooseItem Every) HasMember some_item list.0 app.groups list.2
+  | inr none ↦ absurd (none.0 tt)
+]
 
-some_param : (words : List Word) (param : Param) → IsParam words param → ParamHasMembers param
-some_param words (Distributed apps) h = each_listed IsApp HasMembers some_app h.0 apps h.2
+some_param : (words : List Word) (param : Param) → IsLooseParam Every words param → ParamHasMembers param
+some_param words (Distributed apps) h = each_listed (IsLooseApp Every) HasMembers some_app h.0 apps h.2
 some_param words _ h = tt
 
-some_section : (words : List Word) (section : Section) → IsSection words section → SectionHasMembers section
-some_section words (Kernel params) h = each_listed IsParam ParamHasMembers some_param h.0 params h.2
+some_section : (words : List Word) (section : Section) → IsLooseSection Every words section → SectionHasMembers section
+some_section words (Kernel params) h = each_listed (IsLooseParam Every) ParamHasMembers some_param h.0 params h.2
 some_section words Section.Other h = tt
 
 some_params : (sections : List Section) → Each SectionHasMembers sections → Each ParamHasMembers (params_in sections)
@@ -659,4 +663,4 @@ put_within sections within some =
 
 pub text_within : (text : List ℕ) (w : Written) → IsTextOf text w → IsWithinLimits w
 text_within text w is =
-    subst IsWithinLimits (sym (is.says ∙ said (unsaid (nodes_in is.sections)) is.sections)) (put_within is.sections is.within (some_params is.sections (each_listed IsSection SectionHasMembers some_section is.file.0 is.sections is.file.2)))
+    subst IsWithinLimits (sym (is.says ∙ said (unsaid (nodes_in is.sections)) is.sections)) (put_within is.sections is.within (some_params is.sections (each_listed (IsLooseSection Every) SectionHasMembers some_section is.file.0 is.sections is.file.2)))

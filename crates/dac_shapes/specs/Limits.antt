@@ -1,8 +1,11 @@
--- The limits in text order: whether each item is allowed after those before it.
+-- The limits in text order: whether each item is allowed after those before it. Each definition takes the limits that
+-- are kept; any others may be broken. A limit is identified by the fault that it causes.
 use Rattle.std.specs.Prelude.{◌≡◌, ℕ, ◌<◌, ◌≤◌, ◌==◌, Bool, true, false, List, [], ◌∷◌, ◌++◌, length, map, Option, None, Some, if◌then◌else◌, refl}
 use Rattle.std.specs.Str.{bytes_eq}
 use Rattle.std.specs.List.{list_any}
 use Rattle.dac_base.specs.declared.limits.TheConstants.{MAX_APPS, MAX_NODES}
+use Rattle.dac_tokens.specs.declared.fault.FaultKind.{FaultKind}
+use Rattle.dac_tokens.specs.declared.fault.FaultKind.TheVariants.{BadShape, TwiceApp, TwiceInList, TooManyNodes, TooManyApps, NameTooLong}
 use Rattle.dac_shapes.specs.declared.limits.TheConstants.{MAX_NAME, MAX_TEXT}
 use Rattle.dac_shapes.specs.declared.param.ParamName.{ParamName}
 use Rattle.dac_shapes.specs.declared.param.ParamName.TheVariants as named
@@ -62,7 +65,7 @@ abbrev pub steps : {A : Type 0} → (Seen → A → Seen) → Seen → List A �
 steps step seen [] = seen
 steps step seen (x ∷ xs) = steps step (step seen x) xs
 
--- ---- nodes
+-- ---- the names seen
 
 -- these names, followed by this one if it is new
 abbrev pub with_name : List (List ℕ) → List ℕ → List (List ℕ)
@@ -72,30 +75,13 @@ with_name names name = if is_among name names then names else names ++ name ∷ 
 abbrev pub with_node : Seen → List ℕ → Seen
 with_node seen name = record { met = with_name seen.met name; listed = seen.listed ++ name ∷ [] }
 
--- A node is allowed: its name has at most MAX_NAME bytes, it is new in its list unless repeats are allowed there, and
--- it was met before or fewer than MAX_NODES were.
-pub record MayNode (repeats : Bool) (seen : Seen) (name : List ℕ) : Type 0 where
-  pub short : length name ≤ MAX_NAME
-  pub once : repeats ≡ false → is_among name seen.listed ≡ false
-  pub few : is_among name seen.met ≡ false → length seen.met < MAX_NODES
-
 -- the names seen after these nodes
 abbrev pub with_nodes : Seen → List (List ℕ) → Seen
 with_nodes seen names = steps with_node seen names
 
--- these nodes are allowed, one after another
-abbrev pub MayNodes : Bool → Seen → List (List ℕ) → Type 0
-MayNodes repeats seen names = AllMay with_node (λ _. MayNode repeats) [] seen names
-
 -- the names seen after these groups
 abbrev pub with_groups : Seen → List (List (List ℕ)) → Seen
 with_groups seen groups = steps with_nodes seen groups
-
--- these groups are allowed, in which no node occurs twice
-abbrev pub MayGroups : Seen → List (List (List ℕ)) → Type 0
-MayGroups seen groups = AllMay with_nodes (λ _. MayNodes false) [] seen groups
-
--- ---- applications
 
 -- a node list begins, so that no names are listed
 abbrev pub listing : Seen → Seen
@@ -105,29 +91,13 @@ listing seen = record seen { listed = [] }
 abbrev pub with_app : Seen → App → Seen
 with_app seen app = with_groups (listing seen) app.groups
 
--- An application is allowed after these: its name has at most MAX_NAME bytes and is new, fewer than MAX_APPS precede
--- it, and its nodes are allowed.
-pub record MayApp (before : List App) (seen : Seen) (app : App) : Type 0 where
-  pub short : length app.name ≤ MAX_NAME
-  pub once : is_among app.name (map (λ a. a.name) before) ≡ false
-  pub few : length before < MAX_APPS
-  pub nodes : MayGroups (listing seen) app.groups
-
 -- the names seen after these applications
 abbrev pub with_apps : Seen → List App → Seen
 with_apps seen apps = steps with_app seen apps
 
--- ---- permissions
-
 -- a permission names no node
 abbrev pub with_permission : Seen → Permission → Seen
 with_permission seen permission = seen
-
--- a permission is allowed: its name has at most MAX_NAME bytes, whether or not an application has it
-abbrev pub MayPermission : List Permission → Seen → Permission → Type 0
-MayPermission before seen permission = length permission.name ≤ MAX_NAME
-
--- ---- parameters and sections
 
 -- the names seen after one more parameter
 abbrev pub with_param : Seen → Param → Seen
@@ -138,35 +108,70 @@ with_param seen (Optional names) = with_nodes seen names
 with_param seen (Timeout wait) = seen
 with_param seen Param.Other = seen
 
--- the value of a parameter is allowed
-abbrev pub MayValue : Seen → Param → Type 0
-MayValue seen (Distributed apps) = AllMay with_app MayApp [] seen apps
-MayValue seen (Permissions permissions) = AllMay with_permission MayPermission [] seen permissions
-MayValue seen (Mandatory names) = MayNodes true seen names
-MayValue seen (Optional names) = MayNodes true seen names
-MayValue seen (Timeout wait) = Unit {0}
-MayValue seen Param.Other = Unit {0}
-
--- a parameter is allowed after these: if it is one that is read, none of these has its name; and its value is allowed
-pub record MayParam (before : List Param) (seen : Seen) (param : Param) : Type 0 where
-  pub once : (name : ParamName) → name_of param ≡ Some name → has_param name before ≡ false
-  pub value : MayValue seen param
-
 -- the names seen after one more section
 abbrev pub with_section : Seen → Section → Seen
 with_section seen (Kernel params) = steps with_param seen params
 with_section seen Section.Other = seen
 
--- a section `kernel` is allowed after these: none of them is `kernel`, and its parameters are allowed
-pub record MayKernel (before : List Section) (seen : Seen) (kernel : List Param) : Type 0 where
-  pub once : has_kernel before ≡ false
-  pub params : AllMay with_param MayParam [] seen kernel
+-- ---- the limits that are kept
 
--- a section is allowed after these; any other than `kernel` always is
-abbrev pub MaySection : List Section → Seen → Section → Type 0
-MaySection before seen (Kernel params) = MayKernel before seen params
-MaySection before seen Section.Other = Unit {0}
+module _ (Kept : FaultKind → Type 0) where
+  -- A node's name has at most MAX_NAME bytes, is new in its list unless repeats are allowed there, and was met before
+  -- or fewer than MAX_NODES were.
+  pub record NodeKeeps (repeats : Bool) (seen : Seen) (name : List ℕ) : Type 0 where
+    pub short : Kept NameTooLong → length name ≤ MAX_NAME
+    pub once : Kept TwiceInList → repeats ≡ false → is_among name seen.listed ≡ false
+    pub few : Kept TooManyNodes → is_among name seen.met ≡ false → length seen.met < MAX_NODES
+
+  abbrev pub NodesKeep : Bool → Seen → List (List ℕ) → Type 0
+  NodesKeep repeats seen names = AllMay with_node (λ _. NodeKeeps repeats) [] seen names
+
+  -- groups in which no node occurs twice
+  abbrev pub GroupsKeep : Seen → List (List (List ℕ)) → Type 0
+  GroupsKeep seen groups = AllMay with_nodes (λ _. NodesKeep false) [] seen groups
+
+  -- An application's name has at most MAX_NAME bytes and is new; if it is new, fewer than MAX_APPS precede it.
+  pub record AppKeeps (before : List App) (seen : Seen) (app : App) : Type 0 where
+    pub short : Kept NameTooLong → length app.name ≤ MAX_NAME
+    pub once : Kept TwiceApp → is_among app.name (map (λ a. a.name) before) ≡ false
+    pub few : Kept TooManyApps → is_among app.name (map (λ a. a.name) before) ≡ false → length before < MAX_APPS
+    pub nodes : GroupsKeep (listing seen) app.groups
+
+  -- a permission's name has at most MAX_NAME bytes, whether or not an application has it
+  abbrev pub PermissionKeeps : List Permission → Seen → Permission → Type 0
+  PermissionKeeps before seen permission = Kept NameTooLong → length permission.name ≤ MAX_NAME
+
+  abbrev pub ValueKeeps : Seen → Param → Type 0
+  ValueKeeps seen (Distributed apps) = AllMay with_app AppKeeps [] seen apps
+  ValueKeeps seen (Permissions permissions) = AllMay with_permission PermissionKeeps [] seen permissions
+  ValueKeeps seen (Mandatory names) = NodesKeep true seen names
+  ValueKeeps seen (Optional names) = NodesKeep true seen names
+  ValueKeeps seen (Timeout wait) = Unit {0}
+  ValueKeeps seen Param.Other = Unit {0}
+
+  -- a parameter that is read occurs once
+  pub record ParamKeeps (before : List Param) (seen : Seen) (param : Param) : Type 0 where
+    pub once : Kept BadShape → (name : ParamName) → name_of param ≡ Some name → has_param name before ≡ false
+    pub value : ValueKeeps seen param
+
+  -- the section `kernel` occurs once
+  pub record KernelKeeps (before : List Section) (seen : Seen) (kernel : List Param) : Type 0 where
+    pub once : Kept BadShape → has_kernel before ≡ false
+    pub params : AllMay with_param ParamKeeps [] seen kernel
+
+  -- any section other than `kernel` is allowed
+  abbrev pub SectionKeeps : List Section → Seen → Section → Type 0
+  SectionKeeps before seen (Kernel params) = KernelKeeps before seen params
+  SectionKeeps before seen Section.Other = Unit {0}
+
+  -- sections keep the limits of these kinds
+  abbrev pub Keeps : List Section → Type 0
+  Keeps sections = AllMay with_section SectionKeeps [] nothing sections
+
+-- every limit is kept
+abbrev pub Every : FaultKind → Type 0
+Every kind = Unit {0}
 
 -- all sections of a text are allowed, in order
 abbrev pub MaySections : List Section → Type 0
-MaySections sections = AllMay with_section MaySection [] nothing sections
+MaySections sections = Keeps Every sections

@@ -1,5 +1,7 @@
 pub mod Names
 pub mod TermCases
-pub mod AgainLists
+pub mod Splits
 pub mod AgainTerms
 pub mod Again
+pub mod AgainReaders
+pub mod AgainSections

@@ -11,7 +11,7 @@ use Rattle.dac_shapes.specs.Limits.{Seen}
 use Rattle.dac_shapes.specs.Shape.{State, is_symbol, is_text, token, room, terms_at, terms_in, texts_at, term_by, term_at, passed_at}
 use Rattle.dac_shapes.specs.Grammar.{IsTerm, AreTerms, OfList, OfTuple, Atom, Integer, Strings, Empty, Between, One, More}
 use Rattle.dac_shapes.specs.laws.TermCases.{by_name, by_number, by_text, by_mark}
-use Rattle.dac_shapes.specs.laws.AgainLists.{words_of, cons_is, split, cut, none, ended, Begins, at}
+use Rattle.dac_shapes.specs.laws.Splits.{words_of, cons_is, split, cut, none, ended, Begins, at}
 
 term_begins : (ws : List Word) → IsTerm ws → Begins ws
 term_begins _ (Atom name) = record { head = Name name; tail = []; whole = refl; no_list = refl; no_tuple = refl }

@@ -1,5 +1,5 @@
 -- Parameters and sections are read, or their fault is of a limit or shape outside `Kept`.
-use Rattle.std.proofs.Common.{◌≡◌, ℕ, Bool, true, false, cond, List, [], ◌∷◌, ◌++◌, Option, None, Some, ◌≢◌, Result, Ok, refl, sym, ap, subst, ◌∙◌, codes, arith, inl, inr}
+use Rattle.std.proofs.Common.{◌≡◌, ℕ, Bool, true, false, cond, List, [], ◌∷◌, ◌++◌, Option, None, Some, ◌≢◌, Result, Ok, Err, refl, sym, ap, subst, ◌∙◌, codes, arith, inl, inr}
 use Rattle.std.specs.Str.{bytes_eq}
 use Rattle.dac_tokens.specs.declared.fault.ConfigFault.{ConfigFault}
 use Rattle.dac_tokens.specs.declared.fault.FaultKind.{FaultKind}
@@ -11,17 +11,15 @@ use Rattle.dac_shapes.specs.declared.draft.SyncWait.TheVariants.{NoSync, Forever
 use Rattle.dac_shapes.specs.declared.param.ParamName.{ParamName}
 use Rattle.dac_shapes.specs.declared.param.ParamName.TheVariants as named
 use Rattle.dac_shapes.specs.Written.{App, Permission, Param, Distributed, Permissions, Mandatory, Optional, Timeout, Section, Kernel, spelled}
-use Rattle.dac_shapes.specs.Limits.{Seen, nothing, AllMay, steps, has_param, has_kernel, with_node, with_nodes, with_app, with_apps, with_permission, with_param, with_section}
+use Rattle.dac_shapes.specs.Limits.{Seen, nothing, AllMay, steps, has_param, has_kernel, with_node, with_nodes, with_app, with_apps, with_permission, with_param, with_section, NodeKeeps, NodesKeep, AppKeeps, PermissionKeeps, ParamKeeps, KernelKeeps, SectionKeeps, Keeps, Every, MaySections}
 use Rattle.dac_tokens.specs.Digits.{value_from}
 use Rattle.dac_shapes.specs.Shape.{State, fails, node_of, wait_of, milliseconds_of, app_at, permission_at, param_named, param_name_of, param_value_at, param_rest_at, param_at, names_kernel, kernel_at, section_rest_at, section_at, passed_at, pair_at, closed, list_of}
-use Rattle.dac_shapes.specs.Grammar.{IsListOf, IsPair, IsNode, IsPermission, IsTerm, IsWait}
+use Rattle.dac_shapes.specs.Grammar.{IsListOf, IsPair, IsNode, IsPermission, IsTerm, IsMs, IsLooseApp, IsLooseWait, IsLooseParam, IsLooseSection}
 use Rattle.dac_shapes.specs.laws.Names.{is_named, param_is, same_seen}
-use Rattle.dac_shapes.specs.laws.AgainLists.{words_of, cons_is, cut, none, Begins, at}
+use Rattle.dac_shapes.specs.laws.Splits.{words_of, cons_is, cut, none, Begins, at}
 use Rattle.dac_shapes.specs.laws.AgainTerms.{passed_again}
-use Rattle.dac_first_fault.specs.Loose.{IsLooseApp, IsLooseWait, IsLooseParam, IsLooseSection}
-use Rattle.dac_first_fault.specs.Keeps.{NodeKeeps, NodesKeep, AppKeeps, PermissionKeeps, ParamKeeps, KernelKeeps, SectionKeeps, Keeps}
-use Rattle.dac_first_fault.proofs.Past.{Fine, Met, Said, met_then, met_is, bracketed_met, rest_met, pair_met}
-use Rattle.dac_first_fault.proofs.PastReaders.{large_is, atom_is, ms_is, node_begins, nodes_met, app_begins, app_met, permission_begins, permission_met}
+use Rattle.dac_shapes.specs.laws.Again.{Unkept, Nowhere, fine_nowhere, Fine, Met, Said, met_then, met_is, bracketed_met, rest_met, pair_met}
+use Rattle.dac_shapes.specs.laws.AgainReaders.{large_is, atom_is, ms_is, node_begins, nodes_met, app_begins, app_met, permission_begins, permission_met}
 
 pair_begins : (name : List ℕ) (IsValue : List Word → Type 0) (ws : List Word) → IsPair name IsValue ws → Begins ws
 pair_begins name IsValue ws is = record { head = Punctuation OpenTuple; tail = Name name ∷ Punctuation Comma ∷ is.0 ++ Punctuation CloseTuple ∷ []; whole = is.1; no_list = refl; no_tuple = refl }
@@ -65,15 +63,13 @@ no_kernel name other = by (bytes_eq name (codes "kernel")) refl
     by true e = absurd (other (is_named name (codes "kernel") e))
     by false e = refl
 
-wait_is : (w : Word) (offset : ℕ) (wait : SyncWait) → IsWait (w ∷ []) wait → wait_of (record { word = w; at = offset }) ≡ Ok wait
+forever_is : (offset : ℕ) → wait_of (record { word = Name (codes "infinity"); at = offset }) ≡ Ok Forever
 unfolding wait_of
-wait_is w offset NoSync is = absurd is
-wait_is w offset Forever is = let c = cons_is w (Name (codes "infinity")) [] [] is in rw c.0 refl
-wait_is w offset (Ms n) is =
-    let c = cons_is w is.0 [] [] is.1 in
-    let ms = is.2 in
-    let number : w ≡ Number ms.0 ms.1 = c.0 ∙ ms.2 in
-    rw (number, ms_is offset ms.0 (value_from 0 ms.1) n ms.3 ms.4 ms.5) refl
+forever_is offset = refl
+
+number_is : (w : Word) (n : ℕ) → IsMs w n → (offset : ℕ) → wait_of (record { word = w; at = offset }) ≡ Ok (Ms n)
+unfolding wait_of
+number_is w n ms offset = rw (ms.2, ms_is offset ms.0 (value_from 0 ms.1) n ms.3 ms.4 ms.5) refl
 
 module _ (last : Result Located ConfigFault) (Bad : ℕ → Type 0) (Kept : FaultKind → Type 0) where
   -- a repeated parameter or section causes a fault at its name
@@ -92,16 +88,16 @@ module _ (last : Result Located ConfigFault) (Bad : ℕ → Type 0) (Kept : Faul
   other_said : (before : List Param) (t : Located) (name : List ℕ) → t.word ≡ Name name → param_named name ≡ None → Said Bad Kept None (param_name_of before t)
   other_said before t name w other = subst (λ (r : Result (Option ParamName) ConfigFault). Said Bad Kept None r) (sym (other_is before t name w other)) refl
 
-  timeout_is : (t : Located) (us : List Located) (seen : Seen) (wait : SyncWait) → IsWait (t.word ∷ []) wait → param_value_at named.Timeout (at last (t ∷ us) seen) ≡ Ok (Timeout wait, at last us seen)
+  timeout_is : (t : Located) (us : List Located) (seen : Seen) (wait : SyncWait) → wait_of t ≡ Ok wait → param_value_at named.Timeout (at last (t ∷ us) seen) ≡ Ok (Timeout wait, at last us seen)
   unfolding param_value_at
-  timeout_is t us seen wait is = rw (wait_is t.word t.at wait is) refl
+  timeout_is t us seen wait is = rw is refl
 
   -- a wait that is one word
-  word_met : (vs us : List Located) (seen : Seen) (wait : SyncWait) (w : Word) → words_of vs ≡ w ∷ [] → IsWait (w ∷ []) wait → Met last Bad Kept (Timeout wait) us seen (param_value_at named.Timeout (at last (vs ++ us) seen))
+  word_met : (vs us : List Located) (seen : Seen) (wait : SyncWait) (w : Word) → words_of vs ≡ w ∷ [] → ((offset : ℕ) → wait_of (record { word = w; at = offset }) ≡ Ok wait) → Met last Bad Kept (Timeout wait) us seen (param_value_at named.Timeout (at last (vs ++ us) seen))
   word_met vs us seen wait w e is =
       let c = cut vs w [] e in
       let only : vs ≡ c.head ∷ [] = c.whole ∙ ap (λ (l : List Located). c.head ∷ l) (none c.tail c.rest) in
-      let said : IsWait (c.head.word ∷ []) wait = subst (λ (v : Word). IsWait (v ∷ []) wait) (sym c.is) is in
+      let said : wait_of c.head ≡ Ok wait = subst (λ (v : Word). wait_of (record { word = v; at = c.head.at }) ≡ Ok wait) (sym c.is) (is c.head.at) in
       met_is last Bad Kept (Timeout wait) us seen (param_value_at named.Timeout (at last (vs ++ us) seen)) (Ok (Timeout wait, at last us seen)) (ap (λ (l : List Located). param_value_at named.Timeout (at last (l ++ us) seen)) only ∙ timeout_is c.head us seen wait said) refl
 
   wait_large : (offset : ℕ) (digits : List ℕ) (us : List Located) (seen : Seen) → milliseconds_of offset false (value_from 0 digits) ≡ fails NumberTooLarge offset → param_value_at named.Timeout (at last (record { word = Number false digits; at = offset } ∷ us) seen) ≡ fails NumberTooLarge offset
@@ -110,9 +106,9 @@ module _ (last : Result Located ConfigFault) (Bad : ℕ → Type 0) (Kept : Faul
 
   timeout_met : (vs us : List Located) (seen : Seen) (wait : SyncWait) → IsLooseWait Kept (words_of vs) wait → Met last Bad Kept (Timeout wait) us seen (param_value_at named.Timeout (at last (vs ++ us) seen))
   timeout_met vs us seen NoSync is = absurd is
-  timeout_met vs us seen Forever is = word_met vs us seen Forever (Name (codes "infinity")) is refl
+  timeout_met vs us seen Forever is = word_met vs us seen Forever (Name (codes "infinity")) is forever_is
   timeout_met vs us seen (Ms n) is = elim is.2 [
-    | inl ms ↦ word_met vs us seen (Ms n) is.0 is.1 (is.0, refl, ms)
+    | inl ms ↦ word_met vs us seen (Ms n) is.0 is.1 (number_is is.0 n ms)
     | inr large ↦
         let c = cut vs is.0 [] is.1 in
         let number : c.head.word ≡ Number false large.1 = c.is ∙ large.2 in
@@ -232,3 +228,15 @@ module _ (last : Result Located ConfigFault) (Bad : ℕ → Type 0) (Kept : Faul
 
   pub sections_met : (ts us : List Located) (sections : List Section) → IsListOf (IsLooseSection Kept) (words_of ts) sections → Fine Bad ts → Keeps Kept sections → Met last Bad Kept sections us (steps with_section nothing sections) (list_of section_at (at last (ts ++ us) nothing))
   sections_met ts us sections is fine keep = bracketed_met last Bad Kept (IsLooseSection Kept) (section_begins Kept) section_at with_section (SectionKeeps Kept) section_met ts us nothing sections is fine keep
+
+never_unkept : (kind : FaultKind) (offset : ℕ) → Unkept Nowhere Every kind offset → ⊥
+never_unkept BadShape offset of = of.1 tt
+never_unkept _ offset of = of tt
+
+-- sections that keep every shape and limit are read
+pub sections_again : (last : Result Located ConfigFault) (ts us : List Located) (sections : List Section) → IsListOf (IsLooseSection Every) (words_of ts) sections → MaySections sections → list_of section_at (at last (ts ++ us) nothing) ≡ Ok (sections, at last us (steps with_section nothing sections))
+sections_again last ts us sections is may = read (list_of section_at (at last (ts ++ us) nothing)) (sections_met last Nowhere Every ts us sections is (fine_nowhere ts) may)
+  where
+    read : (r : Result (List Section × State) ConfigFault) → Met last Nowhere Every sections us (steps with_section nothing sections) r → r ≡ Ok (sections, at last us (steps with_section nothing sections))
+    read (Ok y) is = ap (λ (y : List Section × State). Ok y) is
+    read (Err e) of = absurd (never_unkept e.kind e.at of)

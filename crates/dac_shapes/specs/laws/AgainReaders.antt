@@ -9,14 +9,12 @@ use Rattle.dac_tokens.specs.declared.token.Symbol.TheVariants.{OpenList, CloseLi
 use Rattle.dac_tokens.specs.Gives.{◌>>=◌}
 use Rattle.dac_tokens.specs.Words.{Word, Punctuation, Name, Number, Located}
 use Rattle.dac_shapes.specs.Written.{App, Permission}
-use Rattle.dac_shapes.specs.Limits.{Seen, is_among, with_node, with_nodes, with_groups, listing, with_app}
+use Rattle.dac_shapes.specs.Limits.{Seen, is_among, with_node, with_nodes, with_groups, listing, with_app, NodeKeeps, NodesKeep, GroupsKeep, AppKeeps, PermissionKeeps}
 use Rattle.dac_tokens.specs.Digits.{value_from}
 use Rattle.dac_shapes.specs.Shape.{State, fails, is_symbol, atom_of, short_name_of, node_of, names_at, item_at, items_at, groups_at, milliseconds_of, timeout_at, app_name_of, app_value_at, app_at, flag_of, permission_value_at, permission_at, closed}
-use Rattle.dac_shapes.specs.Grammar.{Parted, IsNode, IsItem, IsMs, IsFlag, IsPermission}
-use Rattle.dac_shapes.specs.laws.AgainLists.{words_of, cons_is, split, cut, none, Begins, at, symbol_again}
-use Rattle.dac_first_fault.specs.Loose.{IsLooseItem, IsLooseNodeList, IsLooseAppValue, IsLooseApp}
-use Rattle.dac_first_fault.specs.Keeps.{NodeKeeps, NodesKeep, GroupsKeep, AppKeeps, PermissionKeeps}
-use Rattle.dac_first_fault.proofs.Past.{Fine, fine_front, Met, Said, met_then, said_then, said_said, said_if, met_if, met_is, parted_begins, whole_met, pair_met}
+use Rattle.dac_shapes.specs.Grammar.{Parted, IsNode, IsItem, IsMs, IsFlag, IsPermission, IsLooseItem, IsLooseNodeList, IsLooseAppValue, IsLooseApp}
+use Rattle.dac_shapes.specs.laws.Splits.{words_of, cons_is, split, cut, none, Begins, at, symbol_again}
+use Rattle.dac_shapes.specs.laws.Again.{Fine, fine_front, Met, Said, met_then, said_then, said_said, said_if, met_if, met_is, parted_begins, whole_met, pair_met}
 
 -- ---- single tokens
 
