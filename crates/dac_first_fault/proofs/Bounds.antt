@@ -1,5 +1,5 @@
 -- Tokens after which only quiet ones follow a bad name.
-use Rattle.std.proofs.Common.{ℕ, suc, ◌+◌, ◌≤◌, Bool, true, false, List, [], ◌∷◌, ◌++◌, arith}
+use Rattle.std.proofs.Common.{ℕ, suc, ◌+◌, ◌≤◌, List, [], ◌∷◌, ◌++◌, arith}
 use Rattle.std.proofs.lemmas.List.Elements.{All-nil}
 use Rattle.dac_tokens.specs.declared.fault.FaultKind.{FaultKind}
 use Rattle.dac_tokens.specs.declared.token.Symbol.TheVariants.{OpenList, CloseList, OpenTuple, CloseTuple, Comma, FullStop}
@@ -12,28 +12,28 @@ abbrev pub beyond : List Located → ℕ
 beyond [] = 0
 beyond (t ∷ ts) = suc (t.at + beyond ts)
 
-pub lone_beyond : (bad : ℕ) (Bound : FaultKind → Type 0) (ts : List Located) → beyond ts ≤ bad → Lone bad Bound ts
-lone_beyond bad Bound [] le = tt
-lone_beyond bad Bound (t ∷ ts) le = (λ e. absurd (omega (arith, e)), lone_beyond bad Bound ts (omega arith))
+pub lone_beyond : (Marks : Type 0) (bad : ℕ) (Bound : FaultKind → Type 0) (ts : List Located) → beyond ts ≤ bad → Lone Marks bad Bound ts
+lone_beyond Marks bad Bound [] le = tt
+lone_beyond Marks bad Bound (t ∷ ts) le = (λ e. absurd (omega (arith, e)), lone_beyond Marks bad Bound ts (omega arith))
 
 -- no tokens follow the last one
-quiet_none : (w : Word) → QuietBehind w []
-quiet_none (Punctuation OpenList) = All-nil IsQuiet
-quiet_none (Punctuation OpenTuple) = All-nil IsQuiet
-quiet_none (Punctuation CloseList) = All-nil IsQuiet
-quiet_none (Punctuation CloseTuple) = All-nil IsQuiet
-quiet_none (Punctuation Comma) = All-nil IsQuiet
-quiet_none (Punctuation FullStop) = All-nil IsQuiet
-quiet_none (Name name) = All-nil IsQuiet
-quiet_none (Number negative digits) = All-nil IsQuiet
-quiet_none Text = All-nil IsQuiet
-quiet_none End = All-nil IsQuiet
+quiet_none : (Marks : Type 0) (w : Word) → QuietBehind Marks w []
+quiet_none Marks (Punctuation OpenList) = All-nil (IsQuiet Marks)
+quiet_none Marks (Punctuation OpenTuple) = All-nil (IsQuiet Marks)
+quiet_none Marks (Punctuation CloseList) = All-nil (IsQuiet Marks)
+quiet_none Marks (Punctuation CloseTuple) = All-nil (IsQuiet Marks)
+quiet_none Marks (Punctuation Comma) = All-nil (IsQuiet Marks)
+quiet_none Marks (Punctuation FullStop) = All-nil (IsQuiet Marks)
+quiet_none Marks (Name name) = All-nil (IsQuiet Marks)
+quiet_none Marks (Number negative digits) = All-nil (IsQuiet Marks)
+quiet_none Marks Text = All-nil (IsQuiet Marks)
+quiet_none Marks End = All-nil (IsQuiet Marks)
 
-pub lone_last : (bad : ℕ) (Bound : FaultKind → Type 0) (a : List Located) (l : Located) → Clear bad a → Lone bad Bound (a ++ l ∷ [])
-lone_last bad Bound [] l clear = (λ e. quiet_none l.word, tt)
-lone_last bad Bound (t ∷ a) l clear = (λ e. absurd (clear.0 e), lone_last bad Bound a l clear.1)
+pub lone_last : (Marks : Type 0) (bad : ℕ) (Bound : FaultKind → Type 0) (a : List Located) (l : Located) → Clear bad a → Lone Marks bad Bound (a ++ l ∷ [])
+lone_last Marks bad Bound [] l clear = (λ e. quiet_none Marks l.word, tt)
+lone_last Marks bad Bound (t ∷ a) l clear = (λ e. absurd (clear.0 e), lone_last Marks bad Bound a l clear.1)
 
 -- after an opening bracket, only the last token follows
-pub lone_two : (bad : ℕ) (Bound : FaultKind → Type 0) (a : List Located) (o l : Located) → QuietBehind o.word (l ∷ []) → Clear bad a → Lone bad Bound (a ++ o ∷ l ∷ [])
-lone_two bad Bound [] o l quiet clear = (λ e. quiet, (λ e. quiet_none l.word, tt))
-lone_two bad Bound (t ∷ a) o l quiet clear = (λ e. absurd (clear.0 e), lone_two bad Bound a o l quiet clear.1)
+pub lone_two : (Marks : Type 0) (bad : ℕ) (Bound : FaultKind → Type 0) (a : List Located) (o l : Located) → QuietBehind Marks o.word (l ∷ []) → Clear bad a → Lone Marks bad Bound (a ++ o ∷ l ∷ [])
+lone_two Marks bad Bound [] o l quiet clear = (λ e. quiet, (λ e. quiet_none Marks l.word, tt))
+lone_two Marks bad Bound (t ∷ a) o l quiet clear = (λ e. absurd (clear.0 e), lone_two Marks bad Bound a o l quiet clear.1)

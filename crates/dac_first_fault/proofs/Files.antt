@@ -24,8 +24,7 @@ use Rattle.dac_first_fault.proofs.Outcomes.{Took, Failed, Asked, Takes, Always, 
 use Rattle.dac_first_fault.proofs.Steps.{mark_is, symbol_yes, symbol_no, symbol_none, symbol_end}
 use Rattle.dac_first_fault.proofs.Sections.{sections_reader}
 use Rattle.dac_first_fault.proofs.Begun.{halt, by_pair}
-use Rattle.dac_first_fault.proofs.BegunSections.{file_begun}
-use Rattle.dac_first_fault.proofs.Held.{IsQuiet, QuietBehind, Stops, Lone, Had, Holds}
+use Rattle.dac_first_fault.proofs.Held.{Quieted, IsQuiet, QuietBehind, Stops, Lone, Had, Holds}
 use Rattle.dac_first_fault.proofs.HeldSections.{AreSections, sections_held}
 use Rattle.dac_shapes.specs.laws.Again.{Unkept, Nowhere, fine_nowhere, Fine, fine_front, Met}
 use Rattle.dac_first_fault.proofs.Spared.{Strict, sections_so, strictly_so}
@@ -34,7 +33,7 @@ use Rattle.dac_first_fault.proofs.Order.{words_append}
 use Rattle.dac_first_fault.proofs.Fewer.{keeps_fewer}
 use Rattle.dac_first_fault.proofs.Bounds.{beyond, lone_beyond, lone_last, lone_two}
 use Rattle.dac_first_fault.proofs.Offsets.{At, Strictly, Clear, name_of_it, stops_so, fine_both, not_name, not_kept, name_or_not, last_named, spelled_fine, text_clear, text_fine, begins_front}
-use Rattle.dac_first_fault.proofs.HeldFile.{file_kept}
+use Rattle.dac_first_fault.proofs.HeldFile.{file_kept, file_begun}
 
 brings_by : (w : Word) (ws : List Word) (k : FaultKind) → Breaks ws k → (IsNoName w → Spoils ws k) → Brings w ws k
 brings_by (Name name) ws k breaks spoils = breaks
@@ -43,16 +42,16 @@ brings_by (Number negative digits) ws k breaks spoils = spoils tt
 brings_by Text ws k breaks spoils = spoils tt
 brings_by End ws k breaks spoils = spoils tt
 
-quiet_name : (w : Word) → IsQuiet w → IsNoName w
+quiet_name : (w : Word) → IsQuiet Quieted w → IsNoName w
 quiet_name (Name name) quiet = quiet
 quiet_name (Punctuation symbol) quiet = tt
 quiet_name (Number negative digits) quiet = tt
 quiet_name Text quiet = tt
 quiet_name End quiet = tt
 
-quiet_names : (ws : List Word) → All IsQuiet ws → All IsNoName ws
+quiet_names : (ws : List Word) → All (IsQuiet Quieted) ws → All IsNoName ws
 quiet_names [] all = All-nil IsNoName
-quiet_names (w ∷ ws) all = All-cons IsNoName w ws (quiet_name w (All-head IsQuiet w ws all)) (quiet_names ws (All-tail IsQuiet w ws all))
+quiet_names (w ∷ ws) all = All-cons IsNoName w ws (quiet_name w (All-head (IsQuiet Quieted) w ws all)) (quiet_names ws (All-tail (IsQuiet Quieted) w ws all))
 
 -- ---- the end of a file
 
@@ -159,8 +158,8 @@ module _ (ts : List Located) (k : Takes Always Plain (λ _. list_of section_at) 
   done c is =
       let ts = k.a ++ c ∷ [] in
       let bad = beyond ts in
-      let q : Had bad Every by_pair (AreSections bad Every) (words ts) (k.x, at (Err halt) (c ∷ []) k.after) =
-      subst (λ (r : Result (List Section × State) ConfigFault). Holds bad Every by_pair (AreSections bad Every) (words ts) r) (k.goes tt (Err halt) (c ∷ []) tt) (sections_held bad Every ts (lone_beyond bad Every ts (omega arith))) in
+      let q : Had Quieted bad Every by_pair (AreSections Every) (words ts) (k.x, at (Err halt) (c ∷ []) k.after) =
+      subst (λ (r : Result (List Section × State) ConfigFault). Holds Quieted bad Every by_pair (AreSections Every) (words ts) r) (k.goes tt (Err halt) (c ∷ []) tt) (sections_held Quieted bad Every (inl tt) ts (lone_beyond Quieted bad Every ts (omega arith))) in
       (k.x, (q.own, q.whole ∙ ap (λ (w : Word). q.own ++ w ∷ []) (mark_is FullStop c.word is), q.is.0), q.is.1)
 
   stopped_by : (c : Located) (b : List Located) → is_symbol FullStop c.word ≡ true → NoEnd b → Judged (k.a ++ c ∷ b)
@@ -191,9 +190,9 @@ module _ (order : (sections : List Section) → (MaySections sections ↔ AreWit
   -- if reading reaches the end of the tokens, they are a valid prefix
   well : (ts : List Located) → file_at (at (Err halt) ts nothing) ≡ Err halt → IsWell (words ts)
   well ts e =
-      let b = file_begun ts e in
       let bad = beyond ts in
-      let k = file_kept bad Every ts (lone_beyond bad Every ts (omega arith)) halt tt e in
+      let b = file_begun bad ts (lone_beyond ⊥ bad Strict ts (omega arith)) e in
+      let k = file_kept Quieted bad Every (inl tt) ts (lone_beyond Quieted bad Every ts (omega arith)) halt tt e in
       record {
         goes_on = record { more = b.more; sections = b.x; file = b.is; keeps = tt };
         named = k.named;
@@ -283,12 +282,12 @@ module _ (order : (sections : List Section) → (MaySections sections ↔ AreWit
   none_keeps a l e fault c = not_kept e.kind e.at (goes_on a l e fault Nowhere (Only e.kind) 0 c.more c.sections (loosely (Only e.kind) ((words a ++ l.word ∷ []) ++ c.more) c.sections c.file) c.keeps (fine_nowhere (a ++ l ∷ map (place_at 0) c.more)))
 
   -- if reading stopped at the last token, some loose file begins with all tokens
-  stopped_kept : (bad : ℕ) (Bound : FaultKind → Type 0) (a : List Located) (l : Located) (e : ConfigFault) → ((last : Result Located ConfigFault) (rest : List Located) → file_at (at last (a ++ l ∷ rest) nothing) ≡ Err e) → Lone bad Bound (a ++ l ∷ []) → Stops bad Bound e.kind e.at → (IsQuiet l.word → ⊥)
+  stopped_kept : (bad : ℕ) (Bound : FaultKind → Type 0) (a : List Located) (l : Located) (e : ConfigFault) → ((last : Result Located ConfigFault) (rest : List Located) → file_at (at last (a ++ l ∷ rest) nothing) ≡ Err e) → Lone Quieted bad Bound (a ++ l ∷ []) → Stops bad Bound e.kind e.at → ((IsQuiet Quieted) l.word → ⊥)
       → (more : List Word) × (sections : List Section) × IsLooseFile Bound ((words a ++ l.word ∷ []) ++ more) sections × Keeps Bound sections
   stopped_kept bad Bound a l e fault lone stops loud =
-      let k = file_kept bad Bound (a ++ l ∷ []) lone e stops (fault (Err halt) []) in
+      let k = file_kept Quieted bad Bound (inl tt) (a ++ l ∷ []) lone e stops (fault (Err halt) []) in
       let same : words (a ++ l ∷ []) ≡ words a ++ l.word ∷ [] = words_append a (l ∷ []) in
-      let none = last_named IsQuiet (words a) l.word k.named k.rest loud (sym same ∙ k.parts) k.quiet in
+      let none = last_named (IsQuiet Quieted) (words a) l.word k.named k.rest loud (sym same ∙ k.parts) k.quiet in
       let all : words a ++ l.word ∷ [] ≡ k.named = sym same ∙ k.parts ∙ ap (λ (l : List Word). k.named ++ l) none ∙ append-nil k.named in
       (k.begun.more, k.begun.x, subst (λ (m : List Word). IsLooseFile Bound (m ++ k.begun.more) k.begun.x) (sym all) k.begun.is.0, k.begun.is.1)
 
@@ -297,7 +296,7 @@ module _ (order : (sections : List Section) → (MaySections sections ↔ AreWit
   first_kept a l e fault stands clear of =
       let n = name_of_it a l e stands of in
       let Bound = Strictly e.kind in
-      let k = stopped_kept l.at Bound a l e fault (lone_last l.at Bound a l clear) (stops_so e.kind e.at l.at n.1 of) (λ quiet. subst IsQuiet n.0.1 quiet) in
+      let k = stopped_kept l.at Bound a l e fault (lone_last Quieted l.at Bound a l clear) (stops_so e.kind e.at l.at n.1 of) (λ quiet. subst (IsQuiet Quieted) n.0.1 quiet) in
       record { more = k.0; sections = k.1; file = file_loose Bound Every (λ kind strict _. inr strict) ((words a ++ l.word ∷ []) ++ k.0) k.1 k.2; keeps = keeps_fewer (Before e.kind) Bound (λ kind less. inl less) k.1 k.3 }
 
   breaks : (a : List Located) (l : Located) (e : ConfigFault) → ((last : Result Located ConfigFault) (rest : List Located) → file_at (at last (a ++ l ∷ rest) nothing) ≡ Err e) → IsLocatedAt a l e → Clear l.at a → Breaks (words a ++ l.word ∷ []) e.kind
@@ -310,20 +309,20 @@ module _ (order : (sections : List Section) → (MaySections sections ↔ AreWit
       (subst (λ (f : ConfigFault). Unkept (At l.at) NoKind f.kind f.at) is (goes_on a l e fault (At l.at) NoKind (suc l.at) c.more c.sections c.file (sections_so NoKind (λ kind limit no. no) c.sections) all)).0 refl
 
   -- after any other fault at a token that is no name, some loose file continues
-  spoilt_so : (bad : ℕ) (a : List Located) (l : Located) (e : ConfigFault) → ((last : Result Located ConfigFault) (rest : List Located) → file_at (at last (a ++ l ∷ rest) nothing) ≡ Err e) → Lone bad NoKind (a ++ l ∷ []) → Stops bad NoKind e.kind e.at → (IsQuiet l.word → ⊥) → CanBeginLoosely (words a ++ l.word ∷ [])
+  spoilt_so : (bad : ℕ) (a : List Located) (l : Located) (e : ConfigFault) → ((last : Result Located ConfigFault) (rest : List Located) → file_at (at last (a ++ l ∷ rest) nothing) ≡ Err e) → Lone Quieted bad NoKind (a ++ l ∷ []) → Stops bad NoKind e.kind e.at → ((IsQuiet Quieted) l.word → ⊥) → CanBeginLoosely (words a ++ l.word ∷ [])
   spoilt_so bad a l e fault lone stops loud = let k = stopped_kept bad NoKind a l e fault lone stops loud in record { more = k.0; sections = k.1; file = k.2 }
 
   module _ (text : List ℕ) (a : List Located) (l : Located) (begins : BeginsWith text (a ++ l ∷ [])) (no_name : IsNoName l.word) where
     abbrev FaultsBy : ConfigFault → Type 0
     FaultsBy e = (last : Result Located ConfigFault) (rest : List Located) → file_at (at last (a ++ l ∷ rest) nothing) ≡ Err e
 
-    itself_spoils : (k : FaultKind) (offset : ℕ) → FaultsBy (record { kind = k; at = offset }) → Stops l.at NoKind k offset → (IsQuiet l.word → ⊥) → CanBeginLoosely (words a ++ l.word ∷ [])
-    itself_spoils k offset fault stops loud = spoilt_so l.at a l (record { kind = k; at = offset }) fault (lone_last l.at NoKind a l (text_clear text a l begins)) stops loud
+    itself_spoils : (k : FaultKind) (offset : ℕ) → FaultsBy (record { kind = k; at = offset }) → Stops l.at NoKind k offset → ((IsQuiet Quieted) l.word → ⊥) → CanBeginLoosely (words a ++ l.word ∷ [])
+    itself_spoils k offset fault stops loud = spoilt_so l.at a l (record { kind = k; at = offset }) fault (lone_last Quieted l.at NoKind a l (text_clear text a l begins)) stops loud
 
     itself_told : (k : FaultKind) (offset : ℕ) → FaultsBy (record { kind = k; at = offset }) → offset ≡ l.at → CanCause k l.word → Spoils (words a ++ l.word ∷ []) k
     itself_told BadShape offset fault e can = none_loosely a l (record { kind = BadShape; at = offset }) fault (ap (λ (n : ℕ). record { kind = BadShape; at = n }) e) no_name (text_fine text a l begins)
-    itself_told Unsupported offset fault e can = itself_spoils Unsupported offset fault (e, λ no. no) (λ quiet. subst IsQuiet can quiet)
-    itself_told NumberTooLarge offset fault e can = itself_spoils NumberTooLarge offset fault (e, λ no. no) (λ quiet. subst IsQuiet can.1 quiet)
+    itself_told Unsupported offset fault e can = itself_spoils Unsupported offset fault (e, λ no. no) (λ quiet. subst (IsQuiet Quieted) can quiet)
+    itself_told NumberTooLarge offset fault e can = itself_spoils NumberTooLarge offset fault (e, λ no. no) (λ quiet. subst (IsQuiet Quieted) can.1 quiet)
     itself_told NameTooLong offset fault e can = absurd (subst IsNoName can.1 no_name)
     itself_told TwiceApp offset fault e can = absurd (subst IsNoName can.1 no_name)
     itself_told TwiceInList offset fault e can = absurd (subst IsNoName can.1 no_name)
@@ -332,20 +331,20 @@ module _ (order : (sections : List Section) → (MaySections sections ↔ AreWit
     itself_told _ offset fault e can = absurd can
 
     -- brackets with nothing between
-    empty_told : (e : ConfigFault) (front : List Located) (o : Located) → FaultsBy e → a ≡ front ++ o ∷ [] → QuietBehind o.word (l ∷ []) → Stops o.at NoKind e.kind e.at → (IsQuiet l.word → ⊥) → CanBeginLoosely (words a ++ l.word ∷ [])
+    empty_told : (e : ConfigFault) (front : List Located) (o : Located) → FaultsBy e → a ≡ front ++ o ∷ [] → QuietBehind Quieted o.word (l ∷ []) → Stops o.at NoKind e.kind e.at → ((IsQuiet Quieted) l.word → ⊥) → CanBeginLoosely (words a ++ l.word ∷ [])
     empty_told e front o fault parts quiet stops loud =
         let whole : a ++ l ∷ [] ≡ front ++ o ∷ l ∷ [] = ap (λ (ts : List Located). ts ++ l ∷ []) parts ∙ append_assoc front (o ∷ []) (l ∷ []) in
         let before : BeginsWith text (front ++ o ∷ []) = subst (λ (ts : List Located). BeginsWith text ts) parts (begins_front text a l begins) in
-        spoilt_so o.at a l e fault (subst (λ (ts : List Located). Lone o.at NoKind ts) (sym whole) (lone_two o.at NoKind front o l quiet (text_clear text front o before))) stops loud
+        spoilt_so o.at a l e fault (subst (λ (ts : List Located). Lone Quieted o.at NoKind ts) (sym whole) (lone_two Quieted o.at NoKind front o l quiet (text_clear text front o before))) stops loud
 
     told : (e : ConfigFault) → FaultsBy e → IsLocatedAt a l e → Spoils (words a ++ l.word ∷ []) e.kind
     told e fault (Itself offset can) = itself_told e.kind e.at fault offset can
     told e fault (InList front o parts w v k) =
         subst (λ (f : ConfigFault). Spoils (words a ++ l.word ∷ []) f.kind) (sym k)
-        (empty_told e front o fault parts (subst (λ (u : Word). QuietBehind u (l ∷ [])) (sym w) (All-nil IsQuiet)) (subst (λ (f : ConfigFault). Stops o.at NoKind f.kind f.at) (sym k) (refl, λ no. no)) (λ quiet. subst IsQuiet v quiet))
+        (empty_told e front o fault parts (subst (λ (u : Word). QuietBehind Quieted u (l ∷ [])) (sym w) (All-nil (IsQuiet Quieted))) (subst (λ (f : ConfigFault). Stops o.at NoKind f.kind f.at) (sym k) (refl, λ no. no)) (λ quiet. subst (IsQuiet Quieted) v quiet))
     told e fault (InTuple front o parts w v k) =
         subst (λ (f : ConfigFault). Spoils (words a ++ l.word ∷ []) f.kind) (sym k)
-        (empty_told e front o fault parts (subst (λ (u : Word). QuietBehind u (l ∷ [])) (sym w) (All-nil IsQuiet)) (subst (λ (f : ConfigFault). Stops o.at NoKind f.kind f.at) (sym k) (refl, λ no. no)) (λ quiet. subst IsQuiet v quiet))
+        (empty_told e front o fault parts (subst (λ (u : Word). QuietBehind Quieted u (l ∷ [])) (sym w) (All-nil (IsQuiet Quieted))) (subst (λ (f : ConfigFault). Stops o.at NoKind f.kind f.at) (sym k) (refl, λ no. no)) (λ quiet. subst (IsQuiet Quieted) v quiet))
 
   -- with the token of the fault the prefix isn't valid
   not_well : (a : List Located) (l : Located) (e : ConfigFault) → ((last : Result Located ConfigFault) (rest : List Located) → file_at (at last (a ++ l ∷ rest) nothing) ≡ Err e) → IsLocatedAt a l e → Fine (At l.at) a → IsWell (words a ++ l.word ∷ []) → ⊥

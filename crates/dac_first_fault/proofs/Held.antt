@@ -7,7 +7,7 @@ use Rattle.dac_tokens.specs.declared.fault.ConfigFault.{ConfigFault}
 use Rattle.dac_tokens.specs.declared.fault.FaultKind.{FaultKind}
 use Rattle.dac_tokens.specs.declared.fault.FaultKind.TheVariants.{BadShape, TooLong, TwiceApp, TwiceInList, TooManyApps, TooManyNodes, NameTooLong, EmptyList, EmptyTuple, NumberTooLarge, Unsupported}
 use Rattle.dac_tokens.specs.declared.token.Symbol.{Symbol}
-use Rattle.dac_tokens.specs.declared.token.Symbol.TheVariants.{OpenList, CloseList, OpenTuple, CloseTuple, Comma, FullStop}
+use Rattle.dac_tokens.specs.declared.token.Symbol.TheVariants.{OpenList, CloseList, OpenTuple, CloseTuple, Comma}
 use Rattle.dac_tokens.specs.Gives.{◌>>=◌}
 use Rattle.dac_tokens.specs.Words.{Word, Punctuation, Name, Located}
 use Rattle.dac_shapes.specs.Limits.{Seen, AllMay, steps}
@@ -22,28 +22,16 @@ use Rattle.dac_first_fault.proofs.Begun.{halt, words_in, Begun, Via, by_pair}
 abbrev pub words : List Located → List Word
 words ts = map (λ t. t.word) ts
 
--- A quiet word, after which a prefix can't be wrong yet: an opening bracket, a comma or a full stop.
-abbrev pub IsQuiet : Word → Type 0
-IsQuiet (Punctuation OpenList) = Unit {0}
-IsQuiet (Punctuation OpenTuple) = Unit {0}
-IsQuiet (Punctuation Comma) = Unit {0}
-IsQuiet (Punctuation FullStop) = Unit {0}
-IsQuiet _ = ⊥
+-- A quiet word, after which a prefix can't be wrong yet: an opening bracket or a comma, if `Marks` holds.
+abbrev pub IsQuiet : Type 0 → Word → Type 0
+IsQuiet Marks (Punctuation OpenList) = Marks
+IsQuiet Marks (Punctuation OpenTuple) = Marks
+IsQuiet Marks (Punctuation Comma) = Marks
+IsQuiet Marks _ = ⊥
 
--- these words up to the last that isn't quiet begin an item of the kind `Is`
-pub record Kept {X : Type 0} (Is : List Word → X → Type 0) (ws : List Word) : Type 0 where
-  pub named : List Word
-  pub rest : List Word
-  pub parts : ws ≡ named ++ rest
-  pub quiet : All IsQuiet rest
-  pub begun : Begun Is named
-
-abbrev pub Held : {X : Type 0} → (List Word → X → Type 0) → List Word → Type 0
-Held Is ws = All IsQuiet ws ⊎ Kept Is ws
-
--- words that begin an item are kept whole
-pub all_kept : {X : Type 0} (Is : List Word → X → Type 0) (ws : List Word) → Begun Is ws → Kept Is ws
-all_kept Is ws b = record { named = ws; rest = []; parts = sym (append-nil ws); quiet = All-nil IsQuiet; begun = b }
+-- brackets and commas are quiet
+abbrev pub Quieted : Type 0
+Quieted = Unit {0}
 
 -- neither the limit of this fault nor one that counts after it is bound
 abbrev pub Frees : (FaultKind → Type 0) → FaultKind → Type 0
@@ -71,20 +59,41 @@ Taken Is May step seen own x = Is own x.0 × May seen x.0 × (x.1.seen ≡ step 
 abbrev pub IsHeldClosed : {A : Type 0} → (List Word → A → Seen → Type 0) → List Word → A × State → Type 0
 IsHeldClosed Is own x = (v : List Word) × (own ≡ v ++ Punctuation CloseTuple ∷ []) × Is v x.0 x.1.seen
 
+-- in the second case, something begins so
+pub or_begun : {M F B : Type 0} → M ⊎ F → (F → B) → M ⊎ B
+or_begun (inl m) f = inl m
+or_begun (inr x) f = inr (f x)
+
 abbrev pub but_one : List Located → List Located
 but_one [] = []
 but_one (t ∷ ts) = ts
 
--- the words after a word are quiet
-abbrev pub QuietBehind : Word → List Located → Type 0
-QuietBehind (Punctuation OpenList) ts = All IsQuiet (words (but_one ts))
-QuietBehind (Punctuation OpenTuple) ts = All IsQuiet (words (but_one ts))
-QuietBehind _ ts = All IsQuiet (words ts)
+module _ (Marks : Type 0) where
+  -- these words up to the last that isn't quiet begin an item of the kind `Is`
+  pub record Kept {X : Type 0} (Is : List Word → X → Type 0) (ws : List Word) : Type 0 where
+    pub named : List Word
+    pub rest : List Word
+    pub parts : ws ≡ named ++ rest
+    pub quiet : All (IsQuiet Marks) rest
+    pub begun : Begun Is named
 
-module _ (bad : ℕ) (Bound : FaultKind → Type 0) where
+  abbrev pub Held : {X : Type 0} → (List Word → X → Type 0) → List Word → Type 0
+  Held Is ws = All (IsQuiet Marks) ws ⊎ Kept Is ws
+
+  -- words that begin an item are kept whole
+  pub all_kept : {X : Type 0} (Is : List Word → X → Type 0) (ws : List Word) → Begun Is ws → Kept Is ws
+  all_kept Is ws b = record { named = ws; rest = []; parts = sym (append-nil ws); quiet = All-nil (IsQuiet Marks); begun = b }
+
+  -- the words after a word are quiet
+  abbrev pub QuietBehind : Word → List Located → Type 0
+  QuietBehind (Punctuation OpenList) ts = All (IsQuiet Marks) (words (but_one ts))
+  QuietBehind (Punctuation OpenTuple) ts = All (IsQuiet Marks) (words (but_one ts))
+  QuietBehind _ ts = All (IsQuiet Marks) (words ts)
+
+module _ (Marks : Type 0) (bad : ℕ) (Bound : FaultKind → Type 0) where
   -- Only quiet words follow a token at the offset `bad`; if it is an opening bracket, they follow one more token.
   abbrev pub Alone : Located → List Located → Type 0
-  Alone t ts = t.at ≡ bad → QuietBehind t.word ts
+  Alone t ts = t.at ≡ bad → QuietBehind Marks t.word ts
 
   abbrev pub Lone : List Located → Type 0
   Lone [] = Unit {0}
@@ -106,7 +115,7 @@ module _ (bad : ℕ) (Bound : FaultKind → Type 0) where
 
   abbrev pub Holds : {X : Type 0} → Via X → (List Word → X → Type 0) → List Word → Result X ConfigFault → Type 0
   Holds via Is ws (Ok x) = Had via Is ws x
-  Holds via Is ws (Err e) = Stops bad Bound e.kind e.at → Held Is ws
+  Holds via Is ws (Err e) = Stops bad Bound e.kind e.at → Held Marks Is ws
 
   -- the contents of a token, or the consequence if it breaks a limit
   abbrev pub Shows : {K : Type 0} → Type 0 → (K → Type 0) → Result K ConfigFault → Type 0
@@ -130,19 +139,19 @@ module _ (bad : ℕ) (Bound : FaultKind → Type 0) where
   Unfit K Says t = (name : List ℕ) × (t.word ≡ Name name) × (t.at ≡ bad) × ((k : K) × Says t.word k)
 
   -- the last token begins an item
-  pub spoilt : {X : Type 0} (Is : List Word → X → Type 0) (t : Located) (ts : List Located) → All IsQuiet (words ts) → Begun Is (t.word ∷ []) → Held Is (t.word ∷ words ts)
+  pub spoilt : {X : Type 0} (Is : List Word → X → Type 0) (t : Located) (ts : List Located) → All (IsQuiet Marks) (words ts) → Begun Is (t.word ∷ []) → Held Marks Is (t.word ∷ words ts)
   spoilt Is t ts quiet b = inr (record { named = t.word ∷ []; rest = words ts; parts = refl; quiet = quiet; begun = b })
 
   -- a name that broke a limit, as the last token
-  pub broken : {X : Type 0} (Is : List Word → X → Type 0) (t : Located) (ts : List Located) → Alone t ts → (name : List ℕ) → t.word ≡ Name name → t.at ≡ bad → Begun (λ vs x. Is (t.word ∷ vs) x) [] → Held Is (t.word ∷ words ts)
-  broken Is t ts alone name is e b = spoilt Is t ts (subst (λ (w : Word). QuietBehind w ts) is (alone e)) (record { more = b.more; x = b.x; is = b.is })
+  pub broken : {X : Type 0} (Is : List Word → X → Type 0) (t : Located) (ts : List Located) → Alone t ts → (name : List ℕ) → t.word ≡ Name name → t.at ≡ bad → Begun (λ vs x. Is (t.word ∷ vs) x) [] → Held Marks Is (t.word ∷ words ts)
+  broken Is t ts alone name is e b = spoilt Is t ts (subst (λ (w : Word). QuietBehind Marks w ts) is (alone e)) (record { more = b.more; x = b.x; is = b.is })
 
   pub held_if : {X : Type 0} (via : Via X) (Is : List Word → X → Type 0) (ws : List Word) (c : Bool) (r q : Result X ConfigFault) → (c ≡ true → Holds via Is ws r) → (c ≡ false → Holds via Is ws q) → Holds via Is ws (cond c r q)
   held_if via Is ws true r q a b = a refl
   held_if via Is ws false r q a b = b refl
 
   module _ {X : Type 0} (via : Via X) (Is Is' : List Word → X → Type 0) (to : (vs : List Word) (x : X) → Is vs x → Is' vs x) where
-    kept_to : (ws : List Word) → Kept Is ws → Kept Is' ws
+    kept_to : (ws : List Word) → Kept Marks Is ws → Kept Marks Is' ws
     kept_to ws k = record { named = k.named; rest = k.rest; parts = k.parts; quiet = k.quiet; begun = record { more = k.begun.more; x = k.begun.x; is = to (k.named ++ k.begun.more) k.begun.x k.begun.is } }
 
     pub held_to : (ws : List Word) (r : Result X ConfigFault) → Holds via Is ws r → Holds via Is' ws r
@@ -153,7 +162,7 @@ module _ (bad : ℕ) (Bound : FaultKind → Type 0) where
     ]
 
   module _ {X : Type 0} (via : Via X) (Is : List Word → X → Type 0) (a : List Word) where
-    kept_behind : (ws : List Word) → Kept (λ vs x. Is (a ++ vs) x) ws → Kept Is (a ++ ws)
+    kept_behind : (ws : List Word) → Kept Marks (λ vs x. Is (a ++ vs) x) ws → Kept Marks Is (a ++ ws)
     kept_behind ws k = record {
       named = a ++ k.named;
       rest = k.rest;
@@ -166,10 +175,10 @@ module _ (bad : ℕ) (Bound : FaultKind → Type 0) where
     read_behind ws x k = record { own = a ++ k.own; whole = ap (λ (l : List Word). a ++ l) k.whole ∙ sym (append_assoc a k.own (via.rest x)); is = k.is; short = k.short }
 
     -- after words without a name
-    pub behind_marks : All IsQuiet a → (ws : List Word) (r : Result X ConfigFault) → Holds via (λ vs x. Is (a ++ vs) x) ws r → Holds via Is (a ++ ws) r
+    pub behind_marks : All (IsQuiet Marks) a → (ws : List Word) (r : Result X ConfigFault) → Holds via (λ vs x. Is (a ++ vs) x) ws r → Holds via Is (a ++ ws) r
     behind_marks none ws (Ok x) k = read_behind ws x k
     behind_marks none ws (Err e) k = λ h. elim (k h) [
-      | inl n ↦ inl (All-append IsQuiet a ws none n)
+      | inl n ↦ inl (All-append (IsQuiet Marks) a ws none n)
       | inr q ↦ inr (kept_behind ws q)
     ]
 
@@ -181,13 +190,20 @@ module _ (bad : ℕ) (Bound : FaultKind → Type 0) where
       | inr q ↦ inr (kept_behind ws q)
     ]
 
-  pub behind_mark : {X : Type 0} (via : Via X) (Is : List Word → X → Type 0) (x : Symbol) → IsQuiet (Punctuation x) → (ws : List Word) (r : Result X ConfigFault) → Holds via (λ vs y. Is (Punctuation x ∷ vs) y) ws r → Holds via Is (Punctuation x ∷ ws) r
-  behind_mark via Is x quiet ws r k = behind_marks via Is (Punctuation x ∷ []) (All-cons IsQuiet (Punctuation x) [] quiet (All-nil IsQuiet)) ws r k
+  -- a symbol that is quiet, or that begins an item
+  abbrev pub Goes : {X : Type 0} → (List Word → X → Type 0) → Symbol → Type 0
+  Goes Is x = IsQuiet Marks (Punctuation x) ⊎ Begun Is (Punctuation x ∷ [])
+
+  pub behind_mark : {X : Type 0} (via : Via X) (Is : List Word → X → Type 0) (x : Symbol) → Goes Is x → (ws : List Word) (r : Result X ConfigFault) → Holds via (λ vs y. Is (Punctuation x ∷ vs) y) ws r → Holds via Is (Punctuation x ∷ ws) r
+  behind_mark via Is x goes ws r k = elim goes [
+    | inl quiet ↦ behind_marks via Is (Punctuation x ∷ []) (All-cons (IsQuiet Marks) (Punctuation x) [] quiet (All-nil (IsQuiet Marks))) ws r k
+    | inr b ↦ behind_names via Is (Punctuation x ∷ []) b ws r k
+  ]
 
   -- one reading, followed by another
   module _ {X Y : Type 0} (vx : Via X) (vy : Via Y) (IsX : List Word → X → Type 0) (Is : List Word → Y → Type 0) (next : X → Result Y ConfigFault) where
     module _ (ends : (own : List Word) (x : X) → IsX own x → Begun (λ vs y. Is (own ++ vs) y) []) where
-      kept_then : (ws : List Word) → Kept IsX ws → Kept Is ws
+      kept_then : (ws : List Word) → Kept Marks IsX ws → Kept Marks Is ws
       kept_then ws k =
           let b = k.begun in
           let c = ends (k.named ++ b.more) b.x b.is in
@@ -202,7 +218,7 @@ module _ (bad : ℕ) (Bound : FaultKind → Type 0) where
         | inr q ↦ inr (kept_then ws q)
       ]
 
-  pub held_look : {K X : Type 0} (P : K → Type 0) (via : Via X) (Is : List Word → X → Type 0) (ws : List Word) (r : Result K ConfigFault) (next : K → Result X ConfigFault) → Shows (Held Is ws) P r → ((k : K) → P k → Holds via Is ws (next k)) → Holds via Is ws (r >>= next)
+  pub held_look : {K X : Type 0} (P : K → Type 0) (via : Via X) (Is : List Word → X → Type 0) (ws : List Word) (r : Result K ConfigFault) (next : K → Result X ConfigFault) → Shows (Held Marks Is ws) P r → ((k : K) → P k → Holds via Is ws (next k)) → Holds via Is ws (r >>= next)
   held_look P via Is ws (Ok k) next is behind = behind k is
   held_look P via Is ws (Err e) next is behind = is
 
@@ -213,23 +229,16 @@ module _ (bad : ℕ) (Bound : FaultKind → Type 0) where
     token_held s next short behind = by s.left.tokens s.left.last short
       where
         by : (ts : List Located) (last : Result Located ConfigFault) → Over ts last → Holds vy Is (words ts) (token (at last ts s.seen) >>= next)
-        by [] last e = subst (λ (l : Result Located ConfigFault). Holds vy Is [] (token (at l [] s.seen) >>= next)) (sym e.0) (λ h. inl (All-nil IsQuiet))
+        by [] last e = subst (λ (l : Result Located ConfigFault). Holds vy Is [] (token (at l [] s.seen) >>= next)) (sym e.0) (λ h. inl (All-nil (IsQuiet Marks)))
         by (t ∷ ts) last e = behind t ts last e.1.0 (e.0, e.1.1)
 
     abbrev Next : State → Symbol → (State → Result Y ConfigFault) → Type 0
     Next s x next = (ts : List Located) (last : Result Located ConfigFault) → Over ts last → Holds vy (λ vs y. Is (Punctuation x ∷ vs) y) (words ts) (next (at last ts s.seen))
 
-    -- a symbol that is quiet, or that ends an item
-    abbrev pub Goes : Symbol → Type 0
-    Goes x = IsQuiet (Punctuation x) ⊎ Begun Is (Punctuation x ∷ [])
+    marked : (x : Symbol) → Goes Is x → (w : Word) (ws : List Word) (r : Result Y ConfigFault) → w ≡ Punctuation x → Holds vy (λ vs y. Is (Punctuation x ∷ vs) y) ws r → Holds vy Is (w ∷ ws) r
+    marked x goes w ws r e k = subst (λ (v : Word). Holds vy Is (v ∷ ws) r) (sym e) (behind_mark vy Is x goes ws r k)
 
-    marked : (x : Symbol) → Goes x → (w : Word) (ws : List Word) (r : Result Y ConfigFault) → w ≡ Punctuation x → Holds vy (λ vs y. Is (Punctuation x ∷ vs) y) ws r → Holds vy Is (w ∷ ws) r
-    marked x goes w ws r e k = subst (λ (v : Word). Holds vy Is (v ∷ ws) r) (sym e) (elim goes [
-      | inl quiet ↦ behind_mark vy Is x quiet ws r k
-      | inr b ↦ behind_names vy Is (Punctuation x ∷ []) b ws r k
-    ])
-
-    pub symbol_held : (x : Symbol) → Goes x → (s : State) (next : State → Result Y ConfigFault) → IsOver s → Next s x next → Holds vy Is (words_in s) (symbol_at x s >>= next)
+    pub symbol_held : (x : Symbol) → Goes Is x → (s : State) (next : State → Result Y ConfigFault) → IsOver s → Next s x next → Holds vy Is (words_in s) (symbol_at x s >>= next)
     unfolding symbol_at
     symbol_held x goes s next short behind =
         let test : Located × State → Result State ConfigFault = λ t. cond (is_symbol x t.0.word) (Ok t.1) (fails BadShape t.0.at) in
@@ -239,15 +248,15 @@ module _ (bad : ℕ) (Bound : FaultKind → Type 0) where
         by t ts last e true is = marked x goes t.word (words ts) (next (at last ts s.seen)) (mark_is x t.word is) (behind ts last e)
         by t ts last e false is = λ h. absurd h
 
-    pub more_held : (close : Symbol) → Goes close → (s : State) (next : Bool × State → Result Y ConfigFault) → IsOver s → Next s Comma (λ u. next (true, u)) → Next s close (λ u. next (false, u)) → Holds vy Is (words_in s) (more_at close s >>= next)
+    pub more_held : (close : Symbol) → Goes Is Comma → Goes Is close → (s : State) (next : Bool × State → Result Y ConfigFault) → IsOver s → Next s Comma (λ u. next (true, u)) → Next s close (λ u. next (false, u)) → Holds vy Is (words_in s) (more_at close s >>= next)
     unfolding more_at
-    more_held close goes s next short comma closes =
+    more_held close on goes s next short comma closes =
         let test : Located × State → Result (Bool × State) ConfigFault = λ t. cond (is_symbol Comma t.0.word) (Ok (true, t.1)) (cond (is_symbol close t.0.word) (Ok (false, t.1)) (fails BadShape t.0.at)) in
         subst (Holds vy Is (words_in s)) (regroup (token s) test next) (token_held s (λ t. test t >>= next) short (λ t ts last alone e. by t ts last e (is_symbol Comma t.word) (is_symbol close t.word) refl refl))
       where
         by : (t : Located) (ts : List Located) (last : Result Located ConfigFault) → Over ts last → (c d : Bool) → is_symbol Comma t.word ≡ c → is_symbol close t.word ≡ d
             → Holds vy Is (t.word ∷ words ts) (cond c (Ok (true, at last ts s.seen)) (cond d (Ok (false, at last ts s.seen)) (fails BadShape t.at)) >>= next)
-        by t ts last e true d is f = marked Comma (inl tt) t.word (words ts) (next (true, at last ts s.seen)) (mark_is Comma t.word is) (comma ts last e)
+        by t ts last e true d is f = marked Comma on t.word (words ts) (next (true, at last ts s.seen)) (mark_is Comma t.word is) (comma ts last e)
         by t ts last e false true is f = marked close goes t.word (words ts) (next (false, at last ts s.seen)) (mark_is close t.word f) (closes ts last e)
         by t ts last e false false is f = λ h. absurd h
 
@@ -255,7 +264,8 @@ module _ (bad : ℕ) (Bound : FaultKind → Type 0) where
 
   module _ {A : Type 0} (Is : List Word → A → Type 0) (step : Seen → A → Seen) (May : List A → Seen → A → Type 0) (read : List A → Located → State → Result (A × State) ConfigFault)
       (Inv : Seen → Type 0) (keep : (before : List A) (seen : Seen) (x : A) → Inv seen → May before seen x → Inv (step seen x))
-      (reads : (before : List A) (t : Located) (s : State) → Alone t s.left.tokens → IsOver s → Inv s.seen → Holds by_pair (Taken Is (May before) step s.seen) (t.word ∷ words_in s) (read before t s)) where
+      (reads : (before : List A) (t : Located) (s : State) → Alone t s.left.tokens → IsOver s → Inv s.seen → Holds by_pair (Taken Is (May before) step s.seen) (t.word ∷ words_in s) (read before t s))
+      (some : Marks ⊎ ((before : List A) (seen : Seen) → Begun (Taken Is (May before) step seen) [])) where
     module _ (close : Symbol) where
       -- after these items, more that are allowed, and the closing symbol
       abbrev pub IsHeldRun : List A → Seen → List Word → List A × State → Type 0
@@ -282,13 +292,23 @@ module _ (bad : ℕ) (Bound : FaultKind → Type 0) where
           let q = subst (λ (m : Seen). IsHeldRun (before ++ x.0 ∷ []) m vs ys) k.2 r in
           more_run before seen own x.0 k.0 k.1 vs ys q.0 q.1 q.2 q.3 q.4 q.5 q.6
 
+      -- an item that follows a comma, unless commas are quiet
+      comma_goes : (before : List A) (seen : Seen) (own : List Word) (x : A × State) → Taken Is (May before) step seen own x → Goes (λ vs ys. IsHeldRun before seen (own ++ vs) ys) Comma
+      comma_goes before seen own x k = elim some [
+        | inl quiet ↦ inl quiet
+        | inr more ↦
+            let b = more (before ++ x.0 ∷ []) x.1.seen in
+            let ys : List A × State = ((before ++ x.0 ∷ []) ++ b.x.0 ∷ [], b.x.1) in
+            inr (record { more = b.more ++ Punctuation close ∷ []; x = ys; is = comma_more before seen own x k (b.more ++ Punctuation close ∷ []) ys (close_one (before ++ x.0 ∷ []) x.1.seen b.more b.x b.is b.x.1 refl) })
+      ]
+
       pub list_held : (n : ℕ) (before : List A) (t : Located) (s : State) → Alone t s.left.tokens → IsOver s → Inv s.seen → Holds by_pair (IsHeldRun before s.seen) (t.word ∷ words_in s) (comma_list read close n before t s)
       unfolding comma_list
       list_held zero before t s alone short inv = λ h. absurd h
       list_held (suc n) before t s alone short inv =
           held_then by_pair by_pair (Taken Is (May before) step s.seen) (IsHeldRun before s.seen) (λ one. more_at close one.1 >>= λ more. cond more.0 (token more.1 >>= λ next. comma_list read close n (before ++ one.0 ∷ []) next.0 next.1) (Ok (before ++ one.0 ∷ [], more.1)))
           (λ own x k. record { more = Punctuation close ∷ []; x = (before ++ x.0 ∷ [], x.1); is = close_one before s.seen own x k x.1 refl }) (t.word ∷ words_in s) (read before t s) (reads before t s alone short inv)
-          (λ own x k short. more_held by_pair (λ vs ys. IsHeldRun before s.seen (own ++ vs) ys) close (inr (record { more = []; x = (before ++ x.0 ∷ [], x.1); is = close_one before s.seen own x k x.1 refl })) x.1 (λ more. cond more.0 (token more.1 >>= λ next. comma_list read close n (before ++ x.0 ∷ []) next.0 next.1) (Ok (before ++ x.0 ∷ [], more.1))) short
+          (λ own x k short. more_held by_pair (λ vs ys. IsHeldRun before s.seen (own ++ vs) ys) close (comma_goes before s.seen own x k) (inr (record { more = []; x = (before ++ x.0 ∷ [], x.1); is = close_one before s.seen own x k x.1 refl })) x.1 (λ more. cond more.0 (token more.1 >>= λ next. comma_list read close n (before ++ x.0 ∷ []) next.0 next.1) (Ok (before ++ x.0 ∷ [], more.1))) short
           (λ ts last e. token_held by_pair (λ vs ys. IsHeldRun before s.seen (own ++ Punctuation Comma ∷ vs) ys) (at last ts x.1.seen) (λ next. comma_list read close n (before ++ x.0 ∷ []) next.0 next.1) e
           (λ t ts last alone e. held_to by_pair (IsHeldRun (before ++ x.0 ∷ []) x.1.seen) (λ vs ys. IsHeldRun before s.seen (own ++ Punctuation Comma ∷ vs) ys) (λ vs ys r. comma_more before s.seen own x k vs ys r) (t.word ∷ words ts) (comma_list read close n (before ++ x.0 ∷ []) t (at last ts x.1.seen))
           (list_held n (before ++ x.0 ∷ []) t (at last ts x.1.seen) alone e (subst Inv (sym k.2) (keep before s.seen x.0 inv k.1)))))
@@ -304,7 +324,7 @@ module _ (bad : ℕ) (Bound : FaultKind → Type 0) where
     pub bracketed_held : (s : State) → IsOver s → Inv s.seen → Holds by_pair (IsHeldList s.seen) (words_in s) (list_of read s)
     unfolding list_of
     bracketed_held s short inv =
-        symbol_held by_pair (IsHeldList s.seen) OpenList (inl tt) s (λ begun. token begun >>= λ first. cond (is_symbol CloseList first.0.word) (Ok ([], first.1)) (comma_list read CloseList (room first.1) [] first.0 first.1)) short
+        symbol_held by_pair (IsHeldList s.seen) OpenList (inr (record { more = Punctuation CloseList ∷ []; x = ([], at (Err halt) [] s.seen); is = (([], refl, refl), tt, refl) })) s (λ begun. token begun >>= λ first. cond (is_symbol CloseList first.0.word) (Ok ([], first.1)) (comma_list read CloseList (room first.1) [] first.0 first.1)) short
         (λ ts last e. token_held by_pair (λ vs xs. IsHeldList s.seen (Punctuation OpenList ∷ vs) xs) (at last ts s.seen) (λ first. cond (is_symbol CloseList first.0.word) (Ok ([], first.1)) (comma_list read CloseList (room first.1) [] first.0 first.1)) e
         (λ t ts last alone e. held_if by_pair (λ vs xs. IsHeldList s.seen (Punctuation OpenList ∷ vs) xs) (t.word ∷ words ts) (is_symbol CloseList t.word) (Ok ([], at last ts s.seen)) (comma_list read CloseList (room (at last ts s.seen)) [] t (at last ts s.seen))
         (λ c. record { own = t.word ∷ []; whole = refl; is = (([], ap (λ (w : Word). Punctuation OpenList ∷ w ∷ []) (mark_is CloseList t.word c), refl), tt, refl); short = e })
@@ -317,17 +337,17 @@ module _ (bad : ℕ) (Bound : FaultKind → Type 0) where
       held_then by_pair by_pair (λ own x. Is own x.0 x.1.seen) (IsHeldClosed Is) (λ one. symbol_at CloseTuple one.1 >>= λ close. Ok (one.0, close)) (λ own x is. record { more = Punctuation CloseTuple ∷ []; x = x; is = (own, refl, is) }) (words_in s) (value s) valued
       (λ own x is short. symbol_held by_pair (λ vs (y : A × State). IsHeldClosed Is (own ++ vs) y) CloseTuple (inr (record { more = []; x = x; is = (own, refl, is) })) x.1 (λ close. Ok (x.0, close)) short (λ ts last e. record { own = []; whole = refl; is = (own, refl, is); short = e }))
 
-  module _ {K A : Type 0} (Is : List Word → A × State → Type 0) (Says : Word → K → Type 0) (name_of : Located → Result K ConfigFault) (rest : K → State → Result (A × State) ConfigFault) (seen : Seen) (named : (t : Located) → Shows (Unfit K Says t) (Says t.word) (name_of t))
+  module _ {K A : Type 0} (Is : List Word → A × State → Type 0) (Says : Word → K → Type 0) (name_of : Located → Result K ConfigFault) (rest : K → State → Result (A × State) ConfigFault) (seen : Seen) (named : (t : Located) → Shows (Unfit K Says t) (Says t.word) (name_of t)) (begins : Goes Is OpenTuple)
       (filled : (w : Word) (k : K) → Says w k → Begun (λ vs x. Is (Punctuation OpenTuple ∷ w ∷ Punctuation Comma ∷ vs) x) [])
       (rests : (w : Word) (k : K) → Says w k → (ts : List Located) (last : Result Located ConfigFault) → Over ts last → Holds by_pair (λ vs x. Is (Punctuation OpenTuple ∷ w ∷ Punctuation Comma ∷ vs) x) (words ts) (rest k (at last ts seen))) where
     behind_name : (t : Located) (k : K) → Says t.word k → (ts : List Located) (last : Result Located ConfigFault) → Over ts last → Holds by_pair (λ vs x. Is (Punctuation OpenTuple ∷ vs) x) (t.word ∷ words ts) (symbol_at Comma (at last ts seen) >>= rest k)
     behind_name t k says ts last e =
         let full = filled t.word k says in
         behind_names by_pair (λ vs x. Is (Punctuation OpenTuple ∷ vs) x) (t.word ∷ []) (record { more = Punctuation Comma ∷ full.more; x = full.x; is = full.is }) (words ts) (symbol_at Comma (at last ts seen) >>= rest k)
-        (symbol_held by_pair (λ vs x. Is (Punctuation OpenTuple ∷ t.word ∷ vs) x) Comma (inl tt) (at last ts seen) (rest k) e (λ ts last e. rests t.word k says ts last e))
+        (symbol_held by_pair (λ vs x. Is (Punctuation OpenTuple ∷ t.word ∷ vs) x) Comma (inr (record { more = full.more; x = full.x; is = full.is })) (at last ts seen) (rest k) e (λ ts last e. rests t.word k says ts last e))
 
     -- a name that breaks a limit
-    name_broken : (t : Located) (ts : List Located) → Alone t ts → Unfit K Says t → Held (λ vs x. Is (Punctuation OpenTuple ∷ vs) x) (t.word ∷ words ts)
+    name_broken : (t : Located) (ts : List Located) → Alone t ts → Unfit K Says t → Held Marks (λ vs x. Is (Punctuation OpenTuple ∷ vs) x) (t.word ∷ words ts)
     name_broken t ts alone q =
         let full = filled t.word q.3.0 q.3.1 in
         broken (λ vs x. Is (Punctuation OpenTuple ∷ vs) x) t ts alone q.0 q.1 q.2 (record { more = Punctuation Comma ∷ full.more; x = full.x; is = full.is })
@@ -335,11 +355,11 @@ module _ (bad : ℕ) (Bound : FaultKind → Type 0) where
     inner_held : (ts : List Located) (last : Result Located ConfigFault) → Over ts last → Holds by_pair (λ vs x. Is (Punctuation OpenTuple ∷ vs) x) (words ts) (token (at last ts seen) >>= λ first. name_of first.0 >>= λ name. symbol_at Comma first.1 >>= rest name)
     inner_held ts last e = token_held by_pair (λ vs x. Is (Punctuation OpenTuple ∷ vs) x) (at last ts seen) (λ first. name_of first.0 >>= λ name. symbol_at Comma first.1 >>= rest name) e
         (λ t ts last alone e. held_look (Says t.word) by_pair (λ vs x. Is (Punctuation OpenTuple ∷ vs) x) (t.word ∷ words ts) (name_of t) (λ name. symbol_at Comma (at last ts seen) >>= rest name)
-        (shows_to (Unfit K Says t) (Held (λ vs x. Is (Punctuation OpenTuple ∷ vs) x) (t.word ∷ words ts)) (Says t.word) (λ q. name_broken t ts alone q) (name_of t) (named t)) (λ k says. behind_name t k says ts last e))
+        (shows_to (Unfit K Says t) (Held Marks (λ vs x. Is (Punctuation OpenTuple ∷ vs) x) (t.word ∷ words ts)) (Says t.word) (λ q. name_broken t ts alone q) (name_of t) (named t)) (λ k says. behind_name t k says ts last e))
 
     pub pair_held : (t : Located) (ts : List Located) (last : Result Located ConfigFault) → Over ts last → Holds by_pair Is (t.word ∷ words ts) (pair_at name_of rest t (at last ts seen))
     unfolding pair_at
     pair_held t ts last e =
         let inner : Result (A × State) ConfigFault = token (at last ts seen) >>= λ first. name_of first.0 >>= λ name. symbol_at Comma first.1 >>= rest name in
         held_if by_pair Is (t.word ∷ words ts) (is_symbol OpenTuple t.word) inner (fails BadShape t.at)
-        (λ c. subst (λ (w : Word). Holds by_pair Is (w ∷ words ts) inner) (sym (mark_is OpenTuple t.word c)) (behind_mark by_pair Is OpenTuple tt (words ts) inner (inner_held ts last e))) (λ c h. absurd h)
+        (λ c. subst (λ (w : Word). Holds by_pair Is (w ∷ words ts) inner) (sym (mark_is OpenTuple t.word c)) (behind_mark by_pair Is OpenTuple begins (words ts) inner (inner_held ts last e))) (λ c h. absurd h)

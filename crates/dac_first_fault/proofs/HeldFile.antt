@@ -1,36 +1,38 @@
 -- A whole file that keeps the bound limits, up to the last word that isn't quiet.
-use Rattle.std.proofs.Common.{◌≡◌, ℕ, Bool, true, false, cond, eqb, List, [], ◌∷◌, ◌++◌, length, Result, Ok, Err, refl, sym, subst, append_assoc, inl, inr}
-use Rattle.std.specs.Prelude.{All}
-use Rattle.std.proofs.lemmas.List.Elements.{All-nil, All-cons}
+use Rattle.std.proofs.Common.{◌≡◌, ℕ, Bool, true, false, cond, eqb, List, [], ◌∷◌, ◌++◌, length, Result, Ok, Err, refl, sym, ap, subst, ◌∙◌, append_assoc, append-nil, inl, inr}
+use Rattle.std.specs.Prelude.{◌⊎◌, All}
+use Rattle.std.proofs.lemmas.List.Elements.{All-nil, All-head}
 use Rattle.dac_tokens.specs.declared.fault.ConfigFault.{ConfigFault}
 use Rattle.dac_tokens.specs.declared.fault.FaultKind.{FaultKind}
 use Rattle.dac_tokens.specs.declared.fault.FaultKind.TheVariants.{BadShape, NoDistributed}
-use Rattle.dac_tokens.specs.declared.token.Symbol.TheVariants.{OpenList, CloseList, FullStop}
+use Rattle.dac_tokens.specs.declared.token.Symbol.TheVariants.{OpenList, OpenTuple, CloseList, Comma, FullStop}
 use Rattle.dac_tokens.specs.Gives.{◌>>=◌}
 use Rattle.dac_tokens.specs.Words.{Word, Punctuation, Located, is_end}
 use Rattle.dac_shapes.specs.Written.{Section, Written, written}
-use Rattle.dac_shapes.specs.Limits.{Seen, nothing, Keeps}
+use Rattle.dac_shapes.specs.Limits.{Seen, nothing, Keeps, Every}
 use Rattle.dac_shapes.specs.Shape.{State, fails, is_symbol, token, symbol_at, list_of, section_at, end_at, file_at}
 use Rattle.dac_shapes.specs.laws.Splits.{at}
-use Rattle.dac_shapes.specs.Grammar.{IsLooseFile}
+use Rattle.dac_shapes.specs.Grammar.{IsLooseFile, IsFile}
 use Rattle.dac_first_fault.proofs.Steps.{mark_is}
-use Rattle.dac_first_fault.proofs.Begun.{halt, words_in, by_pair}
+use Rattle.dac_first_fault.proofs.Begun.{halt, Begun, words_in, by_pair}
+use Rattle.dac_first_fault.proofs.Spared.{Strict, Free, no_limit}
+use Rattle.dac_first_fault.proofs.Loosely.{file_loose}
 use Rattle.dac_first_fault.proofs.Held.{words, IsQuiet, Kept, Stops, Lone, Holds}
 use Rattle.dac_first_fault.proofs.HeldSections.{AreSections, sections_held}
 
-module _ (bad : ℕ) (Bound : FaultKind → Type 0) where
+module _ (Marks : Type 0) (bad : ℕ) (Bound : FaultKind → Type 0) (mode : Marks ⊎ Free Bound) where
   -- a file that keeps the bound limits
   abbrev pub KeptFile : List Word → List Section → Type 0
   KeptFile ws sections = IsLooseFile Bound ws sections × Keeps Bound sections
 
-  -- if reading stopped, these words are quiet
+  -- if reading stopped, these words are none or a full stop
   abbrev Quiet : {X : Type 0} → List Word → Result X ConfigFault → Type 0
   Quiet ws (Ok x) = Unit {0}
-  Quiet ws (Err e) = Stops bad Bound e.kind e.at → All IsQuiet ws
+  Quiet ws (Err e) = Stops bad Bound e.kind e.at → (ws ≡ []) ⊎ (ws ≡ Punctuation FullStop ∷ [])
 
   abbrev Falls : {X : Type 0} → List Word → Result X ConfigFault → Type 0
   Falls ws (Ok x) = Unit {0}
-  Falls ws (Err e) = Stops bad Bound e.kind e.at → Kept KeptFile ws
+  Falls ws (Err e) = Stops bad Bound e.kind e.at → Kept Marks KeptFile ws
 
   -- ---- the end of a file
 
@@ -49,11 +51,8 @@ module _ (bad : ℕ) (Bound : FaultKind → Type 0) where
     stop_quiet ws t u true = judged_quiet ws t.at (written sections u.seen.met) (eqb (length (written sections u.seen.met).apps) 0)
     stop_quiet ws t u false = λ h. absurd h
 
-    one_quiet : (w : Word) → w ≡ Punctuation FullStop → All IsQuiet (w ∷ [])
-    one_quiet w e = subst (λ (v : Word). All IsQuiet (v ∷ [])) (sym e) (All-cons IsQuiet (Punctuation FullStop) [] tt (All-nil IsQuiet))
-
     behind_stop : (w : Word) (ts : List Located) (last : Result Located ConfigFault) → last ≡ Err halt → w ≡ Punctuation FullStop → Quiet (w ∷ words ts) ((token (at last ts seen) >>= stop) >>= judged)
-    behind_stop w [] last e is = subst (λ (l : Result Located ConfigFault). Quiet (w ∷ []) ((token (at l [] seen) >>= stop) >>= judged)) (sym e) (λ h. one_quiet w is)
+    behind_stop w [] last e is = subst (λ (l : Result Located ConfigFault). Quiet (w ∷ []) ((token (at l [] seen) >>= stop) >>= judged)) (sym e) (λ h. inr (ap (λ (v : Word). v ∷ []) is))
     behind_stop w (t ∷ ts) last e is = stop_quiet (w ∷ words (t ∷ ts)) t (at last ts seen) (is_end t.word)
 
     at_stop : (t : Located) (ts : List Located) (last : Result Located ConfigFault) → last ≡ Err halt → (c : Bool) → is_symbol FullStop t.word ≡ c → Quiet (words (t ∷ ts)) ((cond c (Ok (at last ts seen)) (fails BadShape t.at) >>= λ u. token u >>= stop) >>= judged)
@@ -62,12 +61,12 @@ module _ (bad : ℕ) (Bound : FaultKind → Type 0) where
 
     end_quiet : (ts : List Located) (last : Result Located ConfigFault) → last ≡ Err halt → Quiet (words ts) (end_at (at last ts seen) >>= judged)
     unfolding end_at symbol_at
-    end_quiet [] last e = subst (λ (l : Result Located ConfigFault). Quiet [] (end_at (at l [] seen) >>= judged)) (sym e) (λ h. All-nil IsQuiet)
+    end_quiet [] last e = subst (λ (l : Result Located ConfigFault). Quiet [] (end_at (at l [] seen) >>= judged)) (sym e) (λ h. inl refl)
     end_quiet (t ∷ ts) last e = at_stop t ts last e (is_symbol FullStop t.word) refl
 
   -- ---- a file
 
-  empty_kept : (ws : List Word) → All IsQuiet ws → Kept KeptFile ws
+  empty_kept : (ws : List Word) → All (IsQuiet Marks) ws → Kept Marks KeptFile ws
   empty_kept ws none = record {
     named = [];
     rest = ws;
@@ -76,29 +75,52 @@ module _ (bad : ℕ) (Bound : FaultKind → Type 0) where
     begun = record { more = Punctuation OpenList ∷ Punctuation CloseList ∷ Punctuation FullStop ∷ []; x = []; is = ((Punctuation OpenList ∷ Punctuation CloseList ∷ [], refl, ([], refl, refl)), tt) };
   }
 
-  list_kept : (ws : List Word) → Kept (AreSections bad Bound) ws → Kept KeptFile ws
+  list_kept : (ws : List Word) → Kept Marks (AreSections Bound) ws → Kept Marks KeptFile ws
   list_kept ws k =
       let b = k.begun in
       record { named = k.named; rest = k.rest; parts = k.parts; quiet = k.quiet; begun = record { more = b.more ++ Punctuation FullStop ∷ []; x = b.x.0; is = ((k.named ++ b.more, sym (append_assoc k.named b.more (Punctuation FullStop ∷ [])), b.is.0), b.is.1) } }
 
-  quiet_kept : {X : Type 0} (own : List Word) (xs : List Section × State) → (AreSections bad Bound) own xs → (ws : List Word) (r : Result X ConfigFault) → Quiet ws r → Falls (own ++ ws) r
+  quiet_kept : {X : Type 0} (own : List Word) (xs : List Section × State) → (AreSections Bound) own xs → (ws : List Word) (r : Result X ConfigFault) → Quiet ws r → Falls (own ++ ws) r
   quiet_kept own xs is ws (Ok x) k = tt
-  quiet_kept own xs is ws (Err e) k = λ h. record { named = own; rest = ws; parts = refl; quiet = k h; begun = record { more = Punctuation FullStop ∷ []; x = xs.0; is = ((own, refl, is.0), is.1) } }
+  quiet_kept own xs is ws (Err e) k = λ h. elim (k h) [
+    | inl none ↦ record { named = own; rest = []; parts = ap (λ (l : List Word). own ++ l) none; quiet = All-nil (IsQuiet Marks); begun = record { more = Punctuation FullStop ∷ []; x = xs.0; is = ((own, refl, is.0), is.1) } }
+    | inr stop ↦
+        let all = append-nil (own ++ Punctuation FullStop ∷ []) in
+        record { named = own ++ Punctuation FullStop ∷ []; rest = []; parts = ap (λ (l : List Word). own ++ l) stop ∙ sym all; quiet = All-nil (IsQuiet Marks); begun = record { more = []; x = xs.0; is = ((own, all, is.0), is.1) } }
+  ]
 
-  list_falls : (ws : List Word) (r : Result (List Section × State) ConfigFault) → Holds bad Bound by_pair (AreSections bad Bound) ws r → Falls ws (r >>= λ x. end_at x.1 >>= judged x.0 x.1.seen)
+  list_falls : (ws : List Word) (r : Result (List Section × State) ConfigFault) → Holds Marks bad Bound by_pair (AreSections Bound) ws r → Falls ws (r >>= λ x. end_at x.1 >>= judged x.0 x.1.seen)
   list_falls ws (Ok x) k = subst (λ (l : List Word). Falls l (end_at x.1 >>= judged x.0 x.1.seen)) (sym k.whole) (quiet_kept k.own x k.is (words_in x.1) (end_at x.1 >>= judged x.0 x.1.seen) (end_quiet x.0 x.1.seen x.1.left.tokens x.1.left.last k.short.0))
   list_falls ws (Err e) k = λ h. elim (k h) [
     | inl n ↦ empty_kept ws n
     | inr q ↦ list_kept ws q
   ]
 
-  file_falls : (ts : List Located) → Lone bad Bound ts → Falls (words ts) (file_at (at (Err halt) ts nothing))
+  file_falls : (ts : List Located) → Lone Marks bad Bound ts → Falls (words ts) (file_at (at (Err halt) ts nothing))
   unfolding file_at
-  file_falls ts lone = list_falls (words ts) (list_of section_at (at (Err halt) ts nothing)) (sections_held bad Bound ts lone)
+  file_falls ts lone = list_falls (words ts) (list_of section_at (at (Err halt) ts nothing)) (sections_held Marks bad Bound mode ts lone)
 
   -- if reading stopped, a file that keeps the bound limits begins with the words up to the last that isn't quiet
-  pub file_kept : (ts : List Located) → Lone bad Bound ts → (e : ConfigFault) → Stops bad Bound e.kind e.at → file_at (at (Err halt) ts nothing) ≡ Err e → Kept KeptFile (words ts)
+  pub file_kept : (ts : List Located) → Lone Marks bad Bound ts → (e : ConfigFault) → Stops bad Bound e.kind e.at → file_at (at (Err halt) ts nothing) ≡ Err e → Kept Marks KeptFile (words ts)
   file_kept ts lone e stops is = by (file_at (at (Err halt) ts nothing)) is (file_falls ts lone)
     where
-      by : (r : Result Written ConfigFault) → r ≡ Err e → Falls (words ts) r → Kept KeptFile (words ts)
+      by : (r : Result Written ConfigFault) → r ≡ Err e → Falls (words ts) r → Kept Marks KeptFile (words ts)
       by r same k = (subst (λ (q : Result Written ConfigFault). Falls (words ts) q) same k) stops
+
+none_quiet : (ws : List Word) → All (IsQuiet ⊥) ws → ws ≡ []
+none_quiet [] all = refl
+none_quiet (w ∷ ws) all = absurd (never w (All-head (IsQuiet ⊥) w ws all))
+  where
+    never : (w : Word) → IsQuiet ⊥ w → ⊥
+    never (Punctuation OpenList) quiet = quiet
+    never (Punctuation OpenTuple) quiet = quiet
+    never (Punctuation Comma) quiet = quiet
+    never _ quiet = quiet
+
+-- if reading reaches the end of the tokens, some file begins with their words
+pub file_begun : (bad : ℕ) (ts : List Located) → Lone ⊥ bad Strict ts → file_at (at (Err halt) ts nothing) ≡ Err halt → Begun IsFile (words ts)
+file_begun bad ts lone e =
+    let k = file_kept ⊥ bad Strict (inr no_limit) ts lone halt tt e in
+    let b = k.begun in
+    let whole : words ts ≡ k.named = k.parts ∙ ap (λ (l : List Word). k.named ++ l) (none_quiet k.rest k.quiet) ∙ append-nil k.named in
+    subst (λ (l : List Word). Begun IsFile l) (sym whole) (record { more = b.more; x = b.x; is = file_loose Strict Every (λ kind strict _. strict) (k.named ++ b.more) b.x b.is.0 })

@@ -1,6 +1,6 @@
 -- Nodes, applications and permissions that keep the bound limits, up to the last word that isn't quiet.
 use Rattle.std.proofs.Common.{◌≡◌, ℕ, ◌<◌, ◌≤◌, Bool, true, false, cond, not, ◌&&◌, ◌||◌, eqb, ltb, leb, List, [], ◌∷◌, ◌++◌, length, map, Result, Ok, Err, refl, sym, ap, subst, ◌∙◌, inl, inr, codes, arith}
-use Rattle.std.specs.Prelude.{All}
+use Rattle.std.specs.Prelude.{◌⊎◌, All}
 use Rattle.std.specs.Str.{bytes_eq}
 use Rattle.std.proofs.lemmas.Bool.{ltb-true, ltb-false, leb-false, eqb-true}
 use Rattle.std.proofs.lemmas.Slice.Eq.{bytes_eq-Decides}
@@ -21,14 +21,19 @@ use Rattle.dac_shapes.specs.laws.Splits.{at}
 use Rattle.dac_shapes.specs.laws.Names.{is_named}
 use Rattle.dac_first_fault.proofs.Steps.{mark_is}
 use Rattle.dac_first_fault.proofs.Readers.{not_negative}
-use Rattle.dac_first_fault.proofs.Begun.{halt, Begun, Via, words_in, by_pair}
-use Rattle.dac_first_fault.proofs.BegunReaders.{not_less, pair_is}
-use Rattle.dac_first_fault.proofs.Held.{words, IsQuiet, Held, Frees, Stops, QuietBehind, but_one, Alone, Over, IsOver, Holds, Shows, shows_then, shows_if, Unfit, spoilt, broken, held_if, held_to, held_then, held_look, behind_mark, behind_names, token_held, symbol_held, Taken, IsHeldRun, list_held, IsHeldClosed, closed_held, pair_held}
+use Rattle.dac_first_fault.proofs.Begun.{halt, Begun, Via, words_in, by_pair, pair_is, pair_begins, pair_some}
+use Rattle.dac_first_fault.proofs.Spared.{Free, node_so, nodes_so, groups_so}
+use Rattle.dac_first_fault.proofs.Held.{Goes, or_begun, words, IsQuiet, Held, Frees, Stops, QuietBehind, but_one, Alone, Over, IsOver, Holds, Shows, shows_then, shows_if, Unfit, spoilt, broken, held_if, held_to, held_then, held_look, behind_mark, behind_names, token_held, symbol_held, Taken, IsHeldRun, list_held, IsHeldClosed, closed_held, pair_held}
 
-module _ (bad : ℕ) (Bound : FaultKind → Type 0) where
+not_less : (c d : Bool) (v : ℕ) → c ≡ true → (c && not d) ≡ false → (d ≡ true → v ≡ 0) → v ≡ 0
+not_less true true v e f z = z refl
+not_less true false v e f z = absurd cc
+not_less false d v e f z = absurd cc
+
+module _ (Marks : Type 0) (bad : ℕ) (Bound : FaultKind → Type 0) (mode : Marks ⊎ Free Bound) where
   -- a function applied to the item that was read
-  pub made_held : {A B : Type 0} (P : List Word → A × State → Type 0) (Q : List Word → B × State → Type 0) (to : A → B) → ((own : List Word) (x : A) (u : State) → P own (x, u) → Q own (to x, u)) → (ws : List Word) (r : Result (A × State) ConfigFault) → Holds bad Bound by_pair P ws r
-      → Holds bad Bound by_pair Q ws (r >>= λ x. Ok (to x.0, x.1))
+  pub made_held : {A B : Type 0} (P : List Word → A × State → Type 0) (Q : List Word → B × State → Type 0) (to : A → B) → ((own : List Word) (x : A) (u : State) → P own (x, u) → Q own (to x, u)) → (ws : List Word) (r : Result (A × State) ConfigFault) → Holds Marks bad Bound by_pair P ws r
+      → Holds Marks bad Bound by_pair Q ws (r >>= λ x. Ok (to x.0, x.1))
   made_held P Q to so ws (Ok x) k = record { own = k.own; whole = k.whole; is = so k.own x.0 x.1 k.is; short = k.short }
   made_held P Q to so ws (Err e) k = λ h. elim (k h) [
     | inl n ↦ inl n
@@ -82,7 +87,7 @@ module _ (bad : ℕ) (Bound : FaultKind → Type 0) where
   abbrev IsName : Word → List ℕ → Type 0
   IsName w name = w ≡ Name name
 
-  atom_by : (Q : Type 0) (w : Word) (offset : ℕ) → Shows bad Bound Q (IsName w) (atom_of (record { word = w; at = offset }))
+  atom_by : (Q : Type 0) (w : Word) (offset : ℕ) → Shows Marks bad Bound Q (IsName w) (atom_of (record { word = w; at = offset }))
   unfolding atom_of
   atom_by Q (Name name) offset = refl
   atom_by Q (Punctuation symbol) offset = λ h. absurd h
@@ -90,34 +95,34 @@ module _ (bad : ℕ) (Bound : FaultKind → Type 0) where
   atom_by Q Text offset = λ h. absurd h
   atom_by Q End offset = λ h. absurd h
 
-  pub atom_shows : (Q : Type 0) (t : Located) → Shows bad Bound Q (IsName t.word) (atom_of t)
+  pub atom_shows : (Q : Type 0) (t : Located) → Shows Marks bad Bound Q (IsName t.word) (atom_of t)
   atom_shows Q t = atom_by Q t.word t.at
 
-  flag_shows : (Q : Type 0) (t : Located) → Shows bad Bound Q (λ value. IsFlag (t.word ∷ []) value) (flag_of t)
+  flag_shows : (Q : Type 0) (t : Located) → Shows Marks bad Bound Q (λ value. IsFlag (t.word ∷ []) value) (flag_of t)
   unfolding flag_of
   flag_shows Q t =
-      shows_then bad Bound Q (IsName t.word) (λ value. IsFlag (t.word ∷ []) value) (atom_of t) (λ name. cond (bytes_eq name (codes "true")) (Ok true) (cond (bytes_eq name (codes "false")) (Ok false) (fails BadShape t.at))) (atom_shows Q t)
-      (λ name e. shows_if bad Bound Q (λ value. IsFlag (t.word ∷ []) value) (bytes_eq name (codes "true")) (Ok true) (cond (bytes_eq name (codes "false")) (Ok false) (fails BadShape t.at)) (λ is. one_name name (codes "true") e is)
-      (λ other. shows_if bad Bound Q (λ value. IsFlag (t.word ∷ []) value) (bytes_eq name (codes "false")) (Ok false) (fails BadShape t.at) (λ is. one_name name (codes "false") e is) (λ neither h. absurd h)))
+      shows_then Marks bad Bound Q (IsName t.word) (λ value. IsFlag (t.word ∷ []) value) (atom_of t) (λ name. cond (bytes_eq name (codes "true")) (Ok true) (cond (bytes_eq name (codes "false")) (Ok false) (fails BadShape t.at))) (atom_shows Q t)
+      (λ name e. shows_if Marks bad Bound Q (λ value. IsFlag (t.word ∷ []) value) (bytes_eq name (codes "true")) (Ok true) (cond (bytes_eq name (codes "false")) (Ok false) (fails BadShape t.at)) (λ is. one_name name (codes "true") e is)
+      (λ other. shows_if Marks bad Bound Q (λ value. IsFlag (t.word ∷ []) value) (bytes_eq name (codes "false")) (Ok false) (fails BadShape t.at) (λ is. one_name name (codes "false") e is) (λ neither h. absurd h)))
     where
       one_name : (name wanted : List ℕ) → t.word ≡ Name name → bytes_eq name wanted ≡ true → t.word ∷ [] ≡ Name wanted ∷ []
       one_name name wanted e is = ap (λ (w : Word). w ∷ []) (e ∙ ap Name (is_named name wanted is))
 
-  pub ms_shows : (Q : Type 0) (offset : ℕ) (negative : Bool) (digits : List ℕ) → (negative ≡ false → 4294967296 ≤ value_from 0 digits → Stops bad Bound NumberTooLarge offset → Q) → Shows bad Bound Q (IsMs (Number negative digits)) (milliseconds_of offset negative (value_from 0 digits))
+  pub ms_shows : (Q : Type 0) (offset : ℕ) (negative : Bool) (digits : List ℕ) → (negative ≡ false → 4294967296 ≤ value_from 0 digits → Stops bad Bound NumberTooLarge offset → Q) → Shows Marks bad Bound Q (IsMs (Number negative digits)) (milliseconds_of offset negative (value_from 0 digits))
   ms_shows Q offset negative digits spoils =
       let v = value_from 0 digits in
-      shows_if bad Bound Q (IsMs (Number negative digits)) (negative && not (eqb v 0)) (fails BadShape offset) (cond (ltb v 4294967296) (Ok v) (fails NumberTooLarge offset)) (λ below h. absurd h)
-      (λ above. shows_if bad Bound Q (IsMs (Number negative digits)) (ltb v 4294967296) (Ok v) (fails NumberTooLarge offset) (λ small. (negative, digits, refl, refl, ltb-true v 4294967296 small, λ n. not_less negative (eqb v 0) v n above (λ z. eqb-true v 0 z)))
+      shows_if Marks bad Bound Q (IsMs (Number negative digits)) (negative && not (eqb v 0)) (fails BadShape offset) (cond (ltb v 4294967296) (Ok v) (fails NumberTooLarge offset)) (λ below h. absurd h)
+      (λ above. shows_if Marks bad Bound Q (IsMs (Number negative digits)) (ltb v 4294967296) (Ok v) (fails NumberTooLarge offset) (λ small. (negative, digits, refl, refl, ltb-true v 4294967296 small, λ n. not_less negative (eqb v 0) v n above (λ z. eqb-true v 0 z)))
       (λ large h. let least = ltb-false v 4294967296 large in spoils (not_negative negative v above least) least h))
 
   -- a name of at most MAX_NAME bytes, or a longer one that breaks the limit
   abbrev IsShortly : Word → List ℕ → Type 0
   IsShortly w name = (w ≡ Name name) × (length name ≤ 255)
 
-  shortly_shows : (Q : Type 0) (t : Located) → ((name : List ℕ) → t.word ≡ Name name → (t.at ≡ bad) × Frees Bound NameTooLong → Q) → Shows bad Bound Q (IsShortly t.word) (short_name_of t)
+  shortly_shows : (Q : Type 0) (t : Located) → ((name : List ℕ) → t.word ≡ Name name → (t.at ≡ bad) × Frees Bound NameTooLong → Q) → Shows Marks bad Bound Q (IsShortly t.word) (short_name_of t)
   unfolding short_name_of
-  shortly_shows Q t long = shows_then bad Bound Q (IsName t.word) (IsShortly t.word) (atom_of t) (λ name. cond (ltb 255 (length name)) (fails NameTooLong t.at) (Ok name)) (atom_shows Q t)
-      (λ name e. shows_if bad Bound Q (IsShortly t.word) (ltb 255 (length name)) (fails NameTooLong t.at) (Ok name) (λ is h. long name e h) (λ short. (e, ltb-false 255 (length name) short)))
+  shortly_shows Q t long = shows_then Marks bad Bound Q (IsName t.word) (IsShortly t.word) (atom_of t) (λ name. cond (ltb 255 (length name)) (fails NameTooLong t.at) (Ok name)) (atom_shows Q t)
+      (λ name e. shows_if Marks bad Bound Q (IsShortly t.word) (ltb 255 (length name)) (fails NameTooLong t.at) (Ok name) (λ is h. long name e h) (λ short. (e, ltb-false 255 (length name) short)))
 
   -- an application's name that is allowed after these
   record IsFine (before : List App) (w : Word) (name : List ℕ) : Type 0 where
@@ -127,16 +132,16 @@ module _ (bad : ℕ) (Bound : FaultKind → Type 0) where
     pub few : Bound TooManyApps → is_among name (map (λ a. a.name) before) ≡ false → length before < 64
 
   abbrev NoApp : List App → Located → Type 0
-  NoApp before t = Unfit bad Bound (List ℕ) (IsFine before) t
+  NoApp before t = Unfit Marks bad Bound (List ℕ) (IsFine before) t
 
-  fine_shows : (before : List App) (t : Located) → Shows bad Bound (NoApp before t) (IsFine before t.word) (app_name_of before t)
+  fine_shows : (before : List App) (t : Located) → Shows Marks bad Bound (NoApp before t) (IsFine before t.word) (app_name_of before t)
   unfolding app_name_of
   fine_shows before t =
-      shows_then bad Bound (NoApp before t) (IsShortly t.word) (IsFine before t.word) (short_name_of t) (λ name. cond (is_among name (map (λ app. app.name) before)) (fails TwiceApp t.at) (cond (leb 64 (length before)) (fails TooManyApps t.at) (Ok name)))
+      shows_then Marks bad Bound (NoApp before t) (IsShortly t.word) (IsFine before t.word) (short_name_of t) (λ name. cond (is_among name (map (λ app. app.name) before)) (fails TwiceApp t.at) (cond (leb 64 (length before)) (fails TooManyApps t.at) (Ok name)))
       (shortly_shows (NoApp before t) t (λ name e h. (name, e, h.0, (name, record { is = e; short = λ b. absurd (h.1 NameTooLong (omega arith) (omega arith) b); once = λ b. absurd (h.1 TwiceApp (omega arith) (omega arith) b); few = λ b. absurd (h.1 TooManyApps (omega arith) (omega arith) b) }))))
-      (λ name k. shows_if bad Bound (NoApp before t) (IsFine before t.word) (is_among name (map (λ app. app.name) before)) (fails TwiceApp t.at) (cond (leb 64 (length before)) (fails TooManyApps t.at) (Ok name))
+      (λ name k. shows_if Marks bad Bound (NoApp before t) (IsFine before t.word) (is_among name (map (λ app. app.name) before)) (fails TwiceApp t.at) (cond (leb 64 (length before)) (fails TooManyApps t.at) (Ok name))
       (λ twice h. (name, k.0, h.0, (name, record { is = k.0; short = λ b. k.1; once = λ b. absurd (h.1 TwiceApp (omega arith) (omega arith) b); few = λ b. absurd (h.1 TooManyApps (omega arith) (omega arith) b) })))
-      (λ once. shows_if bad Bound (NoApp before t) (IsFine before t.word) (leb 64 (length before)) (fails TooManyApps t.at) (Ok name) (λ many h. (name, k.0, h.0, (name, record { is = k.0; short = λ b. k.1; once = λ b. once; few = λ b. absurd (h.1 TooManyApps (omega arith) (omega arith) b) })))
+      (λ once. shows_if Marks bad Bound (NoApp before t) (IsFine before t.word) (leb 64 (length before)) (fails TooManyApps t.at) (Ok name) (λ many h. (name, k.0, h.0, (name, record { is = k.0; short = λ b. k.1; once = λ b. once; few = λ b. absurd (h.1 TooManyApps (omega arith) (omega arith) b) })))
       (λ few. record { is = k.0; short = λ b. k.1; once = λ b. once; few = λ b new. leb-false 64 (length before) few })))
 
   -- ---- nodes
@@ -145,14 +150,14 @@ module _ (bad : ℕ) (Bound : FaultKind → Type 0) where
   unless_first true b e f = absurd cc
   unless_first false b e f = e
 
-  pub node_held : (repeats : Bool) (t : Located) (s : State) → Alone bad Bound t s.left.tokens → IsOver bad Bound s → Holds bad Bound by_pair (Taken IsNode (NodeKeeps Bound repeats) with_node s.seen) (t.word ∷ words_in s) (node_of repeats t s)
+  pub node_held : (repeats : Bool) (t : Located) (s : State) → Alone Marks bad Bound t s.left.tokens → IsOver Marks bad Bound s → Holds Marks bad Bound by_pair (Taken IsNode (NodeKeeps Bound repeats) with_node s.seen) (t.word ∷ words_in s) (node_of repeats t s)
   unfolding node_of
   node_held repeats t s alone short =
-      held_look bad Bound (IsShortly t.word) by_pair Node ws (short_name_of t) (λ name. cond (not repeats && is_among name s.seen.listed) (fails TwiceInList t.at) (few name))
-      (shortly_shows (Held Node ws) t (λ name e h. breaks name e h.0 (record { short = λ b. absurd (h.1 NameTooLong (omega arith) (omega arith) b); once = λ b. absurd (h.1 TwiceInList (omega arith) (omega arith) b); few = λ b. absurd (h.1 TooManyNodes (omega arith) (omega arith) b) })))
-      (λ name k. held_if bad Bound by_pair Node ws (not repeats && is_among name s.seen.listed) (fails TwiceInList t.at) (few name)
+      held_look Marks bad Bound (IsShortly t.word) by_pair Node ws (short_name_of t) (λ name. cond (not repeats && is_among name s.seen.listed) (fails TwiceInList t.at) (few name))
+      (shortly_shows (Held Marks Node ws) t (λ name e h. breaks name e h.0 (record { short = λ b. absurd (h.1 NameTooLong (omega arith) (omega arith) b); once = λ b. absurd (h.1 TwiceInList (omega arith) (omega arith) b); few = λ b. absurd (h.1 TooManyNodes (omega arith) (omega arith) b) })))
+      (λ name k. held_if Marks bad Bound by_pair Node ws (not repeats && is_among name s.seen.listed) (fails TwiceInList t.at) (few name)
       (λ twice h. breaks name k.0 h.0 (record { short = λ b. k.1; once = λ b. absurd (h.1 TwiceInList (omega arith) (omega arith) b); few = λ b. absurd (h.1 TooManyNodes (omega arith) (omega arith) b) }))
-      (λ once. held_if bad Bound by_pair Node ws (not (is_among name s.seen.met) && leb MAX_NODES (length s.seen.met)) (fails TooManyNodes t.at) (Ok (name, record s { seen = with_node s.seen name }))
+      (λ once. held_if Marks bad Bound by_pair Node ws (not (is_among name s.seen.met) && leb MAX_NODES (length s.seen.met)) (fails TooManyNodes t.at) (Ok (name, record s { seen = with_node s.seen name }))
       (λ many h. breaks name k.0 h.0 (record { short = λ b. k.1; once = λ b e. unless_first repeats (is_among name s.seen.listed) once e; few = λ b. absurd (h.1 TooManyNodes (omega arith) (omega arith) b) }))
       (λ known. record { own = t.word ∷ []; whole = refl; is = (ap (λ (w : Word). w ∷ []) k.0, may name k once known, refl); short = short })))
     where
@@ -165,11 +170,15 @@ module _ (bad : ℕ) (Bound : FaultKind → Type 0) where
       few : List ℕ → Result (List ℕ × State) ConfigFault
       few name = cond (not (is_among name s.seen.met) && leb MAX_NODES (length s.seen.met)) (fails TooManyNodes t.at) (Ok (name, record s { seen = with_node s.seen name }))
 
-      breaks : (name : List ℕ) → t.word ≡ Name name → t.at ≡ bad → NodeKeeps Bound repeats s.seen name → Held Node ws
-      breaks name e offset keep = broken bad Bound Node t s.left.tokens alone name e offset (record { more = []; x = (name, at (Err halt) [] (with_node s.seen name)); is = (ap (λ (w : Word). w ∷ []) e, keep, refl) })
+      breaks : (name : List ℕ) → t.word ≡ Name name → t.at ≡ bad → NodeKeeps Bound repeats s.seen name → Held Marks Node ws
+      breaks name e offset keep = broken Marks bad Bound Node t s.left.tokens alone name e offset (record { more = []; x = (name, at (Err halt) [] (with_node s.seen name)); is = (ap (λ (w : Word). w ∷ []) e, keep, refl) })
 
       may : (name : List ℕ) → IsShortly t.word name → (not repeats && is_among name s.seen.listed) ≡ false → (not (is_among name s.seen.met) && leb MAX_NODES (length s.seen.met)) ≡ false → NodeKeeps Bound repeats s.seen name
       may name k once known = record { short = λ b. k.1; once = λ b e. unless_first repeats (is_among name s.seen.listed) once e; few = λ b e. leb-false MAX_NODES (length s.seen.met) (unless_first (is_among name s.seen.met) (leb MAX_NODES (length s.seen.met)) known e) }
+
+  -- a node, unless commas are quiet
+  pub some_node : (repeats : Bool) → Marks ⊎ ((before : List (List ℕ)) (seen : Seen) → Begun (Taken IsNode (NodeKeeps Bound repeats) with_node seen) [])
+  some_node repeats = or_begun mode (λ free before seen. record { more = Name [] ∷ []; x = ([], at (Err halt) [] (with_node seen [])); is = (refl, node_so Bound free repeats seen [], refl) })
 
   abbrev pub Any : Seen → Type 0
   Any seen = Unit {0}
@@ -185,21 +194,27 @@ module _ (bad : ℕ) (Bound : FaultKind → Type 0) where
   abbrev InTuple : Seen → List Word → List (List ℕ) × State → Type 0
   InTuple seen vs x = Item seen (Punctuation OpenTuple ∷ vs) x
 
-  tuple_held : (t : Located) (seen : Seen) (ts : List Located) (last : Result Located ConfigFault) → (t.at ≡ bad → All IsQuiet (words (but_one ts))) → Over bad Bound ts last → Holds bad Bound by_pair (InTuple seen) (words ts) (token (at last ts seen) >>= λ first. cond (is_symbol CloseTuple first.0.word) (fails EmptyTuple t.at) (names_at false CloseTuple first.0 first.1))
-  tuple_held t seen [] last quiet over = subst (λ (l : Result Located ConfigFault). Holds bad Bound by_pair (InTuple seen) [] (token (at l [] seen) >>= λ first. cond (is_symbol CloseTuple first.0.word) (fails EmptyTuple t.at) (names_at false CloseTuple first.0 first.1))) (sym over.0) (λ h. inl (All-nil IsQuiet))
+  tuple_held : (t : Located) (seen : Seen) (ts : List Located) (last : Result Located ConfigFault) → (t.at ≡ bad → All (IsQuiet Marks) (words (but_one ts))) → Over Marks bad Bound ts last → Holds Marks bad Bound by_pair (InTuple seen) (words ts) (token (at last ts seen) >>= λ first. cond (is_symbol CloseTuple first.0.word) (fails EmptyTuple t.at) (names_at false CloseTuple first.0 first.1))
+  tuple_held t seen [] last quiet over = subst (λ (l : Result Located ConfigFault). Holds Marks bad Bound by_pair (InTuple seen) [] (token (at l [] seen) >>= λ first. cond (is_symbol CloseTuple first.0.word) (fails EmptyTuple t.at) (names_at false CloseTuple first.0 first.1))) (sym over.0) (λ h. inl (All-nil (IsQuiet Marks)))
   tuple_held t seen (f ∷ ts) last quiet over =
-      held_if bad Bound by_pair (InTuple seen) (f.word ∷ words ts) (is_symbol CloseTuple f.word) (fails EmptyTuple t.at) (names_at false CloseTuple f (at last ts seen))
-      (λ none h. spoilt bad Bound (InTuple seen) f ts (quiet h.0) (record { more = []; x = ([], at (Err halt) [] seen); is = (inr (h.1, ap (λ (w : Word). Punctuation OpenTuple ∷ w ∷ []) (mark_is CloseTuple f.word none), refl), tt, refl) }))
-      (λ some. held_to bad Bound by_pair (IsHeldRun bad Bound IsNode with_node (λ _. NodeKeeps Bound false) (λ _. node_of false) Any (λ _ _ _ _ _. tt) (λ _ t s alone short _. node_held false t s alone short) CloseTuple [] seen) (InTuple seen) (λ vs ys r. in_tuple seen vs ys r.0 r.1 r.2 r.3 r.4 r.5 r.6)
-      (f.word ∷ words ts) (names_at false CloseTuple f (at last ts seen)) (list_held bad Bound IsNode with_node (λ _. NodeKeeps Bound false) (λ _. node_of false) Any (λ _ _ _ _ _. tt) (λ _ t s alone short _. node_held false t s alone short) CloseTuple (room (at last ts seen)) [] f (at last ts seen) over.1.0 (over.0, over.1.1) tt))
+      held_if Marks bad Bound by_pair (InTuple seen) (f.word ∷ words ts) (is_symbol CloseTuple f.word) (fails EmptyTuple t.at) (names_at false CloseTuple f (at last ts seen))
+      (λ none h. spoilt Marks bad Bound (InTuple seen) f ts (quiet h.0) (record { more = []; x = ([], at (Err halt) [] seen); is = (inr (h.1, ap (λ (w : Word). Punctuation OpenTuple ∷ w ∷ []) (mark_is CloseTuple f.word none), refl), tt, refl) }))
+      (λ some. held_to Marks bad Bound by_pair (IsHeldRun Marks bad Bound IsNode with_node (λ _. NodeKeeps Bound false) (λ _. node_of false) Any (λ _ _ _ _ _. tt) (λ _ t s alone short _. node_held false t s alone short) (some_node false) CloseTuple [] seen) (InTuple seen) (λ vs ys r. in_tuple seen vs ys r.0 r.1 r.2 r.3 r.4 r.5 r.6)
+      (f.word ∷ words ts) (names_at false CloseTuple f (at last ts seen)) (list_held Marks bad Bound IsNode with_node (λ _. NodeKeeps Bound false) (λ _. node_of false) Any (λ _ _ _ _ _. tt) (λ _ t s alone short _. node_held false t s alone short) (some_node false) CloseTuple (room (at last ts seen)) [] f (at last ts seen) over.1.0 (over.0, over.1.1) tt))
 
-  item_held : (t : Located) (s : State) → Alone bad Bound t s.left.tokens → IsOver bad Bound s → Holds bad Bound by_pair (Item s.seen) (t.word ∷ words_in s) (item_at t s)
+  tuple_goes : (seen : Seen) → Goes Marks bad Bound (Item seen) OpenTuple
+  tuple_goes seen = or_begun mode (λ free. record { more = Name [] ∷ Punctuation CloseTuple ∷ []; x = ([] ∷ [], at (Err halt) [] (with_node seen [])); is = (inl (inr (Name [] ∷ [], refl, refl)), nodes_so Bound free false seen ([] ∷ []), refl) })
+
+  item_held : (t : Located) (s : State) → Alone Marks bad Bound t s.left.tokens → IsOver Marks bad Bound s → Holds Marks bad Bound by_pair (Item s.seen) (t.word ∷ words_in s) (item_at t s)
   unfolding item_at
   item_held t s alone short =
       let tuple : Result (List (List ℕ) × State) ConfigFault = token s >>= λ first. cond (is_symbol CloseTuple first.0.word) (fails EmptyTuple t.at) (names_at false CloseTuple first.0 first.1) in
-      held_if bad Bound by_pair (Item s.seen) (t.word ∷ words_in s) (is_symbol OpenTuple t.word) tuple (node_of false t s >>= λ name. Ok (name.0 ∷ [], name.1))
-      (λ e. subst (λ (w : Word). Holds bad Bound by_pair (Item s.seen) (w ∷ words_in s) tuple) (sym (mark_is OpenTuple t.word e)) (behind_mark bad Bound by_pair (Item s.seen) OpenTuple tt (words_in s) tuple (tuple_held t s.seen s.left.tokens s.left.last (λ offset. subst (λ (w : Word). QuietBehind w s.left.tokens) (mark_is OpenTuple t.word e) (alone offset)) short)))
+      held_if Marks bad Bound by_pair (Item s.seen) (t.word ∷ words_in s) (is_symbol OpenTuple t.word) tuple (node_of false t s >>= λ name. Ok (name.0 ∷ [], name.1))
+      (λ e. subst (λ (w : Word). Holds Marks bad Bound by_pair (Item s.seen) (w ∷ words_in s) tuple) (sym (mark_is OpenTuple t.word e)) (behind_mark Marks bad Bound by_pair (Item s.seen) OpenTuple (tuple_goes s.seen) (words_in s) tuple (tuple_held t s.seen s.left.tokens s.left.last (λ offset. subst (λ (w : Word). QuietBehind Marks w s.left.tokens) (mark_is OpenTuple t.word e) (alone offset)) short)))
       (λ e. made_held (Taken IsNode (NodeKeeps Bound false) with_node s.seen) (Item s.seen) (λ name. name ∷ []) (λ own name u k. (inl (inl (name, k.0, refl)), (k.1, tt), k.2)) (t.word ∷ words_in s) (node_of false t s) (node_held false t s alone short))
+
+  some_item : Marks ⊎ ((before : List (List (List ℕ))) (seen : Seen) → Begun (Item seen) [])
+  some_item = or_begun mode (λ free before seen. record { more = Name [] ∷ []; x = ([] ∷ [], at (Err halt) [] (with_node seen [])); is = (inl (inl ([], refl, refl)), nodes_so Bound free false seen ([] ∷ []), refl) })
 
   -- a node list begins with no names listed
   abbrev with_list : Seen → List (List (List ℕ)) → Seen
@@ -217,21 +232,24 @@ module _ (bad : ℕ) (Bound : FaultKind → Type 0) where
   abbrev InList : Seen → List Word → List (List (List ℕ)) × State → Type 0
   InList seen vs x = NodeList seen (Punctuation OpenList ∷ vs) x
 
-  opened_held : (t : Located) (seen : Seen) (ts : List Located) (last : Result Located ConfigFault) → (t.at ≡ bad → All IsQuiet (words (but_one ts))) → Over bad Bound ts last → Holds bad Bound by_pair (InList seen) (words ts) (token (at last ts seen) >>= λ first. cond (is_symbol CloseList first.0.word) (fails EmptyList t.at) (items_at first.0 (record first.1 { seen = listing first.1.seen })))
-  opened_held t seen [] last quiet over = subst (λ (l : Result Located ConfigFault). Holds bad Bound by_pair (InList seen) [] (token (at l [] seen) >>= λ first. cond (is_symbol CloseList first.0.word) (fails EmptyList t.at) (items_at first.0 (record first.1 { seen = listing first.1.seen })))) (sym over.0) (λ h. inl (All-nil IsQuiet))
+  opened_held : (t : Located) (seen : Seen) (ts : List Located) (last : Result Located ConfigFault) → (t.at ≡ bad → All (IsQuiet Marks) (words (but_one ts))) → Over Marks bad Bound ts last → Holds Marks bad Bound by_pair (InList seen) (words ts) (token (at last ts seen) >>= λ first. cond (is_symbol CloseList first.0.word) (fails EmptyList t.at) (items_at first.0 (record first.1 { seen = listing first.1.seen })))
+  opened_held t seen [] last quiet over = subst (λ (l : Result Located ConfigFault). Holds Marks bad Bound by_pair (InList seen) [] (token (at l [] seen) >>= λ first. cond (is_symbol CloseList first.0.word) (fails EmptyList t.at) (items_at first.0 (record first.1 { seen = listing first.1.seen })))) (sym over.0) (λ h. inl (All-nil (IsQuiet Marks)))
   opened_held t seen (f ∷ ts) last quiet over =
-      held_if bad Bound by_pair (InList seen) (f.word ∷ words ts) (is_symbol CloseList f.word) (fails EmptyList t.at) (items_at f (at last ts (listing seen)))
-      (λ none h. spoilt bad Bound (InList seen) f ts (quiet h.0) (record { more = []; x = ([], at (Err halt) [] (listing seen)); is = (inr (h.1, ap (λ (w : Word). Punctuation OpenList ∷ w ∷ []) (mark_is CloseList f.word none), refl), tt, refl) }))
-      (λ some. held_to bad Bound by_pair (IsHeldRun bad Bound (IsLooseItem Bound) with_nodes (λ _. NodesKeep Bound false) (λ _. item_at) Any (λ _ _ _ _ _. tt) (λ _ t s alone short _. item_held t s alone short) CloseList [] (listing seen)) (InList seen) (λ vs ys r. in_list seen vs ys r.0 r.1 r.2 r.3 r.4 r.5 r.6)
-      (f.word ∷ words ts) (items_at f (at last ts (listing seen))) (list_held bad Bound (IsLooseItem Bound) with_nodes (λ _. NodesKeep Bound false) (λ _. item_at) Any (λ _ _ _ _ _. tt) (λ _ t s alone short _. item_held t s alone short) CloseList (room (at last ts seen)) [] f (at last ts (listing seen)) over.1.0 (over.0, over.1.1) tt))
+      held_if Marks bad Bound by_pair (InList seen) (f.word ∷ words ts) (is_symbol CloseList f.word) (fails EmptyList t.at) (items_at f (at last ts (listing seen)))
+      (λ none h. spoilt Marks bad Bound (InList seen) f ts (quiet h.0) (record { more = []; x = ([], at (Err halt) [] (listing seen)); is = (inr (h.1, ap (λ (w : Word). Punctuation OpenList ∷ w ∷ []) (mark_is CloseList f.word none), refl), tt, refl) }))
+      (λ some. held_to Marks bad Bound by_pair (IsHeldRun Marks bad Bound (IsLooseItem Bound) with_nodes (λ _. NodesKeep Bound false) (λ _. item_at) Any (λ _ _ _ _ _. tt) (λ _ t s alone short _. item_held t s alone short) some_item CloseList [] (listing seen)) (InList seen) (λ vs ys r. in_list seen vs ys r.0 r.1 r.2 r.3 r.4 r.5 r.6)
+      (f.word ∷ words ts) (items_at f (at last ts (listing seen))) (list_held Marks bad Bound (IsLooseItem Bound) with_nodes (λ _. NodesKeep Bound false) (λ _. item_at) Any (λ _ _ _ _ _. tt) (λ _ t s alone short _. item_held t s alone short) some_item CloseList (room (at last ts seen)) [] f (at last ts (listing seen)) over.1.0 (over.0, over.1.1) tt))
 
-  groups_held : (t : Located) (s : State) → Alone bad Bound t s.left.tokens → IsOver bad Bound s → Holds bad Bound by_pair (NodeList s.seen) (t.word ∷ words_in s) (groups_at t s)
+  list_goes : (seen : Seen) → Goes Marks bad Bound (NodeList seen) OpenList
+  list_goes seen = or_begun mode (λ free. record { more = Name [] ∷ Punctuation CloseList ∷ []; x = (([] ∷ []) ∷ [], at (Err halt) [] (with_list seen (([] ∷ []) ∷ []))); is = (inl (Name [] ∷ [], refl, inl (inl ([], refl, refl))), groups_so Bound free (listing seen) (([] ∷ []) ∷ []), refl) })
+
+  groups_held : (t : Located) (s : State) → Alone Marks bad Bound t s.left.tokens → IsOver Marks bad Bound s → Holds Marks bad Bound by_pair (NodeList s.seen) (t.word ∷ words_in s) (groups_at t s)
   unfolding groups_at
   groups_held t s alone short =
       let list : Result (List (List (List ℕ)) × State) ConfigFault = token s >>= λ first. cond (is_symbol CloseList first.0.word) (fails EmptyList t.at) (items_at first.0 (record first.1 { seen = listing first.1.seen })) in
-      held_if bad Bound by_pair (NodeList s.seen) (t.word ∷ words_in s) (is_symbol OpenList t.word) list (fails BadShape t.at)
-      (λ e. subst (λ (w : Word). Holds bad Bound by_pair (NodeList s.seen) (w ∷ words_in s) list) (sym (mark_is OpenList t.word e))
-      (behind_mark bad Bound by_pair (NodeList s.seen) OpenList tt (words_in s) list (opened_held t s.seen s.left.tokens s.left.last (λ offset. subst (λ (w : Word). QuietBehind w s.left.tokens) (mark_is OpenList t.word e) (alone offset)) short))) (λ e h. absurd h)
+      held_if Marks bad Bound by_pair (NodeList s.seen) (t.word ∷ words_in s) (is_symbol OpenList t.word) list (fails BadShape t.at)
+      (λ e. subst (λ (w : Word). Holds Marks bad Bound by_pair (NodeList s.seen) (w ∷ words_in s) list) (sym (mark_is OpenList t.word e))
+      (behind_mark Marks bad Bound by_pair (NodeList s.seen) OpenList (list_goes s.seen) (words_in s) list (opened_held t s.seen s.left.tokens s.left.last (λ offset. subst (λ (w : Word). QuietBehind Marks w s.left.tokens) (mark_is OpenList t.word e) (alone offset)) short))) (λ e h. absurd h)
 
   -- ---- applications
 
@@ -249,14 +267,14 @@ module _ (bad : ℕ) (Bound : FaultKind → Type 0) where
     number_begun : (n : ℕ) → IsLooseMs Bound w n → Begun (Time seen) (w ∷ [])
     number_begun n is = record { more = Punctuation Comma ∷ []; x = (n, of w 0, at (Err halt) [] seen); is = (inr (w, refl, is), refl) }
 
-  timeout_held : (w : Word) (offset : ℕ) (s : State) → Over bad Bound (of w offset ∷ s.left.tokens) s.left.last → Holds bad Bound by_first (Time s.seen) (w ∷ words_in s) (timeout_at (of w offset) s)
+  timeout_held : (w : Word) (offset : ℕ) (s : State) → Over Marks bad Bound (of w offset ∷ s.left.tokens) s.left.last → Holds Marks bad Bound by_first (Time s.seen) (w ∷ words_in s) (timeout_at (of w offset) s)
   unfolding timeout_at
   timeout_held (Number negative digits) offset s over =
-      held_look bad Bound (IsMs w) by_first (Time s.seen) (w ∷ words_in s) (milliseconds_of offset negative (value_from 0 digits)) (λ n. symbol_at Comma s >>= λ comma. token comma >>= λ next. Ok (n, next.0, next.1))
-      (ms_shows (Held (Time s.seen) (w ∷ words_in s)) offset negative digits (λ plus large h. spoilt bad Bound (Time s.seen) (of w offset) s.left.tokens (over.1.0 h.0) (number_begun w s.seen (value_from 0 digits) (inr (h.1, digits, ap (λ (b : Bool). Number b digits) plus, refl, large)))))
-      (λ n is. behind_names bad Bound by_first (Time s.seen) (w ∷ []) (number_begun w s.seen n (inl is)) (words_in s) (symbol_at Comma s >>= λ comma. token comma >>= λ next. Ok (n, next.0, next.1))
-      (symbol_held bad Bound by_first (λ vs x. Time s.seen (w ∷ vs) x) Comma (inl tt) s (λ comma. token comma >>= λ next. Ok (n, next.0, next.1)) (over.0, over.1.1)
-      (λ ts last e. token_held bad Bound by_first (λ vs x. Time s.seen (w ∷ Punctuation Comma ∷ vs) x) (at last ts s.seen) (λ next. Ok (n, next.0, next.1)) e (λ t ts last alone e. record { own = []; whole = refl; is = (inr (w, refl, inl is), refl); short = (e.0, (alone, e.1)) }))))
+      held_look Marks bad Bound (IsMs w) by_first (Time s.seen) (w ∷ words_in s) (milliseconds_of offset negative (value_from 0 digits)) (λ n. symbol_at Comma s >>= λ comma. token comma >>= λ next. Ok (n, next.0, next.1))
+      (ms_shows (Held Marks (Time s.seen) (w ∷ words_in s)) offset negative digits (λ plus large h. spoilt Marks bad Bound (Time s.seen) (of w offset) s.left.tokens (over.1.0 h.0) (number_begun w s.seen (value_from 0 digits) (inr (h.1, digits, ap (λ (b : Bool). Number b digits) plus, refl, large)))))
+      (λ n is. behind_names Marks bad Bound by_first (Time s.seen) (w ∷ []) (number_begun w s.seen n (inl is)) (words_in s) (symbol_at Comma s >>= λ comma. token comma >>= λ next. Ok (n, next.0, next.1))
+      (symbol_held Marks bad Bound by_first (λ vs x. Time s.seen (w ∷ vs) x) Comma (inr (record { more = []; x = (n, of w 0, at (Err halt) [] s.seen); is = (inr (w, refl, inl is), refl) })) s (λ comma. token comma >>= λ next. Ok (n, next.0, next.1)) (over.0, over.1.1)
+      (λ ts last e. token_held Marks bad Bound by_first (λ vs x. Time s.seen (w ∷ Punctuation Comma ∷ vs) x) (at last ts s.seen) (λ next. Ok (n, next.0, next.1)) e (λ t ts last alone e. record { own = []; whole = refl; is = (inr (w, refl, inl is), refl); short = (e.0, (alone, e.1)) }))))
     where
       w : Word
       w = Number negative digits
@@ -289,15 +307,15 @@ module _ (bad : ℕ) (Bound : FaultKind → Type 0) where
       abbrev listed : ℕ × Located × State → Result (App × State) ConfigFault
       listed timeout = groups_at timeout.1 timeout.2 >>= λ groups. Ok (app_with timeout.0 groups.0, groups.1)
 
-      list_behind : (own : List Word) (x : ℕ × Located × State) → Time seen own x → IsOver bad Bound (at x.2.left.last (x.1 ∷ x.2.left.tokens) x.2.seen) → Holds bad Bound by_pair (λ vs y. IsNamed name (own ++ vs) y.0 y.1.seen) (x.1.word ∷ words_in x.2) (listed x)
+      list_behind : (own : List Word) (x : ℕ × Located × State) → Time seen own x → IsOver Marks bad Bound (at x.2.left.last (x.1 ∷ x.2.left.tokens) x.2.seen) → Holds Marks bad Bound by_pair (λ vs y. IsNamed name (own ++ vs) y.0 y.1.seen) (x.1.word ∷ words_in x.2) (listed x)
       list_behind own x k short = made_held (NodeList x.2.seen) (λ vs y. IsNamed name (own ++ vs) y.0 y.1.seen) (app_with x.0)
           (λ vs groups u list. let l = subst (λ (q : Seen). NodeList q vs (groups, u)) k.1 list in (refl, (own, vs, refl, k.0, l.0), may_app x.0 groups l.1, l.2)) (x.1.word ∷ words_in x.2) (groups_at x.1 x.2) (groups_held x.1 x.2 short.1.0 (short.0, short.1.1))
 
-      app_value_held : (ts : List Located) (last : Result Located ConfigFault) → Over bad Bound ts last → Holds bad Bound by_pair (λ own x. IsNamed name own x.0 x.1.seen) (words ts) (app_value_at name (at last ts seen))
+      app_value_held : (ts : List Located) (last : Result Located ConfigFault) → Over Marks bad Bound ts last → Holds Marks bad Bound by_pair (λ own x. IsNamed name own x.0 x.1.seen) (words ts) (app_value_at name (at last ts seen))
       unfolding app_value_at
       app_value_held ts last e =
-          token_held bad Bound by_pair (λ own x. IsNamed name own x.0 x.1.seen) (at last ts seen) (λ first. timeout_at first.0 first.1 >>= listed) e
-          (λ t ts last alone e. held_then bad Bound by_first by_pair (Time seen) (λ own x. IsNamed name own x.0 x.1.seen) listed
+          token_held Marks bad Bound by_pair (λ own x. IsNamed name own x.0 x.1.seen) (at last ts seen) (λ first. timeout_at first.0 first.1 >>= listed) e
+          (λ t ts last alone e. held_then Marks bad Bound by_first by_pair (Time seen) (λ own x. IsNamed name own x.0 x.1.seen) listed
           (λ own x k. record { more = only_words; x = (only x.0, at (Err halt) [] (with_app seen (only x.0))); is = only_named own x.0 k.0 }) (t.word ∷ words ts) (timeout_at t (at last ts seen)) (timeout_held t.word t.at (at last ts seen) (e.0, (alone, e.1))) (λ own x k short. list_behind own x k short))
 
       abbrev Behind : List Word → App × State → Type 0
@@ -309,11 +327,20 @@ module _ (bad : ℕ) (Bound : FaultKind → Type 0) where
       filled_app : Begun Behind []
       filled_app = record { more = only_words ++ Punctuation CloseTuple ∷ []; x = (only 0, at (Err halt) [] (with_app seen (only 0))); is = is_app (only_words ++ Punctuation CloseTuple ∷ []) (only 0, at (Err halt) [] (with_app seen (only 0))) (only_words, refl, only_named [] 0 (inl (refl, refl))) }
 
-      app_rest_held : (ts : List Located) (last : Result Located ConfigFault) → Over bad Bound ts last → Holds bad Bound by_pair Behind (words ts) (closed (app_value_at name) (at last ts seen))
-      app_rest_held ts last e = held_to bad Bound by_pair (IsHeldClosed (IsNamed name)) Behind is_app (words ts) (closed (app_value_at name) (at last ts seen)) (closed_held bad Bound (IsNamed name) (app_value_at name) (at last ts seen) (app_value_held ts last e))
+      app_rest_held : (ts : List Located) (last : Result Located ConfigFault) → Over Marks bad Bound ts last → Holds Marks bad Bound by_pair Behind (words ts) (closed (app_value_at name) (at last ts seen))
+      app_rest_held ts last e = held_to Marks bad Bound by_pair (IsHeldClosed (IsNamed name)) Behind is_app (words ts) (closed (app_value_at name) (at last ts seen)) (closed_held Marks bad Bound (IsNamed name) (app_value_at name) (at last ts seen) (app_value_held ts last e))
 
-  pub app_held : (before : List App) (t : Located) (s : State) → Alone bad Bound t s.left.tokens → IsOver bad Bound s → Good s.seen → Holds bad Bound by_pair (Taken (IsLooseApp Bound) (AppKeeps Bound before) with_app s.seen) (t.word ∷ words_in s) (app_at before t s)
-  app_held before t s alone short good = pair_held bad Bound (Taken (IsLooseApp Bound) (AppKeeps Bound before) with_app s.seen) (IsFine before) (app_name_of before) (λ name. closed (app_value_at name)) s.seen (fine_shows before)
+  pub free_good : Free Bound → (seen : Seen) → Good seen
+  free_good free seen = ([], node_so Bound free false (listing seen) [])
+
+  free_app : Free Bound → (before : List App) (seen : Seen) → Begun (λ vs x. Taken (IsLooseApp Bound) (AppKeeps Bound before) with_app seen (Punctuation OpenTuple ∷ Name [] ∷ Punctuation Comma ∷ vs) x) []
+  free_app free before seen = filled_app before seen (free_good free seen) (Name []) [] (record { is = refl; short = λ b. absurd (free NameTooLong tt b); once = λ b. absurd (free TwiceApp tt b); few = λ b. absurd (free TooManyApps tt b) })
+
+  pub some_app : Marks ⊎ ((before : List App) (seen : Seen) → Begun (Taken (IsLooseApp Bound) (AppKeeps Bound before) with_app seen) [])
+  some_app = or_begun mode (λ free before seen. pair_some (Taken (IsLooseApp Bound) (AppKeeps Bound before) with_app seen) (Name []) (free_app free before seen))
+
+  pub app_held : (before : List App) (t : Located) (s : State) → Alone Marks bad Bound t s.left.tokens → IsOver Marks bad Bound s → Good s.seen → Holds Marks bad Bound by_pair (Taken (IsLooseApp Bound) (AppKeeps Bound before) with_app s.seen) (t.word ∷ words_in s) (app_at before t s)
+  app_held before t s alone short good = pair_held Marks bad Bound (Taken (IsLooseApp Bound) (AppKeeps Bound before) with_app s.seen) (IsFine before) (app_name_of before) (λ name. closed (app_value_at name)) s.seen (fine_shows before) (or_begun mode (λ free. pair_begins (Taken (IsLooseApp Bound) (AppKeeps Bound before) with_app s.seen) (Name []) (free_app free before s.seen)))
       (λ w name fine. filled_app before s.seen good w name fine) (λ w name fine ts last e. app_rest_held before s.seen good w name fine ts last e) t s.left.tokens s.left.last short
 
   -- ---- permissions
@@ -321,12 +348,12 @@ module _ (bad : ℕ) (Bound : FaultKind → Type 0) where
   abbrev IsNamely : Word → List ℕ → Type 0
   IsNamely w name = (w ≡ Name name) × (Bound NameTooLong → length name ≤ 255)
 
-  namely_shows : (t : Located) → Shows bad Bound (Unfit bad Bound (List ℕ) IsNamely t) (IsNamely t.word) (short_name_of t)
+  namely_shows : (t : Located) → Shows Marks bad Bound (Unfit Marks bad Bound (List ℕ) IsNamely t) (IsNamely t.word) (short_name_of t)
   unfolding short_name_of
   namely_shows t =
-      let Q : Type 0 = Unfit bad Bound (List ℕ) IsNamely t in
-      shows_then bad Bound Q (IsName t.word) (IsNamely t.word) (atom_of t) (λ name. cond (ltb 255 (length name)) (fails NameTooLong t.at) (Ok name)) (atom_shows Q t)
-      (λ name e. shows_if bad Bound Q (IsNamely t.word) (ltb 255 (length name)) (fails NameTooLong t.at) (Ok name) (λ long h. (name, e, h.0, (name, (e, λ b. absurd (h.1 NameTooLong (omega arith) (omega arith) b))))) (λ short. (e, λ b. ltb-false 255 (length name) short)))
+      let Q : Type 0 = Unfit Marks bad Bound (List ℕ) IsNamely t in
+      shows_then Marks bad Bound Q (IsName t.word) (IsNamely t.word) (atom_of t) (λ name. cond (ltb 255 (length name)) (fails NameTooLong t.at) (Ok name)) (atom_shows Q t)
+      (λ name e. shows_if Marks bad Bound Q (IsNamely t.word) (ltb 255 (length name)) (fails NameTooLong t.at) (Ok name) (λ long h. (name, e, h.0, (name, (e, λ b. absurd (h.1 NameTooLong (omega arith) (omega arith) b))))) (λ short. (e, λ b. ltb-false 255 (length name) short)))
 
   module _ (seen : Seen) (w : Word) (name : List ℕ) (k : IsNamely w name) where
     abbrev IsGiven : List Word → Permission → Seen → Type 0
@@ -335,11 +362,11 @@ module _ (bad : ℕ) (Bound : FaultKind → Type 0) where
     abbrev Allowed : List Word → Permission × State → Type 0
     Allowed vs x = Taken IsPermission (PermissionKeeps Bound []) with_permission seen (Punctuation OpenTuple ∷ w ∷ Punctuation Comma ∷ vs) x
 
-    permission_value_held : (ts : List Located) (last : Result Located ConfigFault) → Over bad Bound ts last → Holds bad Bound by_pair (λ own x. IsGiven own x.0 x.1.seen) (words ts) (permission_value_at name (at last ts seen))
+    permission_value_held : (ts : List Located) (last : Result Located ConfigFault) → Over Marks bad Bound ts last → Holds Marks bad Bound by_pair (λ own x. IsGiven own x.0 x.1.seen) (words ts) (permission_value_at name (at last ts seen))
     unfolding permission_value_at
     permission_value_held ts last e =
-        token_held bad Bound by_pair (λ own x. IsGiven own x.0 x.1.seen) (at last ts seen) (λ t. flag_of t.0 >>= λ value. Ok (record { name = name; value = value }, t.1)) e
-        (λ t ts last alone e. held_look bad Bound (λ value. IsFlag (t.word ∷ []) value) by_pair (λ own x. IsGiven own x.0 x.1.seen) (t.word ∷ words ts) (flag_of t) (λ value. Ok (record { name = name; value = value }, at last ts seen)) (flag_shows (Held (λ own x. IsGiven own x.0 x.1.seen) (t.word ∷ words ts)) t) (λ value is. record { own = t.word ∷ []; whole = refl; is = (refl, is, refl); short = e }))
+        token_held Marks bad Bound by_pair (λ own x. IsGiven own x.0 x.1.seen) (at last ts seen) (λ t. flag_of t.0 >>= λ value. Ok (record { name = name; value = value }, t.1)) e
+        (λ t ts last alone e. held_look Marks bad Bound (λ value. IsFlag (t.word ∷ []) value) by_pair (λ own x. IsGiven own x.0 x.1.seen) (t.word ∷ words ts) (flag_of t) (λ value. Ok (record { name = name; value = value }, at last ts seen)) (flag_shows (Held Marks (λ own x. IsGiven own x.0 x.1.seen) (t.word ∷ words ts)) t) (λ value is. record { own = t.word ∷ []; whole = refl; is = (refl, is, refl); short = e }))
 
     is_permission : (vs : List Word) (x : Permission × State) → IsHeldClosed IsGiven vs x → Allowed vs x
     is_permission vs x c = ((c.0, pair_is w x.0.name vs c.0 (k.0 ∙ ap Name (sym c.2.0)) c.1, c.2.1), subst (λ (n : List ℕ). Bound NameTooLong → length n ≤ 255) (sym c.2.0) k.1, c.2.2)
@@ -349,9 +376,15 @@ module _ (bad : ℕ) (Bound : FaultKind → Type 0) where
         let p : Permission × State = (record { name = name; value = true }, at (Err halt) [] seen) in
         record { more = Name (codes "true") ∷ Punctuation CloseTuple ∷ []; x = p; is = is_permission (Name (codes "true") ∷ Punctuation CloseTuple ∷ []) p (Name (codes "true") ∷ [], refl, (refl, refl, refl)) }
 
-    permission_rest_held : (ts : List Located) (last : Result Located ConfigFault) → Over bad Bound ts last → Holds bad Bound by_pair Allowed (words ts) (closed (permission_value_at name) (at last ts seen))
-    permission_rest_held ts last e = held_to bad Bound by_pair (IsHeldClosed IsGiven) Allowed is_permission (words ts) (closed (permission_value_at name) (at last ts seen)) (closed_held bad Bound IsGiven (permission_value_at name) (at last ts seen) (permission_value_held ts last e))
+    permission_rest_held : (ts : List Located) (last : Result Located ConfigFault) → Over Marks bad Bound ts last → Holds Marks bad Bound by_pair Allowed (words ts) (closed (permission_value_at name) (at last ts seen))
+    permission_rest_held ts last e = held_to Marks bad Bound by_pair (IsHeldClosed IsGiven) Allowed is_permission (words ts) (closed (permission_value_at name) (at last ts seen)) (closed_held Marks bad Bound IsGiven (permission_value_at name) (at last ts seen) (permission_value_held ts last e))
 
-  pub permission_held : (before : List Permission) (t : Located) (s : State) → Alone bad Bound t s.left.tokens → IsOver bad Bound s → Holds bad Bound by_pair (Taken IsPermission (PermissionKeeps Bound before) with_permission s.seen) (t.word ∷ words_in s) (permission_at t s)
-  permission_held before t s alone short = pair_held bad Bound (Taken IsPermission (PermissionKeeps Bound before) with_permission s.seen) IsNamely short_name_of (λ name. closed (permission_value_at name)) s.seen namely_shows
+  free_permission : Free Bound → (seen : Seen) → Begun (λ vs x. Taken IsPermission (PermissionKeeps Bound []) with_permission seen (Punctuation OpenTuple ∷ Name [] ∷ Punctuation Comma ∷ vs) x) []
+  free_permission free seen = filled_permission seen (Name []) [] (refl, λ b. absurd (free NameTooLong tt b))
+
+  pub some_permission : Marks ⊎ ((before : List Permission) (seen : Seen) → Begun (Taken IsPermission (PermissionKeeps Bound before) with_permission seen) [])
+  some_permission = or_begun mode (λ free before seen. pair_some (Taken IsPermission (PermissionKeeps Bound before) with_permission seen) (Name []) (free_permission free seen))
+
+  pub permission_held : (before : List Permission) (t : Located) (s : State) → Alone Marks bad Bound t s.left.tokens → IsOver Marks bad Bound s → Holds Marks bad Bound by_pair (Taken IsPermission (PermissionKeeps Bound before) with_permission s.seen) (t.word ∷ words_in s) (permission_at t s)
+  permission_held before t s alone short = pair_held Marks bad Bound (Taken IsPermission (PermissionKeeps Bound before) with_permission s.seen) IsNamely short_name_of (λ name. closed (permission_value_at name)) s.seen namely_shows (or_begun mode (λ free. pair_begins (Taken IsPermission (PermissionKeeps Bound before) with_permission s.seen) (Name []) (free_permission free s.seen)))
       (λ w name k. filled_permission s.seen w name k) (λ w name k ts last e. permission_rest_held s.seen w name k ts last e) t s.left.tokens s.left.last short

@@ -1,5 +1,6 @@
 -- Parameters and sections that keep the bound limits, up to the last word that isn't quiet.
 use Rattle.std.proofs.Common.{◌≡◌, ◌≢◌, ℕ, zero, suc, Bool, true, false, cond, List, [], ◌∷◌, ◌++◌, Option, Some, None, Result, Ok, Err, refl, sym, ap, subst, ◌∙◌, inr, codes, inl, ◌≤◌}
+use Rattle.std.specs.Prelude.{◌⊎◌}
 use Rattle.std.specs.Str.{bytes_eq}
 use Rattle.dac_tokens.specs.declared.fault.ConfigFault.{ConfigFault}
 use Rattle.dac_tokens.specs.declared.fault.FaultKind.{FaultKind}
@@ -18,19 +19,40 @@ use Rattle.dac_shapes.specs.Shape.{State, fails, is_symbol, is_text, token, room
 use Rattle.dac_shapes.specs.Grammar.{IsListOf, IsNode, IsPermission, IsMs, IsLooseApp, IsLooseWait, IsLooseParam, IsLooseSection}
 use Rattle.dac_shapes.specs.laws.Splits.{at}
 use Rattle.dac_shapes.specs.laws.Names.{is_named, param_is, same_seen}
-use Rattle.dac_first_fault.proofs.Begun.{halt, Halts, Begun, words_in, by_pair, by_state, Sees}
+use Rattle.dac_first_fault.proofs.Begun.{halt, Halts, Begun, words_in, by_pair, by_state, Sees, pair_of, pair_is, pair_begins, pair_some}
+use Rattle.dac_first_fault.proofs.Spared.{Free}
 use Rattle.dac_first_fault.proofs.BegunTerms.{text_is, IsPassed, passed_sees, a_term}
-use Rattle.dac_first_fault.proofs.BegunReaders.{pair_of, pair_is}
-use Rattle.dac_first_fault.proofs.BegunSections.{IsFor, unknown_is, no_kernel}
-use Rattle.dac_first_fault.proofs.Held.{words, Held, all_kept, Stops, QuietBehind, Alone, Lone, Over, IsOver, Holds, Shows, shows_then, shows_if, Unfit, spoilt, held_if, held_to, held_look, token_held, Taken, IsHeldList, bracketed_held, IsHeldClosed, closed_held, pair_held}
-use Rattle.dac_first_fault.proofs.HeldReaders.{made_held, Good, good_nothing, good_steps, good_nodes, good_app, atom_shows, ms_shows, node_held, Any, app_held, permission_held}
+use Rattle.dac_first_fault.proofs.Held.{or_begun, words, Held, all_kept, Stops, QuietBehind, Alone, Lone, Over, IsOver, Holds, Shows, shows_then, shows_if, Unfit, spoilt, held_if, held_to, held_look, token_held, Taken, IsHeldList, bracketed_held, IsHeldClosed, closed_held, pair_held}
+use Rattle.dac_first_fault.proofs.HeldReaders.{made_held, Good, good_nothing, good_steps, good_nodes, good_app, atom_shows, ms_shows, node_held, some_node, Any, free_good, app_held, some_app, permission_held, some_permission}
 
-module _ (bad : ℕ) (Bound : FaultKind → Type 0) where
+-- the two cases of a parameter's name
+abbrev IsFor : List ℕ → Option ParamName → Type 0
+IsFor name (Some known) = name ≡ spelled known
+IsFor name None = (known : ParamName) → name ≢ spelled known
+
+unknown_is : (name : List ℕ) → param_named name ≡ None → (known : ParamName) → name ≢ spelled known
+unknown_is name e known same = absurd (no_name known (sym (ap param_named same) ∙ e))
+  where
+    no_name : (p : ParamName) → param_named (spelled p) ≡ None → ⊥
+    no_name named.Distributed h = absurd cc
+    no_name named.Permissions h = absurd cc
+    no_name named.Mandatory h = absurd cc
+    no_name named.Optional h = absurd cc
+    no_name named.Timeout h = absurd cc
+
+no_kernel : (name : List ℕ) → bytes_eq name (codes "kernel") ≡ false → name ≢ codes "kernel"
+no_kernel name other same = let wrong : true ≡ false = ap (λ (n : List ℕ). bytes_eq n (codes "kernel")) (sym same) ∙ other in cc
+
+-- a list of sections that are allowed
+abbrev pub AreSections : (FaultKind → Type 0) → List Word → List Section × State → Type 0
+AreSections Bound own xs = IsListOf (IsLooseSection Bound) own xs.0 × Keeps Bound xs.0 × (xs.1.seen ≡ steps with_section nothing xs.0)
+
+module _ (Marks : Type 0) (bad : ℕ) (Bound : FaultKind → Type 0) (mode : Marks ⊎ Free Bound) where
   -- ---- a skipped term changes no names, and the remaining tokens satisfy `IsOver`
 
   -- the names seen are unchanged, and the remaining tokens satisfy `IsOver`
   abbrev Steady : Seen → State → Type 0
-  Steady seen s = (s.seen ≡ seen) × IsOver bad Bound s
+  Steady seen s = (s.seen ≡ seen) × IsOver Marks bad Bound s
 
   abbrev Stays : {X : Type 0} → (X → State) → Seen → Result X ConfigFault → Type 0
   Stays state seen (Ok x) = Steady seen (state x)
@@ -53,7 +75,7 @@ module _ (bad : ℕ) (Bound : FaultKind → Type 0) where
   token_same : (seen : Seen) (s : State) → Steady seen s → Stays behind seen (token s)
   token_same seen s e = by s.left.tokens s.left.last e.1
     where
-      by : (ts : List Located) (last : Result Located ConfigFault) → Over bad Bound ts last → Stays behind seen (token (at last ts s.seen))
+      by : (ts : List Located) (last : Result Located ConfigFault) → Over Marks bad Bound ts last → Stays behind seen (token (at last ts s.seen))
       by [] last o = subst (λ (l : Result Located ConfigFault). Stays behind seen (token (at l [] s.seen))) (sym o.0) (λ h. tt)
       by (t ∷ ts) last o = (e.0, (o.0, o.1.1))
 
@@ -94,7 +116,7 @@ module _ (bad : ℕ) (Bound : FaultKind → Type 0) where
   term_stays seen zero t s e = no_stay behind seen t.at
   term_stays seen (suc n) t s e = term_by_stays seen (term_at n) (term_stays seen n) t.word t.at n s e
 
-  passed_stays : (s : State) → IsOver bad Bound s → Stays (λ u. u) s.seen (passed_at s)
+  passed_stays : (s : State) → IsOver Marks bad Bound s → Stays (λ u. u) s.seen (passed_at s)
   unfolding passed_at
   passed_stays s over =
       stays_then behind (λ u. u) s.seen (token s) (λ first. term_at (suc (room s)) first.0 first.1 >>= λ b. cond (is_symbol CloseTuple b.0.word) (Ok b.1) (fails BadShape b.0.at)) (token_same s.seen s (refl, over))
@@ -103,11 +125,11 @@ module _ (bad : ℕ) (Bound : FaultKind → Type 0) where
 
   -- an item made after a term was skipped
   module _ {A : Type 0} (Is : List Word → A × State → Type 0) (seen : Seen) (y : A) (so : (vs : List Word) (u : State) → IsPassed vs → u.seen ≡ seen → Is vs (y, u)) where
-    passed_made : (ws : List Word) (r : Result State ConfigFault) → Sees by_state (λ own u. IsPassed own) ws r → Stays (λ u. u) seen r → Holds bad Bound by_pair Is ws (r >>= λ b. Ok (y, b))
+    passed_made : (ws : List Word) (r : Result State ConfigFault) → Sees by_state (λ own u. IsPassed own) ws r → Stays (λ u. u) seen r → Holds Marks bad Bound by_pair Is ws (r >>= λ b. Ok (y, b))
     passed_made ws (Ok u) k e = record { own = k.own; whole = k.whole; is = so k.own u k.is e.0; short = e.1 }
-    passed_made ws (Err f) k e = λ h. let b = k (e h) in inr (all_kept Is ws (record { more = b.more; x = (y, at (Err halt) [] seen); is = so (ws ++ b.more) (at (Err halt) [] seen) b.is refl }))
+    passed_made ws (Err f) k e = λ h. let b = k (e h) in inr (all_kept Marks Is ws (record { more = b.more; x = (y, at (Err halt) [] seen); is = so (ws ++ b.more) (at (Err halt) [] seen) b.is refl }))
 
-    passed_held : (ts : List Located) (last : Result Located ConfigFault) → Over bad Bound ts last → Holds bad Bound by_pair Is (words ts) (passed_at (at last ts seen) >>= λ b. Ok (y, b))
+    passed_held : (ts : List Located) (last : Result Located ConfigFault) → Over Marks bad Bound ts last → Holds Marks bad Bound by_pair Is (words ts) (passed_at (at last ts seen) >>= λ b. Ok (y, b))
     passed_held ts last e = passed_made (words ts) (passed_at (at last ts seen)) (passed_sees (at last ts seen) e.0) (passed_stays (at last ts seen) e)
 
   -- ---- names of parameters
@@ -121,26 +143,26 @@ module _ (bad : ℕ) (Bound : FaultKind → Type 0) where
   Says before w o = (name : List ℕ) × (w ≡ Name name) × IsFor name o × IsNext before o
 
   module _ (Q : Type 0) where
-    first_shows : (before : List Param) (w : Word) (offset : ℕ) (name : List ℕ) → w ≡ Name name → (o : Option ParamName) → param_named name ≡ o → Shows bad Bound Q (Says before w) (first_param before offset o)
+    first_shows : (before : List Param) (w : Word) (offset : ℕ) (name : List ℕ) → w ≡ Name name → (o : Option ParamName) → param_named name ≡ o → Shows Marks bad Bound Q (Says before w) (first_param before offset o)
     first_shows before w offset name e None is = (name, e, unknown_is name is, tt)
-    first_shows before w offset name e (Some known) is = shows_if bad Bound Q (Says before w) (has_param known before) (fails BadShape offset) (Ok (Some known)) (λ twice h. absurd h) (λ once. (name, e, param_is name known is, λ b. once))
+    first_shows before w offset name e (Some known) is = shows_if Marks bad Bound Q (Says before w) (has_param known before) (fails BadShape offset) (Ok (Some known)) (λ twice h. absurd h) (λ once. (name, e, param_is name known is, λ b. once))
 
-    param_shows : (before : List Param) (t : Located) → Shows bad Bound Q (Says before t.word) (param_name_of before t)
+    param_shows : (before : List Param) (t : Located) → Shows Marks bad Bound Q (Says before t.word) (param_name_of before t)
     unfolding param_name_of
-    param_shows before t = shows_then bad Bound Q (λ name. t.word ≡ Name name) (Says before t.word) (atom_of t) (λ name. first_param before t.at (param_named name)) (atom_shows bad Bound Q t) (λ name e. first_shows before t.word t.at name e (param_named name) refl)
+    param_shows before t = shows_then Marks bad Bound Q (λ name. t.word ≡ Name name) (Says before t.word) (atom_of t) (λ name. first_param before t.at (param_named name)) (atom_shows Marks bad Bound mode Q t) (λ name e. first_shows before t.word t.at name e (param_named name) refl)
 
   -- whether a second one of its kind is detected
   abbrev Once : Bool → Type 0
   Once twice = Bound BadShape → twice ≡ false
 
   module _ (Q : Type 0) (w : Word) (offset : ℕ) (spoils : (digits : List ℕ) → w ≡ Number false digits → 4294967296 ≤ value_from 0 digits → Stops bad Bound NumberTooLarge offset → Q) where
-    wait_by : (v : Word) → w ≡ v → Shows bad Bound Q (λ wait. IsLooseWait Bound (v ∷ []) wait) (wait_of (record { word = v; at = offset }))
+    wait_by : (v : Word) → w ≡ v → Shows Marks bad Bound Q (λ wait. IsLooseWait Bound (v ∷ []) wait) (wait_of (record { word = v; at = offset }))
     unfolding wait_of
     wait_by (Number negative digits) e =
-        shows_then bad Bound Q (IsMs (Number negative digits)) (λ wait. IsLooseWait Bound (Number negative digits ∷ []) wait) (milliseconds_of offset negative (value_from 0 digits)) (λ n. Ok (Ms n))
-        (ms_shows bad Bound Q offset negative digits (λ plus large h. spoils digits (e ∙ ap (λ (b : Bool). Number b digits) plus) large h)) (λ n is. (Number negative digits, refl, inl is))
+        shows_then Marks bad Bound Q (IsMs (Number negative digits)) (λ wait. IsLooseWait Bound (Number negative digits ∷ []) wait) (milliseconds_of offset negative (value_from 0 digits)) (λ n. Ok (Ms n))
+        (ms_shows Marks bad Bound mode Q offset negative digits (λ plus large h. spoils digits (e ∙ ap (λ (b : Bool). Number b digits) plus) large h)) (λ n is. (Number negative digits, refl, inl is))
     wait_by (Name name) e =
-        shows_if bad Bound Q (λ wait. IsLooseWait Bound (Name name ∷ []) wait) (bytes_eq name (codes "infinity")) (Ok Forever) (fails BadShape offset) (λ is. ap (λ (n : List ℕ). Name n ∷ []) (is_named name (codes "infinity") is)) (λ other h. absurd h)
+        shows_if Marks bad Bound Q (λ wait. IsLooseWait Bound (Name name ∷ []) wait) (bytes_eq name (codes "infinity")) (Ok Forever) (fails BadShape offset) (λ is. ap (λ (n : List ℕ). Name n ∷ []) (is_named name (codes "infinity") is)) (λ other h. absurd h)
     wait_by (Punctuation symbol) e = λ h. absurd h
     wait_by Text e = λ h. absurd h
     wait_by End e = λ h. absurd h
@@ -150,7 +172,7 @@ module _ (bad : ℕ) (Bound : FaultKind → Type 0) where
   once_as : (before : List Param) (name : ParamName) → Once (has_param name before) → Bound BadShape → (other : ParamName) → ◌≡◌ {A = Option ParamName} (Some name) (Some other) → has_param other before ≡ false
   once_as before name once b other e = let same : name ≡ other = cc in subst (λ (n : ParamName). has_param n before ≡ false) same (once b)
 
-  module _ (before : List Param) (seen : Seen) (good : (Good bad Bound) seen) where
+  module _ (before : List Param) (seen : Seen) (good : (Good Marks bad Bound mode) seen) where
     -- the value of the parameter of this name, which is allowed
     abbrev IsValue : ParamName → List Word → Param → Seen → Type 0
     IsValue name own p after = IsLooseParam Bound (pair_of (spelled name) own) p × ParamKeeps Bound before seen p × (after ≡ with_param seen p)
@@ -160,28 +182,28 @@ module _ (bad : ℕ) (Bound : FaultKind → Type 0) where
 
     names_value : (name : ParamName) (to : List (List ℕ) → Param) → ((ns : List (List ℕ)) → name_of (to ns) ≡ Some name) → ((own : List Word) (ns : List (List ℕ)) → IsListOf IsNode own ns → IsLooseParam Bound (pair_of (spelled name) own) (to ns))
         → ((ns : List (List ℕ)) → AllMay with_node (λ _. NodeKeeps Bound true) [] seen ns → ValueKeeps Bound seen (to ns)) → ((ns : List (List ℕ)) → steps with_node seen ns ≡ with_param seen (to ns)) → Once (has_param name before)
-        → (ts : List Located) (last : Result Located ConfigFault) → Over bad Bound ts last → Holds bad Bound by_pair (λ own x. IsValue name own x.0 x.1.seen) (words ts) (list_of (λ _. node_of true) (at last ts seen) >>= λ names. Ok (to names.0, names.1))
+        → (ts : List Located) (last : Result Located ConfigFault) → Over Marks bad Bound ts last → Holds Marks bad Bound by_pair (λ own x. IsValue name own x.0 x.1.seen) (words ts) (list_of (λ _. node_of true) (at last ts seen) >>= λ names. Ok (to names.0, names.1))
     names_value name to so is may after once ts last e =
-        made_held bad Bound (IsHeldList bad Bound IsNode with_node (λ _. NodeKeeps Bound true) (λ _. node_of true) (Any bad Bound) (λ _ _ _ _ _. tt) (λ _ t s alone short _. node_held bad Bound true t s alone short) seen) (λ own x. IsValue name own x.0 x.1.seen) to
+        made_held Marks bad Bound mode (IsHeldList Marks bad Bound IsNode with_node (λ _. NodeKeeps Bound true) (λ _. node_of true) (Any Marks bad Bound mode) (λ _ _ _ _ _. tt) (λ _ t s alone short _. node_held Marks bad Bound mode true t s alone short) (some_node Marks bad Bound mode true) seen) (λ own x. IsValue name own x.0 x.1.seen) to
         (λ own ns u k. (is own ns k.0, record { once = λ b other q. once_as before name once b other (sym (so ns) ∙ q); value = may ns k.1 }, k.2 ∙ after ns)) (words ts) (list_of (λ _. node_of true) (at last ts seen))
-        (bracketed_held bad Bound IsNode with_node (λ _. NodeKeeps Bound true) (λ _. node_of true) (Any bad Bound) (λ _ _ _ _ _. tt) (λ _ t s alone short _. node_held bad Bound true t s alone short) (at last ts seen) e tt)
+        (bracketed_held Marks bad Bound IsNode with_node (λ _. NodeKeeps Bound true) (λ _. node_of true) (Any Marks bad Bound mode) (λ _ _ _ _ _. tt) (λ _ t s alone short _. node_held Marks bad Bound mode true t s alone short) (some_node Marks bad Bound mode true) (at last ts seen) e tt)
 
-    value_held : (name : ParamName) → Once (has_param name before) → (ts : List Located) (last : Result Located ConfigFault) → Over bad Bound ts last → Holds bad Bound by_pair (λ own x. IsValue name own x.0 x.1.seen) (words ts) (param_value_at name (at last ts seen))
+    value_held : (name : ParamName) → Once (has_param name before) → (ts : List Located) (last : Result Located ConfigFault) → Over Marks bad Bound ts last → Holds Marks bad Bound by_pair (λ own x. IsValue name own x.0 x.1.seen) (words ts) (param_value_at name (at last ts seen))
     unfolding param_value_at
     value_held named.Distributed once ts last e =
-        made_held bad Bound (IsHeldList bad Bound (IsLooseApp Bound) with_app (AppKeeps Bound) app_at (Good bad Bound) (good_app bad Bound) (app_held bad Bound) seen) (λ own x. IsValue named.Distributed own x.0 x.1.seen) Distributed (λ own xs u k. ((own, refl, k.0), record { once = once_as before named.Distributed once; value = k.1 }, k.2))
-        (words ts) (list_of app_at (at last ts seen)) (bracketed_held bad Bound (IsLooseApp Bound) with_app (AppKeeps Bound) app_at (Good bad Bound) (good_app bad Bound) (app_held bad Bound) (at last ts seen) e good)
+        made_held Marks bad Bound mode (IsHeldList Marks bad Bound (IsLooseApp Bound) with_app (AppKeeps Bound) app_at (Good Marks bad Bound mode) (good_app Marks bad Bound mode) (app_held Marks bad Bound mode) (some_app Marks bad Bound mode) seen) (λ own x. IsValue named.Distributed own x.0 x.1.seen) Distributed (λ own xs u k. ((own, refl, k.0), record { once = once_as before named.Distributed once; value = k.1 }, k.2))
+        (words ts) (list_of app_at (at last ts seen)) (bracketed_held Marks bad Bound (IsLooseApp Bound) with_app (AppKeeps Bound) app_at (Good Marks bad Bound mode) (good_app Marks bad Bound mode) (app_held Marks bad Bound mode) (some_app Marks bad Bound mode) (at last ts seen) e good)
     value_held named.Permissions once ts last e =
-        made_held bad Bound (IsHeldList bad Bound IsPermission with_permission (PermissionKeeps Bound) (λ _. permission_at) (Any bad Bound) (λ _ _ _ _ _. tt) (λ before t s alone short _. permission_held bad Bound before t s alone short) seen) (λ own x. IsValue named.Permissions own x.0 x.1.seen) Permissions
+        made_held Marks bad Bound mode (IsHeldList Marks bad Bound IsPermission with_permission (PermissionKeeps Bound) (λ _. permission_at) (Any Marks bad Bound mode) (λ _ _ _ _ _. tt) (λ before t s alone short _. permission_held Marks bad Bound mode before t s alone short) (some_permission Marks bad Bound mode) seen) (λ own x. IsValue named.Permissions own x.0 x.1.seen) Permissions
         (λ own xs u k. ((own, refl, k.0), record { once = once_as before named.Permissions once; value = k.1 }, k.2 ∙ same_seen seen xs)) (words ts) (list_of (λ _. permission_at) (at last ts seen))
-        (bracketed_held bad Bound IsPermission with_permission (PermissionKeeps Bound) (λ _. permission_at) (Any bad Bound) (λ _ _ _ _ _. tt) (λ before t s alone short _. permission_held bad Bound before t s alone short) (at last ts seen) e tt)
+        (bracketed_held Marks bad Bound IsPermission with_permission (PermissionKeeps Bound) (λ _. permission_at) (Any Marks bad Bound mode) (λ _ _ _ _ _. tt) (λ before t s alone short _. permission_held Marks bad Bound mode before t s alone short) (some_permission Marks bad Bound mode) (at last ts seen) e tt)
     value_held named.Mandatory once ts last e = names_value named.Mandatory Mandatory (λ _. refl) (λ own ns k. (own, refl, k)) (λ ns k. k) (λ ns. refl) once ts last e
     value_held named.Optional once ts last e = names_value named.Optional Optional (λ _. refl) (λ own ns k. (own, refl, k)) (λ ns k. k) (λ ns. refl) once ts last e
     value_held named.Timeout once ts last e =
-        token_held bad Bound by_pair (λ own x. IsValue named.Timeout own x.0 x.1.seen) (at last ts seen) (λ t. wait_of t.0 >>= λ wait. Ok (Timeout wait, t.1)) e
-        (λ t ts last alone e. held_look bad Bound (λ wait. IsLooseWait Bound (t.word ∷ []) wait) by_pair (λ own x. IsValue named.Timeout own x.0 x.1.seen) (t.word ∷ words ts) (wait_of t) (λ wait. Ok (Timeout wait, at last ts seen))
-        (wait_by (Held (λ own x. IsValue named.Timeout own x.0 x.1.seen) (t.word ∷ words ts)) t.word t.at
-        (λ digits is large h. spoilt bad Bound (λ own (x : Param × State). IsValue named.Timeout own x.0 x.1.seen) t ts (subst (λ (w : Word). QuietBehind w ts) is (alone h.0))
+        token_held Marks bad Bound by_pair (λ own x. IsValue named.Timeout own x.0 x.1.seen) (at last ts seen) (λ t. wait_of t.0 >>= λ wait. Ok (Timeout wait, t.1)) e
+        (λ t ts last alone e. held_look Marks bad Bound (λ wait. IsLooseWait Bound (t.word ∷ []) wait) by_pair (λ own x. IsValue named.Timeout own x.0 x.1.seen) (t.word ∷ words ts) (wait_of t) (λ wait. Ok (Timeout wait, at last ts seen))
+        (wait_by (Held Marks (λ own x. IsValue named.Timeout own x.0 x.1.seen) (t.word ∷ words ts)) t.word t.at
+        (λ digits is large h. spoilt Marks bad Bound (λ own (x : Param × State). IsValue named.Timeout own x.0 x.1.seen) t ts (subst (λ (w : Word). QuietBehind Marks w ts) is (alone h.0))
         (record { more = []; x = (Timeout (Ms (value_from 0 digits)), at (Err halt) [] seen); is = ((t.word ∷ [], refl, (t.word, refl, inr (h.1, digits, is, refl, large))), record { once = once_as before named.Timeout once; value = tt }, refl) })) t.word refl)
         (λ wait is. record { own = t.word ∷ []; whole = refl; is = ((t.word ∷ [], refl, is), record { once = once_as before named.Timeout once; value = tt }, refl); short = e }))
 
@@ -224,25 +246,31 @@ module _ (bad : ℕ) (Bound : FaultKind → Type 0) where
         record { more = v.more ++ Punctuation CloseTuple ∷ []; x = v.x; is = known_in w known (says.1 ∙ ap Name says.2) (v.more ++ Punctuation CloseTuple ∷ []) v.x (v.more, refl, v.is) }
     filled_param w None says = record { more = Name [] ∷ Punctuation CloseTuple ∷ []; x = (Param.Other, same); is = other_in w says.0 says.1 says.2 (Name [] ∷ Punctuation CloseTuple ∷ []) same (Name [] ∷ [], refl, a_term) refl }
 
-    param_rest_held : (w : Word) (o : Option ParamName) → Says before w o → (ts : List Located) (last : Result Located ConfigFault) → Over bad Bound ts last → Holds bad Bound by_pair (In w) (words ts) (param_rest_at o (at last ts seen))
+    param_rest_held : (w : Word) (o : Option ParamName) → Says before w o → (ts : List Located) (last : Result Located ConfigFault) → Over Marks bad Bound ts last → Holds Marks bad Bound by_pair (In w) (words ts) (param_rest_at o (at last ts seen))
     unfolding param_rest_at
-    param_rest_held w (Some known) says ts last e = held_to bad Bound by_pair (IsHeldClosed (IsValue known)) (In w) (known_in w known (says.1 ∙ ap Name says.2)) (words ts) (closed (param_value_at known) (at last ts seen))
-        (closed_held bad Bound (IsValue known) (param_value_at known) (at last ts seen) (value_held known says.3 ts last e))
+    param_rest_held w (Some known) says ts last e = held_to Marks bad Bound by_pair (IsHeldClosed (IsValue known)) (In w) (known_in w known (says.1 ∙ ap Name says.2)) (words ts) (closed (param_value_at known) (at last ts seen))
+        (closed_held Marks bad Bound (IsValue known) (param_value_at known) (at last ts seen) (value_held known says.3 ts last e))
     param_rest_held w None says ts last e = passed_held (In w) seen Param.Other (λ vs u c k. other_in w says.0 says.1 says.2 vs u c k) ts last e
 
-  param_held : (before : List Param) (t : Located) (s : State) → Alone bad Bound t s.left.tokens → IsOver bad Bound s → (Good bad Bound) s.seen → Holds bad Bound by_pair (Taken (IsLooseParam Bound) (ParamKeeps Bound before) with_param s.seen) (t.word ∷ words_in s) (param_at before t s)
-  param_held before t s alone short good =
-      pair_held bad Bound (Taken (IsLooseParam Bound) (ParamKeeps Bound before) with_param s.seen) (Says before) (param_name_of before) param_rest_at s.seen (λ u. param_shows (Unfit bad Bound (Option ParamName) (Says before) u) before u) (filled_param before s.seen good) (param_rest_held before s.seen good) t s.left.tokens s.left.last short
+  free_param : Free Bound → (before : List Param) (seen : Seen) → Begun (λ vs x. Taken (IsLooseParam Bound) (ParamKeeps Bound before) with_param seen (Punctuation OpenTuple ∷ Name (spelled named.Timeout) ∷ Punctuation Comma ∷ vs) x) []
+  free_param free before seen = filled_param before seen (free_good Marks bad Bound mode free seen) (Name (spelled named.Timeout)) (Some named.Timeout) (spelled named.Timeout, refl, refl, λ b. absurd (free BadShape tt b))
 
-  good_apps : (seen : Seen) (p : Param) → (Good bad Bound) seen → ValueKeeps Bound seen p → (Good bad Bound) (with_param seen p)
-  good_apps seen (Distributed apps) good may = good_steps bad Bound with_app (AppKeeps Bound) (good_app bad Bound) [] seen apps good may
+  some_param : Marks ⊎ ((before : List Param) (seen : Seen) → Begun (Taken (IsLooseParam Bound) (ParamKeeps Bound before) with_param seen) [])
+  some_param = or_begun mode (λ free before seen. pair_some (Taken (IsLooseParam Bound) (ParamKeeps Bound before) with_param seen) (Name (spelled named.Timeout)) (free_param free before seen))
+
+  param_held : (before : List Param) (t : Located) (s : State) → Alone Marks bad Bound t s.left.tokens → IsOver Marks bad Bound s → (Good Marks bad Bound mode) s.seen → Holds Marks bad Bound by_pair (Taken (IsLooseParam Bound) (ParamKeeps Bound before) with_param s.seen) (t.word ∷ words_in s) (param_at before t s)
+  param_held before t s alone short good =
+      pair_held Marks bad Bound (Taken (IsLooseParam Bound) (ParamKeeps Bound before) with_param s.seen) (Says before) (param_name_of before) param_rest_at s.seen (λ u. param_shows (Unfit Marks bad Bound (Option ParamName) (Says before) u) before u) (or_begun mode (λ free. pair_begins (Taken (IsLooseParam Bound) (ParamKeeps Bound before) with_param s.seen) (Name (spelled named.Timeout)) (free_param free before s.seen))) (filled_param before s.seen good) (param_rest_held before s.seen good) t s.left.tokens s.left.last short
+
+  good_apps : (seen : Seen) (p : Param) → (Good Marks bad Bound mode) seen → ValueKeeps Bound seen p → (Good Marks bad Bound mode) (with_param seen p)
+  good_apps seen (Distributed apps) good may = good_steps Marks bad Bound mode with_app (AppKeeps Bound) (good_app Marks bad Bound mode) [] seen apps good may
   good_apps seen (Permissions permissions) good may = good
-  good_apps seen (Mandatory names) good may = good_nodes bad Bound true seen names good may
-  good_apps seen (Optional names) good may = good_nodes bad Bound true seen names good may
+  good_apps seen (Mandatory names) good may = good_nodes Marks bad Bound mode true seen names good may
+  good_apps seen (Optional names) good may = good_nodes Marks bad Bound mode true seen names good may
   good_apps seen (Timeout wait) good may = good
   good_apps seen Param.Other good may = good
 
-  good_param : (before : List Param) (seen : Seen) (p : Param) → (Good bad Bound) seen → ParamKeeps Bound before seen p → (Good bad Bound) (with_param seen p)
+  good_param : (before : List Param) (seen : Seen) (p : Param) → (Good Marks bad Bound mode) seen → ParamKeeps Bound before seen p → (Good Marks bad Bound mode) (with_param seen p)
   good_param before seen p good may = good_apps seen p good may.value
 
   -- ---- sections
@@ -254,25 +282,25 @@ module _ (bad : ℕ) (Bound : FaultKind → Type 0) where
   abbrev Tells : List Section → Word → Bool → Type 0
   Tells before w k = (name : List ℕ) × (w ≡ Name name) × IsForSection before name k
 
-  kernel_shows : (Q : Type 0) (before : List Section) (t : Located) → Shows bad Bound Q (Tells before t.word) (names_kernel before t)
+  kernel_shows : (Q : Type 0) (before : List Section) (t : Located) → Shows Marks bad Bound Q (Tells before t.word) (names_kernel before t)
   unfolding names_kernel
   kernel_shows Q before t =
-      shows_then bad Bound Q (λ name. t.word ≡ Name name) (Tells before t.word) (atom_of t) (λ name. cond (bytes_eq name (codes "kernel")) (cond (has_kernel before) (fails BadShape t.at) (Ok true)) (Ok false)) (atom_shows bad Bound Q t)
-      (λ name e. shows_if bad Bound Q (Tells before t.word) (bytes_eq name (codes "kernel")) (cond (has_kernel before) (fails BadShape t.at) (Ok true)) (Ok false)
-      (λ is. shows_if bad Bound Q (Tells before t.word) (has_kernel before) (fails BadShape t.at) (Ok true) (λ twice h. absurd h) (λ once. (name, e, (is_named name (codes "kernel") is, λ b. once)))) (λ other. (name, e, no_kernel name other)))
+      shows_then Marks bad Bound Q (λ name. t.word ≡ Name name) (Tells before t.word) (atom_of t) (λ name. cond (bytes_eq name (codes "kernel")) (cond (has_kernel before) (fails BadShape t.at) (Ok true)) (Ok false)) (atom_shows Marks bad Bound mode Q t)
+      (λ name e. shows_if Marks bad Bound Q (Tells before t.word) (bytes_eq name (codes "kernel")) (cond (has_kernel before) (fails BadShape t.at) (Ok true)) (Ok false)
+      (λ is. shows_if Marks bad Bound Q (Tells before t.word) (has_kernel before) (fails BadShape t.at) (Ok true) (λ twice h. absurd h) (λ once. (name, e, (is_named name (codes "kernel") is, λ b. once)))) (λ other. (name, e, no_kernel name other)))
 
-  module _ (before : List Section) (seen : Seen) (good : (Good bad Bound) seen) where
+  module _ (before : List Section) (seen : Seen) (good : (Good Marks bad Bound mode) seen) where
     abbrev IsKernel : List Word → Section → Seen → Type 0
     IsKernel own x after = IsLooseSection Bound (pair_of (codes "kernel") own) x × SectionKeeps Bound before seen x × (after ≡ with_section seen x)
 
     abbrev Within : Word → List Word → Section × State → Type 0
     Within w vs x = Taken (IsLooseSection Bound) (SectionKeeps Bound before) with_section seen (Punctuation OpenTuple ∷ w ∷ Punctuation Comma ∷ vs) x
 
-    kernel_held : Once (has_kernel before) → (ts : List Located) (last : Result Located ConfigFault) → Over bad Bound ts last → Holds bad Bound by_pair (λ own x. IsKernel own x.0 x.1.seen) (words ts) (kernel_at (at last ts seen))
+    kernel_held : Once (has_kernel before) → (ts : List Located) (last : Result Located ConfigFault) → Over Marks bad Bound ts last → Holds Marks bad Bound by_pair (λ own x. IsKernel own x.0 x.1.seen) (words ts) (kernel_at (at last ts seen))
     unfolding kernel_at
     kernel_held once ts last e =
-        made_held bad Bound (IsHeldList bad Bound (IsLooseParam Bound) with_param (ParamKeeps Bound) param_at (Good bad Bound) good_param param_held seen) (λ own x. IsKernel own x.0 x.1.seen) Kernel (λ own xs u k. ((own, refl, k.0), record { once = once; params = k.1 }, k.2))
-        (words ts) (list_of param_at (at last ts seen)) (bracketed_held bad Bound (IsLooseParam Bound) with_param (ParamKeeps Bound) param_at (Good bad Bound) good_param param_held (at last ts seen) e good)
+        made_held Marks bad Bound mode (IsHeldList Marks bad Bound (IsLooseParam Bound) with_param (ParamKeeps Bound) param_at (Good Marks bad Bound mode) good_param param_held some_param seen) (λ own x. IsKernel own x.0 x.1.seen) Kernel (λ own xs u k. ((own, refl, k.0), record { once = once; params = k.1 }, k.2))
+        (words ts) (list_of param_at (at last ts seen)) (bracketed_held Marks bad Bound (IsLooseParam Bound) with_param (ParamKeeps Bound) param_at (Good Marks bad Bound mode) good_param param_held some_param (at last ts seen) e good)
 
     kernel_in : (w : Word) → w ≡ Name (codes "kernel") → (vs : List Word) (x : Section × State) → IsHeldClosed IsKernel vs x → Within w vs x
     kernel_in w e vs x c = (subst (λ (l : List Word). IsLooseSection Bound l x.0) (sym (pair_is w (codes "kernel") vs c.0 e c.1)) c.2.0, c.2.1, c.2.2)
@@ -288,25 +316,27 @@ module _ (bad : ℕ) (Bound : FaultKind → Type 0) where
         record { more = inner ++ Punctuation CloseTuple ∷ []; x = x; is = kernel_in w (says.1 ∙ ap Name says.2.0) (inner ++ Punctuation CloseTuple ∷ []) x (inner, refl, ((inner, refl, ([], refl, refl)), record { once = says.2.1; params = tt }, refl)) }
     filled_section w false says = record { more = Name [] ∷ Punctuation CloseTuple ∷ []; x = (Section.Other, at (Err halt) [] seen); is = section_in w says.0 says.1 says.2 (Name [] ∷ Punctuation CloseTuple ∷ []) (at (Err halt) [] seen) (Name [] ∷ [], refl, a_term) refl }
 
-    section_rest_held : (w : Word) (k : Bool) → Tells before w k → (ts : List Located) (last : Result Located ConfigFault) → Over bad Bound ts last → Holds bad Bound by_pair (Within w) (words ts) (section_rest_at k (at last ts seen))
+    section_rest_held : (w : Word) (k : Bool) → Tells before w k → (ts : List Located) (last : Result Located ConfigFault) → Over Marks bad Bound ts last → Holds Marks bad Bound by_pair (Within w) (words ts) (section_rest_at k (at last ts seen))
     unfolding section_rest_at
-    section_rest_held w true says ts last e = held_to bad Bound by_pair (IsHeldClosed IsKernel) (Within w) (kernel_in w (says.1 ∙ ap Name says.2.0)) (words ts) (closed kernel_at (at last ts seen)) (closed_held bad Bound IsKernel kernel_at (at last ts seen) (kernel_held says.2.1 ts last e))
+    section_rest_held w true says ts last e = held_to Marks bad Bound by_pair (IsHeldClosed IsKernel) (Within w) (kernel_in w (says.1 ∙ ap Name says.2.0)) (words ts) (closed kernel_at (at last ts seen)) (closed_held Marks bad Bound IsKernel kernel_at (at last ts seen) (kernel_held says.2.1 ts last e))
     section_rest_held w false says ts last e = passed_held (Within w) seen Section.Other (λ vs u c k. section_in w says.0 says.1 says.2 vs u c k) ts last e
 
-  section_held : (before : List Section) (t : Located) (s : State) → Alone bad Bound t s.left.tokens → IsOver bad Bound s → (Good bad Bound) s.seen → Holds bad Bound by_pair (Taken (IsLooseSection Bound) (SectionKeeps Bound before) with_section s.seen) (t.word ∷ words_in s) (section_at before t s)
+  free_section : Free Bound → (before : List Section) (seen : Seen) → Begun (λ vs x. Taken (IsLooseSection Bound) (SectionKeeps Bound before) with_section seen (Punctuation OpenTuple ∷ Name (codes "kernel") ∷ Punctuation Comma ∷ vs) x) []
+  free_section free before seen = filled_section before seen (free_good Marks bad Bound mode free seen) (Name (codes "kernel")) true (codes "kernel", refl, (refl, λ b. absurd (free BadShape tt b)))
+
+  some_section : Marks ⊎ ((before : List Section) (seen : Seen) → Begun (Taken (IsLooseSection Bound) (SectionKeeps Bound before) with_section seen) [])
+  some_section = or_begun mode (λ free before seen. pair_some (Taken (IsLooseSection Bound) (SectionKeeps Bound before) with_section seen) (Name (codes "kernel")) (free_section free before seen))
+
+  section_held : (before : List Section) (t : Located) (s : State) → Alone Marks bad Bound t s.left.tokens → IsOver Marks bad Bound s → (Good Marks bad Bound mode) s.seen → Holds Marks bad Bound by_pair (Taken (IsLooseSection Bound) (SectionKeeps Bound before) with_section s.seen) (t.word ∷ words_in s) (section_at before t s)
   unfolding section_at
   section_held before t s alone short good =
-      held_if bad Bound by_pair (Taken (IsLooseSection Bound) (SectionKeeps Bound before) with_section s.seen) (t.word ∷ words_in s) (is_text t.word) (fails Unsupported t.at) (pair_at (names_kernel before) section_rest_at t s) (λ text h. let is = text_is t.word text in spoilt bad Bound (Taken (IsLooseSection Bound) (SectionKeeps Bound before) with_section s.seen) t s.left.tokens (subst (λ (w : Word). QuietBehind w s.left.tokens) is (alone h.0))
+      held_if Marks bad Bound by_pair (Taken (IsLooseSection Bound) (SectionKeeps Bound before) with_section s.seen) (t.word ∷ words_in s) (is_text t.word) (fails Unsupported t.at) (pair_at (names_kernel before) section_rest_at t s) (λ text h. let is = text_is t.word text in spoilt Marks bad Bound (Taken (IsLooseSection Bound) (SectionKeeps Bound before) with_section s.seen) t s.left.tokens (subst (λ (w : Word). QuietBehind Marks w s.left.tokens) is (alone h.0))
       (record { more = []; x = (Section.Other, at (Err halt) [] s.seen); is = (inr (h.1, ap (λ (w : Word). w ∷ []) is), tt, refl) }))
-      (λ other. pair_held bad Bound (Taken (IsLooseSection Bound) (SectionKeeps Bound before) with_section s.seen) (Tells before) (names_kernel before) section_rest_at s.seen (λ u. kernel_shows (Unfit bad Bound Bool (Tells before) u) before u) (filled_section before s.seen good) (section_rest_held before s.seen good) t s.left.tokens s.left.last short)
+      (λ other. pair_held Marks bad Bound (Taken (IsLooseSection Bound) (SectionKeeps Bound before) with_section s.seen) (Tells before) (names_kernel before) section_rest_at s.seen (λ u. kernel_shows (Unfit Marks bad Bound Bool (Tells before) u) before u) (or_begun mode (λ free. pair_begins (Taken (IsLooseSection Bound) (SectionKeeps Bound before) with_section s.seen) (Name (codes "kernel")) (free_section free before s.seen))) (filled_section before s.seen good) (section_rest_held before s.seen good) t s.left.tokens s.left.last short)
 
-  good_section : (before : List Section) (seen : Seen) (x : Section) → (Good bad Bound) seen → SectionKeeps Bound before seen x → (Good bad Bound) (with_section seen x)
-  good_section before seen (Kernel params) good may = good_steps bad Bound with_param (ParamKeeps Bound) good_param [] seen params good may.params
+  good_section : (before : List Section) (seen : Seen) (x : Section) → (Good Marks bad Bound mode) seen → SectionKeeps Bound before seen x → (Good Marks bad Bound mode) (with_section seen x)
+  good_section before seen (Kernel params) good may = good_steps Marks bad Bound mode with_param (ParamKeeps Bound) good_param [] seen params good may.params
   good_section before seen Section.Other good may = good
 
-  -- a list of sections that are allowed
-  abbrev pub AreSections : List Word → List Section × State → Type 0
-  AreSections own xs = IsListOf (IsLooseSection Bound) own xs.0 × Keeps Bound xs.0 × (xs.1.seen ≡ steps with_section nothing xs.0)
-
-  pub sections_held : (ts : List Located) → Lone bad Bound ts → Holds bad Bound by_pair AreSections (words ts) (list_of section_at (at (Err halt) ts nothing))
-  sections_held ts lone = bracketed_held bad Bound (IsLooseSection Bound) with_section (SectionKeeps Bound) section_at (Good bad Bound) good_section section_held (at (Err halt) ts nothing) (refl, lone) (good_nothing bad Bound)
+  pub sections_held : (ts : List Located) → Lone Marks bad Bound ts → Holds Marks bad Bound by_pair (AreSections Bound) (words ts) (list_of section_at (at (Err halt) ts nothing))
+  sections_held ts lone = bracketed_held Marks bad Bound (IsLooseSection Bound) with_section (SectionKeeps Bound) section_at (Good Marks bad Bound mode) good_section section_held some_section (at (Err halt) ts nothing) (refl, lone) (good_nothing Marks bad Bound mode)

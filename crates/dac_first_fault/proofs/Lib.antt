@@ -7,8 +7,6 @@ pub mod Readers
 pub mod Sections
 pub mod Begun
 pub mod BegunTerms
-pub mod BegunReaders
-pub mod BegunSections
 pub mod Held
 pub mod HeldReaders
 pub mod HeldSections

@@ -23,18 +23,22 @@ Strict NumberTooLarge = Unit {0}
 Strict Unsupported = Unit {0}
 Strict _ = ⊥
 
+-- no limit is kept
+abbrev pub Free : (FaultKind → Type 0) → Type 0
+Free Kept = (kind : FaultKind) → IsLimit kind → Kept kind → ⊥
+
 all_so : {A : Type 0} (step : Seen → A → Seen) (May : List A → Seen → A → Type 0) → ((before : List A) (seen : Seen) (x : A) → May before seen x) → (before : List A) (seen : Seen) (xs : List A) → AllMay step May before seen xs
 all_so step May so before seen [] = tt
 all_so step May so before seen (x ∷ xs) = (so before seen x, all_so step May so (before ++ x ∷ []) (step seen x) xs)
 
-module _ (Kept : FaultKind → Type 0) (free : (kind : FaultKind) → IsLimit kind → Kept kind → ⊥) where
-  node_so : (repeats : Bool) (seen : Seen) (name : List ℕ) → NodeKeeps Kept repeats seen name
+module _ (Kept : FaultKind → Type 0) (free : Free Kept) where
+  pub node_so : (repeats : Bool) (seen : Seen) (name : List ℕ) → NodeKeeps Kept repeats seen name
   node_so repeats seen name = record { short = λ k. absurd (free NameTooLong tt k); once = λ k. absurd (free TwiceInList tt k); few = λ k. absurd (free TooManyNodes tt k) }
 
-  nodes_so : (repeats : Bool) (seen : Seen) (names : List (List ℕ)) → NodesKeep Kept repeats seen names
+  pub nodes_so : (repeats : Bool) (seen : Seen) (names : List (List ℕ)) → NodesKeep Kept repeats seen names
   nodes_so repeats seen names = all_so with_node (λ _. NodeKeeps Kept repeats) (λ _. node_so repeats) [] seen names
 
-  groups_so : (seen : Seen) (groups : List (List (List ℕ))) → GroupsKeep Kept seen groups
+  pub groups_so : (seen : Seen) (groups : List (List (List ℕ))) → GroupsKeep Kept seen groups
   groups_so seen groups = all_so with_nodes (λ _. NodesKeep Kept false) (λ _. nodes_so false) [] seen groups
 
   app_so : (before : List App) (seen : Seen) (app : App) → AppKeeps Kept before seen app
@@ -58,14 +62,14 @@ module _ (Kept : FaultKind → Type 0) (free : (kind : FaultKind) → IsLimit ki
   pub sections_so : (sections : List Section) → Keeps Kept sections
   sections_so sections = all_so with_section (SectionKeeps Kept) section_so [] nothing sections
 
+pub no_limit : Free Strict
+no_limit BadShape is k = k
+no_limit NameTooLong is k = k
+no_limit TwiceApp is k = k
+no_limit TwiceInList is k = k
+no_limit TooManyApps is k = k
+no_limit TooManyNodes is k = k
+no_limit _ is k = is
+
 pub strictly_so : (sections : List Section) → Keeps Strict sections
 strictly_so sections = sections_so Strict no_limit sections
-  where
-    no_limit : (kind : FaultKind) → IsLimit kind → Strict kind → ⊥
-    no_limit BadShape is k = k
-    no_limit NameTooLong is k = k
-    no_limit TwiceApp is k = k
-    no_limit TwiceInList is k = k
-    no_limit TooManyApps is k = k
-    no_limit TooManyNodes is k = k
-    no_limit _ is k = is
