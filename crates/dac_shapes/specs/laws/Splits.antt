@@ -1,12 +1,11 @@
 -- Tokens, split by their words.
-use Rattle.std.proofs.Common.{◌≡◌, ℕ, zero, suc, ◌<◌, true, false, List, [], ◌∷◌, ◌++◌, length, map, Result, Ok, refl, sym, ap, subst, ◌∙◌, append_assoc, length-append, arith}
+use Rattle.std.proofs.Common.{◌≡◌, true, false, List, [], ◌∷◌, ◌++◌, map, Result, Ok, refl, ap, ◌∙◌}
 use Rattle.dac_tokens.specs.declared.fault.ConfigFault.{ConfigFault}
 use Rattle.dac_tokens.specs.declared.token.Symbol.{Symbol}
-use Rattle.dac_tokens.specs.declared.token.Symbol.TheVariants.{OpenList, CloseList, OpenTuple, CloseTuple, Comma}
-use Rattle.dac_tokens.specs.Words.{Word, Punctuation, Name, Located}
-use Rattle.dac_shapes.specs.Limits.{Seen, AllMay, steps}
-use Rattle.dac_shapes.specs.Shape.{State, is_symbol, symbol_at, more_at, comma_list, list_of, pair_at, closed, room}
-use Rattle.dac_shapes.specs.Grammar.{Parted, IsListOf, IsPair}
+use Rattle.dac_tokens.specs.declared.token.Symbol.TheVariants.{CloseList, CloseTuple}
+use Rattle.dac_tokens.specs.Words.{Word, Punctuation, Located}
+use Rattle.dac_shapes.specs.Limits.{Seen}
+use Rattle.dac_shapes.specs.Shape.{State, is_symbol, symbol_at}
 
 abbrev pub words_of : List Located → List Word
 words_of ts = map (λ t. t.word) ts
