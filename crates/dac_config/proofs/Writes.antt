@@ -20,8 +20,7 @@ use Rattle.dac_shapes.specs.declared.draft.SyncWait.TheVariants.{NoSync, Forever
 use Rattle.dac_shapes.specs.declared.param.ParamName.TheVariants as named
 use Rattle.dac_shapes.specs.Written.{App, Permission, Param, Distributed, Permissions, Mandatory, Optional, Timeout, Section, Kernel, spelled}
 use Rattle.dac_shapes.specs.Within.{params_in}
-use Rattle.dac_shapes.specs.Limits.{Every}
-use Rattle.dac_shapes.specs.Grammar.{Parted, between, IsListOf, IsPair, IsNode, IsLooseItem, IsLooseMs, IsLooseNodeList, IsLooseTimeout, IsLooseAppValue, IsLooseApp, IsPermission, IsLooseWait, IsLooseParam, IsLooseSection, IsFile}
+use Rattle.dac_shapes.specs.Grammar.{Parted, between, IsListOf, IsPair, IsNode, IsItem, IsMs, IsPermission, strict, IsTimeout, IsAppValue, IsApp, IsWait, IsParam, IsSection, IsFile}
 use Rattle.dac_config.specs.Table.{NodeRow, AppRow, Table}
 use Rattle.dac_config.specs.Canonical.{begins_small, is_bare, name_text, separated_after, parted, list_text, pair_text, node_name_text, group_text, app_text, forbidden_text, wait_texts, param_texts, canonical_text}
 use Rattle.dac_config.proofs.Names.{each_parts}
@@ -311,30 +310,30 @@ is_decimal n lt = decimal_by_steps IsDecimal one more n (omega (arith, lt))
     more : (n : ℕ) (ds : List ℕ) → 10 ≤ n → IsDecimal (n / 10) ds → IsDecimal n (ds ++ ((48 + n % 10) ∷ []))
     more n ds le is = record { are = digits_more ds (48 + n % 10) is.are (omega arith, omega arith); value = omega (arith, is.value, value_more 0 ds (48 + n % 10)) }
 
-number_writes : (k n : ℕ) → n < 4294967296 → Writes k (λ words. (word : Word) × (words ≡ word ∷ []) × IsLooseMs Every word n) (decimal n)
+number_writes : (k n : ℕ) → n < 4294967296 → Writes k (λ words. (word : Word) × (words ≡ word ∷ []) × IsMs word n) (decimal n)
 number_writes k n lt = record {
   words = Number false (decimal n) ∷ [];
-  is = (Number false (decimal n), refl, inl (false, decimal n, refl, (is_decimal n lt).value, lt, λ e. absurd cc));
+  is = (Number false (decimal n), refl, (false, decimal n, refl, (is_decimal n lt).value, lt, λ e. absurd cc));
   stands = λ depth rest le apart h. (((is_decimal n lt).are, apart), omega (arith, le), h);
   spells = append-nil (decimal n);
 }
 
 -- ---- the parts of a configuration
 
-group_writes : (nodes : List NodeRow) (numbers : List ℕ) → CanSpellGroup (map (name_at nodes) numbers) → Writes 1 (λ words. IsLooseItem Every words (map (name_at nodes) numbers)) (group_text nodes numbers)
+group_writes : (nodes : List NodeRow) (numbers : List ℕ) → CanSpellGroup (map (name_at nodes) numbers) → Writes 1 (λ words. IsItem words (map (name_at nodes) numbers)) (group_text nodes numbers)
 group_writes nodes [] can = absurd (omega (arith, can.some))
-group_writes nodes (n ∷ []) can = let w = name_writes 1 (name_at nodes n) can.names.0 in shaped w (λ words. IsLooseItem Every words (name_at nodes n ∷ [])) (inl (inl (name_at nodes n, w.is, refl)))
+group_writes nodes (n ∷ []) can = let w = name_writes 1 (name_at nodes n) can.names.0 in shaped w (λ words. IsItem words (name_at nodes n ∷ [])) (inl (name_at nodes n, w.is, refl))
 group_writes nodes (n ∷ m ∷ numbers) can =
     let w = tuple_writes (parted_writes 0 IsNode (name_at nodes) (node_name_text nodes) (All IsQuotable) (λ k quotable. name_writes 0 (name_at nodes k) quotable) (n ∷ m ∷ numbers) can.names (omega arith)) in
-    shaped w (λ words. IsLooseItem Every words (map (name_at nodes) (n ∷ m ∷ numbers))) (inl (inr w.is))
+    shaped w (λ words. IsItem words (map (name_at nodes) (n ∷ m ∷ numbers))) (inr w.is)
 
-app_writes : (nodes : List NodeRow) (row : AppRow) → CanSpellApp (written_app nodes row) → Writes 3 (λ words. IsLooseApp Every words (written_app nodes row)) (app_text nodes row)
+app_writes : (nodes : List NodeRow) (row : AppRow) → CanSpellApp (written_app nodes row) → Writes 3 (λ words. IsApp strict words (written_app nodes row)) (app_text nodes row)
 app_writes nodes row can =
     let some : 0 < length row.groups = omega (arith, can.some, length-map row.groups (map (name_at nodes))) in
-    let list = list_writes (parted_writes 1 (IsLooseItem Every) (map (name_at nodes)) (group_text nodes) CanSpellGroup (group_writes nodes) row.groups can.groups some) in
+    let list = list_writes (parted_writes 1 IsItem (map (name_at nodes)) (group_text nodes) CanSpellGroup (group_writes nodes) row.groups can.groups some) in
     let value = comma_writes (number_writes 2 row.timeout can.timeout) list in
     let word = value.is.3.0 in
-    pair_writes (shaped value (λ words. IsLooseAppValue Every words (written_app nodes row)) (word ∷ Punctuation Comma ∷ [], value.is.1, value.is.2 ∙ ap (λ (first : List Word). first ++ Punctuation Comma ∷ value.is.1) value.is.3.1, inr (word, refl, value.is.3.2), inl value.is.4)) row.name can.name
+    pair_writes (shaped value (λ words. IsAppValue strict words (written_app nodes row)) (word ∷ Punctuation Comma ∷ [], value.is.1, value.is.2 ∙ ap (λ (first : List Word). first ++ Punctuation Comma ∷ value.is.1) value.is.3.1, inr (word, refl, value.is.3.2), value.is.4)) row.name can.name
 
 ban_writes : (row : AppRow) → All IsQuotable row.name → Writes 3 (λ words. IsPermission words (ban row)) (forbidden_text row.name)
 ban_writes row can = pair_writes (name_writes 2 (codes "false") (bare_quotable (codes "false") refl)) row.name can
@@ -344,15 +343,15 @@ names_write : (name : List ℕ) → All IsQuotable name → (nodes : List NodeRo
 names_write name quotable nodes can = pair_writes (listed_writes 3 IsNode (λ (node : NodeRow). node.name) (λ node. name_text node.name) (All IsQuotable) (λ node quotable. name_writes 3 node.name quotable) nodes can) name quotable
 
 -- a parameter, followed by that of the wait
-wait_writes : (param : Param) (text : List ℕ) (wait : SyncWait) → Writes 5 (λ words. IsLooseParam Every words param) text → Each CanSpell (wait_params wait)
-    → Writes 5 (λ words. Parted (IsLooseParam Every) words (param ∷ wait_params wait)) (text ++ separated_after (codes ",") (wait_texts wait))
+wait_writes : (param : Param) (text : List ℕ) (wait : SyncWait) → Writes 5 (λ words. IsParam strict words param) text → Each CanSpell (wait_params wait)
+    → Writes 5 (λ words. Parted (IsParam strict) words (param ∷ wait_params wait)) (text ++ separated_after (codes ",") (wait_texts wait))
 wait_writes param text NoSync w can = alone w
 wait_writes param text Forever w can = comma_writes w (alone (pair_writes (name_writes 4 (codes "infinity") (bare_quotable (codes "infinity") refl)) (codes "sync_nodes_timeout") (bare_quotable (codes "sync_nodes_timeout") refl)))
 wait_writes param text (Ms n) w can = comma_writes w (alone (pair_writes (number_writes 4 n can.0) (codes "sync_nodes_timeout") (bare_quotable (codes "sync_nodes_timeout") refl)))
 
-params_write : (table : Table) → Each CanSpell (params_of table) → Writes 5 (λ words. Parted (IsLooseParam Every) words (params_of table)) (parted (param_texts table))
+params_write : (table : Table) → Each CanSpell (params_of table) → Writes 5 (λ words. Parted (IsParam strict) words (params_of table)) (parted (param_texts table))
 params_write table can =
-    let apps = pair_writes (listed_writes 3 (IsLooseApp Every) (written_app table.nodes) (app_text table.nodes) CanSpellApp (app_writes table.nodes) table.apps can.0) (codes "distributed") (bare_quotable (codes "distributed") refl) in
+    let apps = pair_writes (listed_writes 3 (IsApp strict) (written_app table.nodes) (app_text table.nodes) CanSpellApp (app_writes table.nodes) table.apps can.0) (codes "distributed") (bare_quotable (codes "distributed") refl) in
     let bans = pair_writes (listed_writes 3 IsPermission ban (λ row. forbidden_text row.name) (λ permission. All IsQuotable permission.name) ban_writes (filter (λ app. not app.permission) table.apps) can.1.0) (codes "permissions") (bare_quotable (codes "permissions") refl) in
     let mandatory = names_write (codes "sync_nodes_mandatory") (bare_quotable (codes "sync_nodes_mandatory") refl) (filter (λ node. node.mandatory) table.nodes) can.1.1.0 in
     let optional = names_write (codes "sync_nodes_optional") (bare_quotable (codes "sync_nodes_optional") refl) (filter (λ node. node.optional) table.nodes) can.1.1.1.0 in
@@ -415,52 +414,42 @@ pair_spells name IsValue words quotes h =
 node_spells : (words : List Word) (name : List ℕ) → Each Quotes words → IsNode words name → All IsQuotable name
 node_spells words name quotes is = let parts : Each Quotes (Name name ∷ []) = subst (Each Quotes) is quotes in parts.0
 
-item_spells : (words : List Word) (group : List (List ℕ)) → Each Quotes words → IsLooseItem Every words group → CanSpellGroup group
-item_spells words group quotes (inl (inl h)) =
+item_spells : (words : List Word) (group : List (List ℕ)) → Each Quotes words → IsItem words group → CanSpellGroup group
+item_spells words group quotes (inl h) =
     let alone : CanSpellGroup (h.0 ∷ []) = record { some = omega arith; names = (node_spells words h.0 quotes h.1, tt) } in
     subst CanSpellGroup (sym h.2) alone
-item_spells words group quotes (inl (inr h)) =
+item_spells words group quotes (inr h) =
     let parts : Each Quotes (between OpenTuple h.0 CloseTuple) = subst (Each Quotes) h.1 quotes in
     record { some = some_of IsNode h.0 group h.2; names = parted_spells IsNode (All IsQuotable) node_spells h.0 group (each_parts Quotes h.0 (Punctuation CloseTuple ∷ []) parts.1).0 h.2 }
-item_spells words group quotes (inr h) = absurd (h.0 tt)
 
-ms_spells : (word : Word) (n : ℕ) → IsLooseMs Every word n → n < 4294967296
-ms_spells word n (inl h) = h.4
-ms_spells word n (inr h) = absurd (h.0 tt)
-
-timeout_spells : (words : List Word) (n : ℕ) → IsLooseTimeout Every words n → n < 4294967296
+timeout_spells : (words : List Word) (n : ℕ) → IsTimeout strict words n → n < 4294967296
 timeout_spells words n (inl h) = omega (arith, h.1)
-timeout_spells words n (inr h) = ms_spells h.0 n h.2
+timeout_spells words n (inr h) = h.2.4
 
--- a node list isn't empty
-filled_list : (words : List Word) (groups : List (List (List ℕ))) → IsLooseNodeList Every words groups → (inner : List Word) × (words ≡ between OpenList inner CloseList) × Parted (IsLooseItem Every) inner groups
-filled_list words groups (inl h) = h
-filled_list words groups (inr h) = absurd (h.0 tt)
-
-app_spells : (words : List Word) (app : App) → Each Quotes words → IsLooseApp Every words app → CanSpellApp app
+app_spells : (words : List Word) (app : App) → Each Quotes words → IsApp strict words app → CanSpellApp app
 app_spells words app quotes h =
     let pair = pair_spells app.name _ words quotes h in
     let value = h.2 in
     let parts : Each Quotes (value.0 ++ value.1) = subst (Each Quotes) value.2 pair.1 in
-    let list = filled_list value.1 app.groups value.4 in
+    let list = value.4 in
     let inner : Each Quotes (between OpenList list.0 CloseList) = subst (Each Quotes) list.1 (each_parts Quotes value.0 value.1 parts).1 in
     record {
       name = pair.0;
       timeout = timeout_spells value.0 app.timeout value.3;
-      some = some_of (IsLooseItem Every) list.0 app.groups list.2;
-      groups = parted_spells (IsLooseItem Every) CanSpellGroup item_spells list.0 app.groups (each_parts Quotes list.0 (Punctuation CloseList ∷ []) inner.1).0 list.2;
+      some = some_of IsItem list.0 app.groups list.2;
+      groups = parted_spells IsItem CanSpellGroup item_spells list.0 app.groups (each_parts Quotes list.0 (Punctuation CloseList ∷ []) inner.1).0 list.2;
     }
 
 permission_spells : (words : List Word) (permission : Permission) → Each Quotes words → IsPermission words permission → All IsQuotable permission.name
 permission_spells words permission quotes h = (pair_spells permission.name _ words quotes h).0
 
-wait_spells : (words : List Word) (wait : SyncWait) → IsLooseWait Every words wait → CanSpellWait wait
+wait_spells : (words : List Word) (wait : SyncWait) → IsWait strict words wait → CanSpellWait wait
 wait_spells words NoSync h = h
 wait_spells words Forever h = tt
-wait_spells words (Ms n) h = ms_spells h.0 n h.2
+wait_spells words (Ms n) h = h.2.4
 
-param_spells : (words : List Word) (param : Param) → Each Quotes words → IsLooseParam Every words param → CanSpell param
-param_spells words (Distributed apps) quotes h = listed_spells (IsLooseApp Every) CanSpellApp app_spells h.0 apps (pair_spells (spelled named.Distributed) _ words quotes h).1 h.2
+param_spells : (words : List Word) (param : Param) → Each Quotes words → IsParam strict words param → CanSpell param
+param_spells words (Distributed apps) quotes h = listed_spells (IsApp strict) CanSpellApp app_spells h.0 apps (pair_spells (spelled named.Distributed) _ words quotes h).1 h.2
 param_spells words (Permissions permissions) quotes h = listed_spells IsPermission (λ permission. All IsQuotable permission.name) permission_spells h.0 permissions (pair_spells (spelled named.Permissions) _ words quotes h).1 h.2
 param_spells words (Mandatory names) quotes h = listed_spells IsNode (All IsQuotable) node_spells h.0 names (pair_spells (spelled named.Mandatory) _ words quotes h).1 h.2
 param_spells words (Optional names) quotes h = listed_spells IsNode (All IsQuotable) node_spells h.0 names (pair_spells (spelled named.Optional) _ words quotes h).1 h.2
@@ -471,8 +460,8 @@ abbrev CanSpellSection : Section → Type 0
 CanSpellSection (Kernel params) = Each CanSpell params
 CanSpellSection Section.Other = Unit {0}
 
-section_spells : (words : List Word) (section : Section) → Each Quotes words → IsLooseSection Every words section → CanSpellSection section
-section_spells words (Kernel params) quotes h = listed_spells (IsLooseParam Every) CanSpell param_spells h.0 params (pair_spells (codes "kernel") _ words quotes h).1 h.2
+section_spells : (words : List Word) (section : Section) → Each Quotes words → IsSection strict words section → CanSpellSection section
+section_spells words (Kernel params) quotes h = listed_spells (IsParam strict) CanSpell param_spells h.0 params (pair_spells (codes "kernel") _ words quotes h).1 h.2
 section_spells words Section.Other quotes h = tt
 
 each_append : {A : Type 0} (P : A → Type 0) (xs ys : List A) → Each P xs → Each P ys → Each P (xs ++ ys)
@@ -487,4 +476,4 @@ params_spell (Section.Other ∷ sections) h = params_spell sections h.1
 pub file_spells : (bytes : List ℕ) (tokens : List Located) (sections : List Section) → AreSpelled 0 bytes tokens → IsFile (map (λ t. t.word) tokens) sections → Each CanSpell (params_in sections)
 file_spells bytes tokens sections spelled h =
     let parts : Each Quotes (h.0 ++ Punctuation FullStop ∷ []) = subst (Each Quotes) h.1 (tokens_quote 0 bytes tokens spelled) in
-    params_spell sections (listed_spells (IsLooseSection Every) CanSpellSection section_spells h.0 sections (each_parts Quotes h.0 (Punctuation FullStop ∷ []) parts).0 h.2)
+    params_spell sections (listed_spells (IsSection strict) CanSpellSection section_spells h.0 sections (each_parts Quotes h.0 (Punctuation FullStop ∷ []) parts).0 h.2)

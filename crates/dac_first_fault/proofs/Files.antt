@@ -15,8 +15,10 @@ use Rattle.dac_tokens.specs.TokenFaults.{StopAt}
 use Rattle.dac_shapes.specs.Written.{Section, Written, written}
 use Rattle.dac_shapes.specs.Limits.{Seen, nothing, steps, with_section, MaySections, Keeps, Every}
 use Rattle.dac_shapes.specs.Within.{AreWithinLimits, nodes_in}
-use Rattle.dac_shapes.specs.Grammar.{IsFile, IsLooseSection, IsListOf, IsLooseFile}
+use Rattle.dac_shapes.specs.Grammar.{IsListOf, strict, IsSection, IsFile}
+use Rattle.dac_shapes.specs.Loose.{loose, IsLooseFile}
 use Rattle.dac_shapes.specs.Shape.{State, fails, is_symbol, list_of, section_at, end_at, file_at, draft_at}
+use Rattle.dac_shapes.specs.laws.Loosely.{loosely}
 use Rattle.dac_shapes.specs.laws.Splits.{at, ended}
 use Rattle.dac_shapes.specs.laws.AgainSections.{sections_again, sections_met}
 use Rattle.dac_first_fault.specs.FirstFault.{IsLocatedAt, Itself, InList, InTuple, words, CanBegin, CanCause, Only, Before, IsOfName, Breaks, NoKind, CanBeginLoosely, Spoils, Brings, IsWell, IsFileWithinLimits, IsNoName, apps_in, BeginsWith, IsFaultOf, Long, NoToken, Token, Ends, Nobody}
@@ -28,7 +30,7 @@ use Rattle.dac_first_fault.proofs.Held.{Quieted, IsQuiet, QuietBehind, Stops, Lo
 use Rattle.dac_first_fault.proofs.HeldSections.{AreSections, sections_held}
 use Rattle.dac_shapes.specs.laws.Again.{Unkept, Nowhere, fine_nowhere, Fine, fine_front, Met}
 use Rattle.dac_first_fault.proofs.Spared.{Strict, sections_so, strictly_so}
-use Rattle.dac_first_fault.proofs.Loosely.{file_loose, loosely}
+use Rattle.dac_first_fault.proofs.Loosely.{file_strict}
 use Rattle.dac_first_fault.proofs.Order.{words_append}
 use Rattle.dac_first_fault.proofs.Fewer.{keeps_fewer}
 use Rattle.dac_first_fault.proofs.Bounds.{beyond, lone_beyond, lone_last, lone_two}
@@ -160,7 +162,7 @@ module _ (ts : List Located) (k : Takes Always Plain (λ _. list_of section_at) 
       let bad = beyond ts in
       let q : Had Quieted bad Every by_pair (AreSections Every) (words ts) (k.x, at (Err halt) (c ∷ []) k.after) =
       subst (λ (r : Result (List Section × State) ConfigFault). Holds Quieted bad Every by_pair (AreSections Every) (words ts) r) (k.goes tt (Err halt) (c ∷ []) tt) (sections_held Quieted bad Every (inl tt) ts (lone_beyond Quieted bad Every ts (omega arith))) in
-      (k.x, (q.own, q.whole ∙ ap (λ (w : Word). q.own ++ w ∷ []) (mark_is FullStop c.word is), q.is.0), q.is.1)
+      (k.x, file_strict Every (λ _ _. tt) (words ts) k.x (q.own, q.whole ∙ ap (λ (w : Word). q.own ++ w ∷ []) (mark_is FullStop c.word is), q.is.0), q.is.1)
 
   stopped_by : (c : Located) (b : List Located) → is_symbol FullStop c.word ≡ true → NoEnd b → Judged (k.a ++ c ∷ b)
   stopped_by c [] is no_end = Unsettled (stop_wants c is)
@@ -199,14 +201,14 @@ module _ (order : (sections : List Section) → (MaySections sections ↔ AreWit
         rest = k.rest;
         parts = k.parts;
         no_name = quiet_names k.rest k.quiet;
-        keeps = record { more = k.begun.more; sections = k.begun.x; file = k.begun.is.0; keeps = (order k.begun.x).0 k.begun.is.1 };
+        keeps = record { more = k.begun.more; sections = k.begun.x; file = file_strict Every (λ _ _. tt) (k.named ++ k.begun.more) k.begun.x k.begun.is.0; keeps = (order k.begun.x).0 k.begun.is.1 };
       }
 
   within_judged : (end : Located) (ts : List Located) (sections : List Section) → end.word ≡ End → IsFile (words ts) sections → AreWithinLimits sections
       → file_at (at (Ok end) ts nothing) ≡ cond (eqb (apps_in sections) 0) (fails NoDistributed end.at) (Ok (written sections (nodes_in sections)))
   within_judged end ts sections w file within =
       let c = ended ts file.0 (Punctuation FullStop) file.1 in
-      let list : IsListOf (IsLooseSection Every) (words c.front) sections = subst (λ (l : List Word). IsListOf (IsLooseSection Every) l sections) (sym c.first) file.2 in
+      let list : IsListOf (IsSection strict) (words c.front) sections = subst (λ (l : List Word). IsListOf (IsSection strict) l sections) (sym c.first) file.2 in
       let seen = steps with_section nothing sections in
       let stop : is_symbol FullStop c.end.word ≡ true = ap (is_symbol FullStop) c.is in
       ap (λ (l : List Located). file_at (at (Ok end) l nothing)) c.whole ∙ file_is (at (Ok end) (c.front ++ c.end ∷ []) nothing)
@@ -237,7 +239,7 @@ module _ (order : (sections : List Section) → (MaySections sections ↔ AreWit
       → Unkept Bad Kept e.kind e.at ⊎ (e ≡ record { kind = NoDistributed; at = end.at })
   file_read end Bad Kept ts sections e w file keep fine h =
       let c = ended ts file.0 (Punctuation FullStop) file.1 in
-      let list : IsListOf (IsLooseSection Kept) (words c.front) sections = subst (λ (l : List Word). IsListOf (IsLooseSection Kept) l sections) (sym c.first) file.2 in
+      let list : IsListOf (IsSection (loose Kept)) (words c.front) sections = subst (λ (l : List Word). IsListOf (IsSection (loose Kept)) l sections) (sym c.first) file.2 in
       let front : Fine Bad c.front = fine_front Bad c.front (c.end ∷ []) (subst (λ (l : List Located). Fine Bad l) c.whole fine) in
       let there : (list_of section_at (at (Ok end) (c.front ++ c.end ∷ []) nothing) >>= behind) ≡ Err e = sym (ap (λ (l : List Located). file_at (at (Ok end) l nothing)) c.whole ∙ file_is (at (Ok end) (c.front ++ c.end ∷ []) nothing)) ∙ h in
       by c.end (ap (is_symbol FullStop) c.is) (list_of section_at (at (Ok end) (c.front ++ c.end ∷ []) nothing)) (sections_met (Ok end) Bad Kept c.front (c.end ∷ []) sections list front keep) there
@@ -297,7 +299,7 @@ module _ (order : (sections : List Section) → (MaySections sections ↔ AreWit
       let n = name_of_it a l e stands of in
       let Bound = Strictly e.kind in
       let k = stopped_kept l.at Bound a l e fault (lone_last Quieted l.at Bound a l clear) (stops_so e.kind e.at l.at n.1 of) (λ quiet. subst (IsQuiet Quieted) n.0.1 quiet) in
-      record { more = k.0; sections = k.1; file = file_loose Bound Every (λ kind strict _. inr strict) ((words a ++ l.word ∷ []) ++ k.0) k.1 k.2; keeps = keeps_fewer (Before e.kind) Bound (λ kind less. inl less) k.1 k.3 }
+      record { more = k.0; sections = k.1; file = file_strict Bound (λ kind kept. inr kept) ((words a ++ l.word ∷ []) ++ k.0) k.1 k.2; keeps = keeps_fewer (Before e.kind) Bound (λ kind less. inl less) k.1 k.3 }
 
   breaks : (a : List Located) (l : Located) (e : ConfigFault) → ((last : Result Located ConfigFault) (rest : List Located) → file_at (at last (a ++ l ∷ rest) nothing) ≡ Err e) → IsLocatedAt a l e → Clear l.at a → Breaks (words a ++ l.word ∷ []) e.kind
   breaks a l e fault stands clear = record { broken = none_keeps a l e fault; first = first_kept a l e fault stands clear }

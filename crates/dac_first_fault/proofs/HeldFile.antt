@@ -9,14 +9,15 @@ use Rattle.dac_tokens.specs.declared.token.Symbol.TheVariants.{OpenList, OpenTup
 use Rattle.dac_tokens.specs.Gives.{◌>>=◌}
 use Rattle.dac_tokens.specs.Words.{Word, Punctuation, Located, is_end}
 use Rattle.dac_shapes.specs.Written.{Section, Written, written}
-use Rattle.dac_shapes.specs.Limits.{Seen, nothing, Keeps, Every}
+use Rattle.dac_shapes.specs.Limits.{Seen, nothing, Keeps}
 use Rattle.dac_shapes.specs.Shape.{State, fails, is_symbol, token, symbol_at, list_of, section_at, end_at, file_at}
 use Rattle.dac_shapes.specs.laws.Splits.{at}
-use Rattle.dac_shapes.specs.Grammar.{IsLooseFile, IsFile}
+use Rattle.dac_shapes.specs.Grammar.{IsFile}
+use Rattle.dac_shapes.specs.Loose.{IsLooseFile}
 use Rattle.dac_first_fault.proofs.Steps.{mark_is}
 use Rattle.dac_first_fault.proofs.Begun.{halt, Begun, words_in, by_pair}
 use Rattle.dac_first_fault.proofs.Spared.{Strict, Free, no_limit}
-use Rattle.dac_first_fault.proofs.Loosely.{file_loose}
+use Rattle.dac_first_fault.proofs.Loosely.{file_strict}
 use Rattle.dac_first_fault.proofs.Held.{words, IsQuiet, Kept, Stops, Lone, Holds}
 use Rattle.dac_first_fault.proofs.HeldSections.{AreSections, sections_held}
 
@@ -123,4 +124,4 @@ file_begun bad ts lone e =
     let k = file_kept ⊥ bad Strict (inr no_limit) ts lone halt tt e in
     let b = k.begun in
     let whole : words ts ≡ k.named = k.parts ∙ ap (λ (l : List Word). k.named ++ l) (none_quiet k.rest k.quiet) ∙ append-nil k.named in
-    subst (λ (l : List Word). Begun IsFile l) (sym whole) (record { more = b.more; x = b.x; is = file_loose Strict Every (λ kind strict _. strict) (k.named ++ b.more) b.x b.is.0 })
+    subst (λ (l : List Word). Begun IsFile l) (sym whole) (record { more = b.more; x = b.x; is = file_strict Strict (λ kind kept. kept) (k.named ++ b.more) b.x b.is.0 })

@@ -16,7 +16,8 @@ use Rattle.dac_shapes.specs.Written.{App, Permission}
 use Rattle.dac_shapes.specs.Limits.{Seen, nothing, is_among, with_name, with_node, with_nodes, with_groups, listing, with_app, with_permission, AllMay, steps, NodeKeeps, NodesKeep, GroupsKeep, AppKeeps, PermissionKeeps}
 use Rattle.dac_tokens.specs.Digits.{value_from}
 use Rattle.dac_shapes.specs.Shape.{State, fails, is_symbol, token, symbol_at, atom_of, short_name_of, milliseconds_of, flag_of, app_name_of, node_of, names_at, item_at, items_at, groups_at, timeout_at, app_value_at, app_at, permission_value_at, permission_at, closed, room}
-use Rattle.dac_shapes.specs.Grammar.{Parted, IsNode, IsMs, IsFlag, IsPermission, IsLooseItem, IsLooseNodeList, IsLooseMs, IsLooseTimeout, IsLooseAppValue, IsLooseApp}
+use Rattle.dac_shapes.specs.Grammar.{Parted, IsNode, IsMs, IsFlag, IsPermission, IsTimeout, IsAppValue, IsApp}
+use Rattle.dac_shapes.specs.Loose.{IsLooseItem, IsLooseNodeList, IsLooseMs, loose}
 use Rattle.dac_shapes.specs.laws.Splits.{at}
 use Rattle.dac_shapes.specs.laws.Names.{is_named}
 use Rattle.dac_first_fault.proofs.Steps.{mark_is}
@@ -258,7 +259,7 @@ module _ (Marks : Type 0) (bad : ℕ) (Bound : FaultKind → Type 0) (mode : Mar
   by_first = record { rest = λ x. x.1.word ∷ words_in x.2; state = λ x. at x.2.left.last (x.1 ∷ x.2.left.tokens) x.2.seen }
 
   abbrev Time : Seen → List Word → ℕ × Located × State → Type 0
-  Time seen own x = IsLooseTimeout Bound own x.0 × (x.2.seen ≡ seen)
+  Time seen own x = IsTimeout (loose Bound) own x.0 × (x.2.seen ≡ seen)
 
   abbrev of : Word → ℕ → Located
   of w offset = record { word = w; at = offset }
@@ -285,7 +286,7 @@ module _ (Marks : Type 0) (bad : ℕ) (Bound : FaultKind → Type 0) (mode : Mar
 
   module _ (before : List App) (seen : Seen) (good : Good seen) where
     abbrev IsNamed : List ℕ → List Word → App → Seen → Type 0
-    IsNamed name own app after = (app.name ≡ name) × IsLooseAppValue Bound own app × AppKeeps Bound before seen app × (after ≡ with_app seen app)
+    IsNamed name own app after = (app.name ≡ name) × IsAppValue (loose Bound) own app × AppKeeps Bound before seen app × (after ≡ with_app seen app)
 
     module _ (w : Word) (name : List ℕ) (fine : IsFine before w name) where
       abbrev app_with : ℕ → List (List (List ℕ)) → App
@@ -301,7 +302,7 @@ module _ (Marks : Type 0) (bad : ℕ) (Bound : FaultKind → Type 0) (mode : Mar
       abbrev only_words : List Word
       only_words = Punctuation OpenList ∷ Name good.0 ∷ Punctuation CloseList ∷ []
 
-      only_named : (own : List Word) (n : ℕ) → IsLooseTimeout Bound own n → IsNamed name (own ++ only_words) (only n) (with_app seen (only n))
+      only_named : (own : List Word) (n : ℕ) → IsTimeout (loose Bound) own n → IsNamed name (own ++ only_words) (only n) (with_app seen (only n))
       only_named own n is = (refl, (own, only_words, refl, is, inl (Name good.0 ∷ [], refl, inl (inl (good.0, refl, refl)))), may_app n ((good.0 ∷ []) ∷ []) ((good.1, tt), tt), refl)
 
       abbrev listed : ℕ × Located × State → Result (App × State) ConfigFault
@@ -319,7 +320,7 @@ module _ (Marks : Type 0) (bad : ℕ) (Bound : FaultKind → Type 0) (mode : Mar
           (λ own x k. record { more = only_words; x = (only x.0, at (Err halt) [] (with_app seen (only x.0))); is = only_named own x.0 k.0 }) (t.word ∷ words ts) (timeout_at t (at last ts seen)) (timeout_held t.word t.at (at last ts seen) (e.0, (alone, e.1))) (λ own x k short. list_behind own x k short))
 
       abbrev Behind : List Word → App × State → Type 0
-      Behind vs x = Taken (IsLooseApp Bound) (AppKeeps Bound before) with_app seen (Punctuation OpenTuple ∷ w ∷ Punctuation Comma ∷ vs) x
+      Behind vs x = Taken (IsApp (loose Bound)) (AppKeeps Bound before) with_app seen (Punctuation OpenTuple ∷ w ∷ Punctuation Comma ∷ vs) x
 
       is_app : (vs : List Word) (x : App × State) → IsHeldClosed (IsNamed name) vs x → Behind vs x
       is_app vs x c = ((c.0, pair_is w x.0.name vs c.0 (fine.is ∙ ap Name (sym c.2.0)) c.1, c.2.1), c.2.2, c.2.3)
@@ -333,14 +334,14 @@ module _ (Marks : Type 0) (bad : ℕ) (Bound : FaultKind → Type 0) (mode : Mar
   pub free_good : Free Bound → (seen : Seen) → Good seen
   free_good free seen = ([], node_so Bound free false (listing seen) [])
 
-  free_app : Free Bound → (before : List App) (seen : Seen) → Begun (λ vs x. Taken (IsLooseApp Bound) (AppKeeps Bound before) with_app seen (Punctuation OpenTuple ∷ Name [] ∷ Punctuation Comma ∷ vs) x) []
+  free_app : Free Bound → (before : List App) (seen : Seen) → Begun (λ vs x. Taken (IsApp (loose Bound)) (AppKeeps Bound before) with_app seen (Punctuation OpenTuple ∷ Name [] ∷ Punctuation Comma ∷ vs) x) []
   free_app free before seen = filled_app before seen (free_good free seen) (Name []) [] (record { is = refl; short = λ b. absurd (free NameTooLong tt b); once = λ b. absurd (free TwiceApp tt b); few = λ b. absurd (free TooManyApps tt b) })
 
-  pub some_app : Marks ⊎ ((before : List App) (seen : Seen) → Begun (Taken (IsLooseApp Bound) (AppKeeps Bound before) with_app seen) [])
-  some_app = or_begun mode (λ free before seen. pair_some (Taken (IsLooseApp Bound) (AppKeeps Bound before) with_app seen) (Name []) (free_app free before seen))
+  pub some_app : Marks ⊎ ((before : List App) (seen : Seen) → Begun (Taken (IsApp (loose Bound)) (AppKeeps Bound before) with_app seen) [])
+  some_app = or_begun mode (λ free before seen. pair_some (Taken (IsApp (loose Bound)) (AppKeeps Bound before) with_app seen) (Name []) (free_app free before seen))
 
-  pub app_held : (before : List App) (t : Located) (s : State) → Alone Marks bad Bound t s.left.tokens → IsOver Marks bad Bound s → Good s.seen → Holds Marks bad Bound by_pair (Taken (IsLooseApp Bound) (AppKeeps Bound before) with_app s.seen) (t.word ∷ words_in s) (app_at before t s)
-  app_held before t s alone short good = pair_held Marks bad Bound (Taken (IsLooseApp Bound) (AppKeeps Bound before) with_app s.seen) (IsFine before) (app_name_of before) (λ name. closed (app_value_at name)) s.seen (fine_shows before) (or_begun mode (λ free. pair_begins (Taken (IsLooseApp Bound) (AppKeeps Bound before) with_app s.seen) (Name []) (free_app free before s.seen)))
+  pub app_held : (before : List App) (t : Located) (s : State) → Alone Marks bad Bound t s.left.tokens → IsOver Marks bad Bound s → Good s.seen → Holds Marks bad Bound by_pair (Taken (IsApp (loose Bound)) (AppKeeps Bound before) with_app s.seen) (t.word ∷ words_in s) (app_at before t s)
+  app_held before t s alone short good = pair_held Marks bad Bound (Taken (IsApp (loose Bound)) (AppKeeps Bound before) with_app s.seen) (IsFine before) (app_name_of before) (λ name. closed (app_value_at name)) s.seen (fine_shows before) (or_begun mode (λ free. pair_begins (Taken (IsApp (loose Bound)) (AppKeeps Bound before) with_app s.seen) (Name []) (free_app free before s.seen)))
       (λ w name fine. filled_app before s.seen good w name fine) (λ w name fine ts last e. app_rest_held before s.seen good w name fine ts last e) t s.left.tokens s.left.last short
 
   -- ---- permissions

@@ -16,7 +16,8 @@ use Rattle.dac_shapes.specs.Written.{Param, Distributed, Permissions, Mandatory,
 use Rattle.dac_shapes.specs.Limits.{Seen, nothing, has_param, has_kernel, with_node, with_app, with_permission, with_param, with_section, steps, AllMay, NodeKeeps, AppKeeps, PermissionKeeps, ValueKeeps, ParamKeeps, SectionKeeps, Keeps}
 use Rattle.dac_tokens.specs.Digits.{value_from}
 use Rattle.dac_shapes.specs.Shape.{State, fails, is_symbol, is_text, token, room, atom_of, list_of, app_at, permission_at, node_of, wait_of, milliseconds_of, passed_at, terms_at, terms_in, texts_at, term_by, term_at, param_named, first_param, param_name_of, param_value_at, param_rest_at, param_at, names_kernel, kernel_at, section_rest_at, section_at, pair_at, closed}
-use Rattle.dac_shapes.specs.Grammar.{IsListOf, IsNode, IsPermission, IsMs, IsLooseApp, IsLooseWait, IsLooseParam, IsLooseSection}
+use Rattle.dac_shapes.specs.Grammar.{IsListOf, IsNode, IsMs, IsPermission, IsApp, IsWait, IsParam, IsSection}
+use Rattle.dac_shapes.specs.Loose.{loose}
 use Rattle.dac_shapes.specs.laws.Splits.{at}
 use Rattle.dac_shapes.specs.laws.Names.{is_named, param_is, same_seen}
 use Rattle.dac_first_fault.proofs.Begun.{halt, Halts, Begun, words_in, by_pair, by_state, Sees, pair_of, pair_is, pair_begins, pair_some}
@@ -45,7 +46,7 @@ no_kernel name other same = let wrong : true ≡ false = ap (λ (n : List ℕ). 
 
 -- a list of sections that are allowed
 abbrev pub AreSections : (FaultKind → Type 0) → List Word → List Section × State → Type 0
-AreSections Bound own xs = IsListOf (IsLooseSection Bound) own xs.0 × Keeps Bound xs.0 × (xs.1.seen ≡ steps with_section nothing xs.0)
+AreSections Bound own xs = IsListOf (IsSection (loose Bound)) own xs.0 × Keeps Bound xs.0 × (xs.1.seen ≡ steps with_section nothing xs.0)
 
 module _ (Marks : Type 0) (bad : ℕ) (Bound : FaultKind → Type 0) (mode : Marks ⊎ Free Bound) where
   -- ---- a skipped term changes no names, and the remaining tokens satisfy `IsOver`
@@ -156,13 +157,13 @@ module _ (Marks : Type 0) (bad : ℕ) (Bound : FaultKind → Type 0) (mode : Mar
   Once twice = Bound BadShape → twice ≡ false
 
   module _ (Q : Type 0) (w : Word) (offset : ℕ) (spoils : (digits : List ℕ) → w ≡ Number false digits → 4294967296 ≤ value_from 0 digits → Stops bad Bound NumberTooLarge offset → Q) where
-    wait_by : (v : Word) → w ≡ v → Shows Marks bad Bound Q (λ wait. IsLooseWait Bound (v ∷ []) wait) (wait_of (record { word = v; at = offset }))
+    wait_by : (v : Word) → w ≡ v → Shows Marks bad Bound Q (λ wait. IsWait (loose Bound) (v ∷ []) wait) (wait_of (record { word = v; at = offset }))
     unfolding wait_of
     wait_by (Number negative digits) e =
-        shows_then Marks bad Bound Q (IsMs (Number negative digits)) (λ wait. IsLooseWait Bound (Number negative digits ∷ []) wait) (milliseconds_of offset negative (value_from 0 digits)) (λ n. Ok (Ms n))
+        shows_then Marks bad Bound Q (IsMs (Number negative digits)) (λ wait. IsWait (loose Bound) (Number negative digits ∷ []) wait) (milliseconds_of offset negative (value_from 0 digits)) (λ n. Ok (Ms n))
         (ms_shows Marks bad Bound mode Q offset negative digits (λ plus large h. spoils digits (e ∙ ap (λ (b : Bool). Number b digits) plus) large h)) (λ n is. (Number negative digits, refl, inl is))
     wait_by (Name name) e =
-        shows_if Marks bad Bound Q (λ wait. IsLooseWait Bound (Name name ∷ []) wait) (bytes_eq name (codes "infinity")) (Ok Forever) (fails BadShape offset) (λ is. ap (λ (n : List ℕ). Name n ∷ []) (is_named name (codes "infinity") is)) (λ other h. absurd h)
+        shows_if Marks bad Bound Q (λ wait. IsWait (loose Bound) (Name name ∷ []) wait) (bytes_eq name (codes "infinity")) (Ok Forever) (fails BadShape offset) (λ is. ap (λ (n : List ℕ). Name n ∷ []) (is_named name (codes "infinity") is)) (λ other h. absurd h)
     wait_by (Punctuation symbol) e = λ h. absurd h
     wait_by Text e = λ h. absurd h
     wait_by End e = λ h. absurd h
@@ -175,12 +176,12 @@ module _ (Marks : Type 0) (bad : ℕ) (Bound : FaultKind → Type 0) (mode : Mar
   module _ (before : List Param) (seen : Seen) (good : (Good Marks bad Bound mode) seen) where
     -- the value of the parameter of this name, which is allowed
     abbrev IsValue : ParamName → List Word → Param → Seen → Type 0
-    IsValue name own p after = IsLooseParam Bound (pair_of (spelled name) own) p × ParamKeeps Bound before seen p × (after ≡ with_param seen p)
+    IsValue name own p after = IsParam (loose Bound) (pair_of (spelled name) own) p × ParamKeeps Bound before seen p × (after ≡ with_param seen p)
 
     abbrev IsOne : List Word → Param × State → Type 0
-    IsOne own x = Taken (IsLooseParam Bound) (ParamKeeps Bound before) with_param seen own x
+    IsOne own x = Taken (IsParam (loose Bound)) (ParamKeeps Bound before) with_param seen own x
 
-    names_value : (name : ParamName) (to : List (List ℕ) → Param) → ((ns : List (List ℕ)) → name_of (to ns) ≡ Some name) → ((own : List Word) (ns : List (List ℕ)) → IsListOf IsNode own ns → IsLooseParam Bound (pair_of (spelled name) own) (to ns))
+    names_value : (name : ParamName) (to : List (List ℕ) → Param) → ((ns : List (List ℕ)) → name_of (to ns) ≡ Some name) → ((own : List Word) (ns : List (List ℕ)) → IsListOf IsNode own ns → IsParam (loose Bound) (pair_of (spelled name) own) (to ns))
         → ((ns : List (List ℕ)) → AllMay with_node (λ _. NodeKeeps Bound true) [] seen ns → ValueKeeps Bound seen (to ns)) → ((ns : List (List ℕ)) → steps with_node seen ns ≡ with_param seen (to ns)) → Once (has_param name before)
         → (ts : List Located) (last : Result Located ConfigFault) → Over Marks bad Bound ts last → Holds Marks bad Bound by_pair (λ own x. IsValue name own x.0 x.1.seen) (words ts) (list_of (λ _. node_of true) (at last ts seen) >>= λ names. Ok (to names.0, names.1))
     names_value name to so is may after once ts last e =
@@ -191,8 +192,8 @@ module _ (Marks : Type 0) (bad : ℕ) (Bound : FaultKind → Type 0) (mode : Mar
     value_held : (name : ParamName) → Once (has_param name before) → (ts : List Located) (last : Result Located ConfigFault) → Over Marks bad Bound ts last → Holds Marks bad Bound by_pair (λ own x. IsValue name own x.0 x.1.seen) (words ts) (param_value_at name (at last ts seen))
     unfolding param_value_at
     value_held named.Distributed once ts last e =
-        made_held Marks bad Bound mode (IsHeldList Marks bad Bound (IsLooseApp Bound) with_app (AppKeeps Bound) app_at (Good Marks bad Bound mode) (good_app Marks bad Bound mode) (app_held Marks bad Bound mode) (some_app Marks bad Bound mode) seen) (λ own x. IsValue named.Distributed own x.0 x.1.seen) Distributed (λ own xs u k. ((own, refl, k.0), record { once = once_as before named.Distributed once; value = k.1 }, k.2))
-        (words ts) (list_of app_at (at last ts seen)) (bracketed_held Marks bad Bound (IsLooseApp Bound) with_app (AppKeeps Bound) app_at (Good Marks bad Bound mode) (good_app Marks bad Bound mode) (app_held Marks bad Bound mode) (some_app Marks bad Bound mode) (at last ts seen) e good)
+        made_held Marks bad Bound mode (IsHeldList Marks bad Bound (IsApp (loose Bound)) with_app (AppKeeps Bound) app_at (Good Marks bad Bound mode) (good_app Marks bad Bound mode) (app_held Marks bad Bound mode) (some_app Marks bad Bound mode) seen) (λ own x. IsValue named.Distributed own x.0 x.1.seen) Distributed (λ own xs u k. ((own, refl, k.0), record { once = once_as before named.Distributed once; value = k.1 }, k.2))
+        (words ts) (list_of app_at (at last ts seen)) (bracketed_held Marks bad Bound (IsApp (loose Bound)) with_app (AppKeeps Bound) app_at (Good Marks bad Bound mode) (good_app Marks bad Bound mode) (app_held Marks bad Bound mode) (some_app Marks bad Bound mode) (at last ts seen) e good)
     value_held named.Permissions once ts last e =
         made_held Marks bad Bound mode (IsHeldList Marks bad Bound IsPermission with_permission (PermissionKeeps Bound) (λ _. permission_at) (Any Marks bad Bound mode) (λ _ _ _ _ _. tt) (λ before t s alone short _. permission_held Marks bad Bound mode before t s alone short) (some_permission Marks bad Bound mode) seen) (λ own x. IsValue named.Permissions own x.0 x.1.seen) Permissions
         (λ own xs u k. ((own, refl, k.0), record { once = once_as before named.Permissions once; value = k.1 }, k.2 ∙ same_seen seen xs)) (words ts) (list_of (λ _. permission_at) (at last ts seen))
@@ -201,7 +202,7 @@ module _ (Marks : Type 0) (bad : ℕ) (Bound : FaultKind → Type 0) (mode : Mar
     value_held named.Optional once ts last e = names_value named.Optional Optional (λ _. refl) (λ own ns k. (own, refl, k)) (λ ns k. k) (λ ns. refl) once ts last e
     value_held named.Timeout once ts last e =
         token_held Marks bad Bound by_pair (λ own x. IsValue named.Timeout own x.0 x.1.seen) (at last ts seen) (λ t. wait_of t.0 >>= λ wait. Ok (Timeout wait, t.1)) e
-        (λ t ts last alone e. held_look Marks bad Bound (λ wait. IsLooseWait Bound (t.word ∷ []) wait) by_pair (λ own x. IsValue named.Timeout own x.0 x.1.seen) (t.word ∷ words ts) (wait_of t) (λ wait. Ok (Timeout wait, at last ts seen))
+        (λ t ts last alone e. held_look Marks bad Bound (λ wait. IsWait (loose Bound) (t.word ∷ []) wait) by_pair (λ own x. IsValue named.Timeout own x.0 x.1.seen) (t.word ∷ words ts) (wait_of t) (λ wait. Ok (Timeout wait, at last ts seen))
         (wait_by (Held Marks (λ own x. IsValue named.Timeout own x.0 x.1.seen) (t.word ∷ words ts)) t.word t.at
         (λ digits is large h. spoilt Marks bad Bound (λ own (x : Param × State). IsValue named.Timeout own x.0 x.1.seen) t ts (subst (λ (w : Word). QuietBehind Marks w ts) is (alone h.0))
         (record { more = []; x = (Timeout (Ms (value_from 0 digits)), at (Err halt) [] seen); is = ((t.word ∷ [], refl, (t.word, refl, inr (h.1, digits, is, refl, large))), record { once = once_as before named.Timeout once; value = tt }, refl) })) t.word refl)
@@ -231,7 +232,7 @@ module _ (Marks : Type 0) (bad : ℕ) (Bound : FaultKind → Type 0) (mode : Mar
     In w vs x = IsOne (Punctuation OpenTuple ∷ w ∷ Punctuation Comma ∷ vs) x
 
     known_in : (w : Word) (known : ParamName) → w ≡ Name (spelled known) → (vs : List Word) (x : Param × State) → IsHeldClosed (IsValue known) vs x → In w vs x
-    known_in w known e vs x c = (subst (λ (l : List Word). IsLooseParam Bound l x.0) (sym (pair_is w (spelled known) vs c.0 e c.1)) c.2.0, c.2.1, c.2.2)
+    known_in w known e vs x c = (subst (λ (l : List Word). IsParam (loose Bound) l x.0) (sym (pair_is w (spelled known) vs c.0 e c.1)) c.2.0, c.2.1, c.2.2)
 
     nothing_known : (known : ParamName) → ◌≡◌ {A = Option ParamName} None (Some known) → ⊥
     nothing_known known h = absurd cc
@@ -252,15 +253,15 @@ module _ (Marks : Type 0) (bad : ℕ) (Bound : FaultKind → Type 0) (mode : Mar
         (closed_held Marks bad Bound (IsValue known) (param_value_at known) (at last ts seen) (value_held known says.3 ts last e))
     param_rest_held w None says ts last e = passed_held (In w) seen Param.Other (λ vs u c k. other_in w says.0 says.1 says.2 vs u c k) ts last e
 
-  free_param : Free Bound → (before : List Param) (seen : Seen) → Begun (λ vs x. Taken (IsLooseParam Bound) (ParamKeeps Bound before) with_param seen (Punctuation OpenTuple ∷ Name (spelled named.Timeout) ∷ Punctuation Comma ∷ vs) x) []
+  free_param : Free Bound → (before : List Param) (seen : Seen) → Begun (λ vs x. Taken (IsParam (loose Bound)) (ParamKeeps Bound before) with_param seen (Punctuation OpenTuple ∷ Name (spelled named.Timeout) ∷ Punctuation Comma ∷ vs) x) []
   free_param free before seen = filled_param before seen (free_good Marks bad Bound mode free seen) (Name (spelled named.Timeout)) (Some named.Timeout) (spelled named.Timeout, refl, refl, λ b. absurd (free BadShape tt b))
 
-  some_param : Marks ⊎ ((before : List Param) (seen : Seen) → Begun (Taken (IsLooseParam Bound) (ParamKeeps Bound before) with_param seen) [])
-  some_param = or_begun mode (λ free before seen. pair_some (Taken (IsLooseParam Bound) (ParamKeeps Bound before) with_param seen) (Name (spelled named.Timeout)) (free_param free before seen))
+  some_param : Marks ⊎ ((before : List Param) (seen : Seen) → Begun (Taken (IsParam (loose Bound)) (ParamKeeps Bound before) with_param seen) [])
+  some_param = or_begun mode (λ free before seen. pair_some (Taken (IsParam (loose Bound)) (ParamKeeps Bound before) with_param seen) (Name (spelled named.Timeout)) (free_param free before seen))
 
-  param_held : (before : List Param) (t : Located) (s : State) → Alone Marks bad Bound t s.left.tokens → IsOver Marks bad Bound s → (Good Marks bad Bound mode) s.seen → Holds Marks bad Bound by_pair (Taken (IsLooseParam Bound) (ParamKeeps Bound before) with_param s.seen) (t.word ∷ words_in s) (param_at before t s)
+  param_held : (before : List Param) (t : Located) (s : State) → Alone Marks bad Bound t s.left.tokens → IsOver Marks bad Bound s → (Good Marks bad Bound mode) s.seen → Holds Marks bad Bound by_pair (Taken (IsParam (loose Bound)) (ParamKeeps Bound before) with_param s.seen) (t.word ∷ words_in s) (param_at before t s)
   param_held before t s alone short good =
-      pair_held Marks bad Bound (Taken (IsLooseParam Bound) (ParamKeeps Bound before) with_param s.seen) (Says before) (param_name_of before) param_rest_at s.seen (λ u. param_shows (Unfit Marks bad Bound (Option ParamName) (Says before) u) before u) (or_begun mode (λ free. pair_begins (Taken (IsLooseParam Bound) (ParamKeeps Bound before) with_param s.seen) (Name (spelled named.Timeout)) (free_param free before s.seen))) (filled_param before s.seen good) (param_rest_held before s.seen good) t s.left.tokens s.left.last short
+      pair_held Marks bad Bound (Taken (IsParam (loose Bound)) (ParamKeeps Bound before) with_param s.seen) (Says before) (param_name_of before) param_rest_at s.seen (λ u. param_shows (Unfit Marks bad Bound (Option ParamName) (Says before) u) before u) (or_begun mode (λ free. pair_begins (Taken (IsParam (loose Bound)) (ParamKeeps Bound before) with_param s.seen) (Name (spelled named.Timeout)) (free_param free before s.seen))) (filled_param before s.seen good) (param_rest_held before s.seen good) t s.left.tokens s.left.last short
 
   good_apps : (seen : Seen) (p : Param) → (Good Marks bad Bound mode) seen → ValueKeeps Bound seen p → (Good Marks bad Bound mode) (with_param seen p)
   good_apps seen (Distributed apps) good may = good_steps Marks bad Bound mode with_app (AppKeeps Bound) (good_app Marks bad Bound mode) [] seen apps good may
@@ -291,19 +292,19 @@ module _ (Marks : Type 0) (bad : ℕ) (Bound : FaultKind → Type 0) (mode : Mar
 
   module _ (before : List Section) (seen : Seen) (good : (Good Marks bad Bound mode) seen) where
     abbrev IsKernel : List Word → Section → Seen → Type 0
-    IsKernel own x after = IsLooseSection Bound (pair_of (codes "kernel") own) x × SectionKeeps Bound before seen x × (after ≡ with_section seen x)
+    IsKernel own x after = IsSection (loose Bound) (pair_of (codes "kernel") own) x × SectionKeeps Bound before seen x × (after ≡ with_section seen x)
 
     abbrev Within : Word → List Word → Section × State → Type 0
-    Within w vs x = Taken (IsLooseSection Bound) (SectionKeeps Bound before) with_section seen (Punctuation OpenTuple ∷ w ∷ Punctuation Comma ∷ vs) x
+    Within w vs x = Taken (IsSection (loose Bound)) (SectionKeeps Bound before) with_section seen (Punctuation OpenTuple ∷ w ∷ Punctuation Comma ∷ vs) x
 
     kernel_held : Once (has_kernel before) → (ts : List Located) (last : Result Located ConfigFault) → Over Marks bad Bound ts last → Holds Marks bad Bound by_pair (λ own x. IsKernel own x.0 x.1.seen) (words ts) (kernel_at (at last ts seen))
     unfolding kernel_at
     kernel_held once ts last e =
-        made_held Marks bad Bound mode (IsHeldList Marks bad Bound (IsLooseParam Bound) with_param (ParamKeeps Bound) param_at (Good Marks bad Bound mode) good_param param_held some_param seen) (λ own x. IsKernel own x.0 x.1.seen) Kernel (λ own xs u k. ((own, refl, k.0), record { once = once; params = k.1 }, k.2))
-        (words ts) (list_of param_at (at last ts seen)) (bracketed_held Marks bad Bound (IsLooseParam Bound) with_param (ParamKeeps Bound) param_at (Good Marks bad Bound mode) good_param param_held some_param (at last ts seen) e good)
+        made_held Marks bad Bound mode (IsHeldList Marks bad Bound (IsParam (loose Bound)) with_param (ParamKeeps Bound) param_at (Good Marks bad Bound mode) good_param param_held some_param seen) (λ own x. IsKernel own x.0 x.1.seen) Kernel (λ own xs u k. ((own, refl, k.0), record { once = once; params = k.1 }, k.2))
+        (words ts) (list_of param_at (at last ts seen)) (bracketed_held Marks bad Bound (IsParam (loose Bound)) with_param (ParamKeeps Bound) param_at (Good Marks bad Bound mode) good_param param_held some_param (at last ts seen) e good)
 
     kernel_in : (w : Word) → w ≡ Name (codes "kernel") → (vs : List Word) (x : Section × State) → IsHeldClosed IsKernel vs x → Within w vs x
-    kernel_in w e vs x c = (subst (λ (l : List Word). IsLooseSection Bound l x.0) (sym (pair_is w (codes "kernel") vs c.0 e c.1)) c.2.0, c.2.1, c.2.2)
+    kernel_in w e vs x c = (subst (λ (l : List Word). IsSection (loose Bound) l x.0) (sym (pair_is w (codes "kernel") vs c.0 e c.1)) c.2.0, c.2.1, c.2.2)
 
     section_in : (w : Word) (name : List ℕ) → w ≡ Name name → name ≢ codes "kernel" → (vs : List Word) (u : State) → IsPassed vs → u.seen ≡ seen → Within w vs (Section.Other, u)
     section_in w name e other vs u c k = (inl (name, other, (c.0, pair_is w name vs c.0 e c.1, c.2)), tt, k)
@@ -321,22 +322,22 @@ module _ (Marks : Type 0) (bad : ℕ) (Bound : FaultKind → Type 0) (mode : Mar
     section_rest_held w true says ts last e = held_to Marks bad Bound by_pair (IsHeldClosed IsKernel) (Within w) (kernel_in w (says.1 ∙ ap Name says.2.0)) (words ts) (closed kernel_at (at last ts seen)) (closed_held Marks bad Bound IsKernel kernel_at (at last ts seen) (kernel_held says.2.1 ts last e))
     section_rest_held w false says ts last e = passed_held (Within w) seen Section.Other (λ vs u c k. section_in w says.0 says.1 says.2 vs u c k) ts last e
 
-  free_section : Free Bound → (before : List Section) (seen : Seen) → Begun (λ vs x. Taken (IsLooseSection Bound) (SectionKeeps Bound before) with_section seen (Punctuation OpenTuple ∷ Name (codes "kernel") ∷ Punctuation Comma ∷ vs) x) []
+  free_section : Free Bound → (before : List Section) (seen : Seen) → Begun (λ vs x. Taken (IsSection (loose Bound)) (SectionKeeps Bound before) with_section seen (Punctuation OpenTuple ∷ Name (codes "kernel") ∷ Punctuation Comma ∷ vs) x) []
   free_section free before seen = filled_section before seen (free_good Marks bad Bound mode free seen) (Name (codes "kernel")) true (codes "kernel", refl, (refl, λ b. absurd (free BadShape tt b)))
 
-  some_section : Marks ⊎ ((before : List Section) (seen : Seen) → Begun (Taken (IsLooseSection Bound) (SectionKeeps Bound before) with_section seen) [])
-  some_section = or_begun mode (λ free before seen. pair_some (Taken (IsLooseSection Bound) (SectionKeeps Bound before) with_section seen) (Name (codes "kernel")) (free_section free before seen))
+  some_section : Marks ⊎ ((before : List Section) (seen : Seen) → Begun (Taken (IsSection (loose Bound)) (SectionKeeps Bound before) with_section seen) [])
+  some_section = or_begun mode (λ free before seen. pair_some (Taken (IsSection (loose Bound)) (SectionKeeps Bound before) with_section seen) (Name (codes "kernel")) (free_section free before seen))
 
-  section_held : (before : List Section) (t : Located) (s : State) → Alone Marks bad Bound t s.left.tokens → IsOver Marks bad Bound s → (Good Marks bad Bound mode) s.seen → Holds Marks bad Bound by_pair (Taken (IsLooseSection Bound) (SectionKeeps Bound before) with_section s.seen) (t.word ∷ words_in s) (section_at before t s)
+  section_held : (before : List Section) (t : Located) (s : State) → Alone Marks bad Bound t s.left.tokens → IsOver Marks bad Bound s → (Good Marks bad Bound mode) s.seen → Holds Marks bad Bound by_pair (Taken (IsSection (loose Bound)) (SectionKeeps Bound before) with_section s.seen) (t.word ∷ words_in s) (section_at before t s)
   unfolding section_at
   section_held before t s alone short good =
-      held_if Marks bad Bound by_pair (Taken (IsLooseSection Bound) (SectionKeeps Bound before) with_section s.seen) (t.word ∷ words_in s) (is_text t.word) (fails Unsupported t.at) (pair_at (names_kernel before) section_rest_at t s) (λ text h. let is = text_is t.word text in spoilt Marks bad Bound (Taken (IsLooseSection Bound) (SectionKeeps Bound before) with_section s.seen) t s.left.tokens (subst (λ (w : Word). QuietBehind Marks w s.left.tokens) is (alone h.0))
+      held_if Marks bad Bound by_pair (Taken (IsSection (loose Bound)) (SectionKeeps Bound before) with_section s.seen) (t.word ∷ words_in s) (is_text t.word) (fails Unsupported t.at) (pair_at (names_kernel before) section_rest_at t s) (λ text h. let is = text_is t.word text in spoilt Marks bad Bound (Taken (IsSection (loose Bound)) (SectionKeeps Bound before) with_section s.seen) t s.left.tokens (subst (λ (w : Word). QuietBehind Marks w s.left.tokens) is (alone h.0))
       (record { more = []; x = (Section.Other, at (Err halt) [] s.seen); is = (inr (h.1, ap (λ (w : Word). w ∷ []) is), tt, refl) }))
-      (λ other. pair_held Marks bad Bound (Taken (IsLooseSection Bound) (SectionKeeps Bound before) with_section s.seen) (Tells before) (names_kernel before) section_rest_at s.seen (λ u. kernel_shows (Unfit Marks bad Bound Bool (Tells before) u) before u) (or_begun mode (λ free. pair_begins (Taken (IsLooseSection Bound) (SectionKeeps Bound before) with_section s.seen) (Name (codes "kernel")) (free_section free before s.seen))) (filled_section before s.seen good) (section_rest_held before s.seen good) t s.left.tokens s.left.last short)
+      (λ other. pair_held Marks bad Bound (Taken (IsSection (loose Bound)) (SectionKeeps Bound before) with_section s.seen) (Tells before) (names_kernel before) section_rest_at s.seen (λ u. kernel_shows (Unfit Marks bad Bound Bool (Tells before) u) before u) (or_begun mode (λ free. pair_begins (Taken (IsSection (loose Bound)) (SectionKeeps Bound before) with_section s.seen) (Name (codes "kernel")) (free_section free before s.seen))) (filled_section before s.seen good) (section_rest_held before s.seen good) t s.left.tokens s.left.last short)
 
   good_section : (before : List Section) (seen : Seen) (x : Section) → (Good Marks bad Bound mode) seen → SectionKeeps Bound before seen x → (Good Marks bad Bound mode) (with_section seen x)
   good_section before seen (Kernel params) good may = good_steps Marks bad Bound mode with_param (ParamKeeps Bound) good_param [] seen params good may.params
   good_section before seen Section.Other good may = good
 
   pub sections_held : (ts : List Located) → Lone Marks bad Bound ts → Holds Marks bad Bound by_pair (AreSections Bound) (words ts) (list_of section_at (at (Err halt) ts nothing))
-  sections_held ts lone = bracketed_held Marks bad Bound (IsLooseSection Bound) with_section (SectionKeeps Bound) section_at (Good Marks bad Bound mode) good_section section_held some_section (at (Err halt) ts nothing) (refl, lone) (good_nothing Marks bad Bound mode)
+  sections_held ts lone = bracketed_held Marks bad Bound (IsSection (loose Bound)) with_section (SectionKeeps Bound) section_at (Good Marks bad Bound mode) good_section section_held some_section (at (Err halt) ts nothing) (refl, lone) (good_nothing Marks bad Bound mode)

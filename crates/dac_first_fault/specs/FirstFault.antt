@@ -10,7 +10,8 @@ use Rattle.dac_tokens.specs.TokenFaults.{StopAt}
 use Rattle.dac_shapes.specs.declared.limits.TheConstants.{MAX_NAME, MAX_TEXT}
 use Rattle.dac_tokens.specs.Digits.{value_from}
 use Rattle.dac_shapes.specs.Written.{Section, written, ms_bound}
-use Rattle.dac_shapes.specs.Grammar.{IsFile, IsLooseFile}
+use Rattle.dac_shapes.specs.Grammar.{IsFile}
+use Rattle.dac_shapes.specs.Loose.{IsLooseFile}
 use Rattle.dac_shapes.specs.Within.{AreWithinLimits, nodes_in}
 use Rattle.dac_shapes.specs.Limits.{Keeps}
 

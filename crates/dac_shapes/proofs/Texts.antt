@@ -19,7 +19,7 @@ use Rattle.dac_shapes.specs.declared.param.ParamName.TheVariants as named
 use Rattle.dac_shapes.specs.Written.{App, Permission, Param, Distributed, Permissions, Mandatory, Optional, Timeout, Section, Kernel, name_of, spelled, Written, written}
 use Rattle.dac_shapes.specs.Limits.{Seen, AllMay, steps, is_among, has_param, with_node, NodeKeeps, with_nodes, NodesKeep, with_groups, GroupsKeep, listing, with_app, AppKeeps, with_permission, PermissionKeeps, with_param, ValueKeeps, ParamKeeps, has_kernel, with_section, SectionKeeps, nothing, Every}
 use Rattle.dac_shapes.specs.Shape.{State, fails, is_symbol, token, atom_of, short_name_of, node_of, names_at, item_at, groups_at, milliseconds_of, timeout_at, wait_of, app_name_of, app_value_at, app_at, flag_of, permission_value_at, permission_at, param_named, first_param, param_name_of, param_value_at, param_rest_at, param_at, names_kernel, kernel_at, section_rest_at, section_at, closed, list_of, room, end_at, file_at}
-use Rattle.dac_shapes.specs.Grammar.{between, IsListOf, IsNode, IsLooseItem, IsLooseNodeList, IsMs, IsLooseTimeout, IsLooseApp, IsFlag, IsPermission, IsLooseWait, IsLooseParam, IsLooseSection, IsFile, IsTextOf}
+use Rattle.dac_shapes.specs.Grammar.{between, IsListOf, IsNode, IsItem, IsNodeList, IsMs, IsFlag, IsPermission, strict, IsTimeout, IsApp, IsWait, IsParam, IsSection, IsFile, IsTextOf}
 use Rattle.dac_shapes.specs.laws.Names.{chosen, is_named, same_seen, param_is}
 use Rattle.dac_shapes.specs.declared.draft.Draft.{Draft}
 use Rattle.dac_shapes.specs.Within.{nodes_in, AreWithinLimits}
@@ -78,7 +78,7 @@ opened_by x w s t1 s1 u ws well is k begun m =
     let n = token_then s t1 s1 ws u well k begun m in
     record { words = rw is (ap (λ (v : List Word). w ∷ v) n.words); last = n.last }
 
-pub item_found : (before : List (List (List ℕ))) (t : Located) (s : State) (group : List (List ℕ)) (u : State) → EndsWell s → item_at t s ≡ Ok (group, u) → Reads (IsLooseItem Every) with_nodes (NodesKeep Every false) t s group u
+pub item_found : (before : List (List (List ℕ))) (t : Located) (s : State) (group : List (List ℕ)) (u : State) → EndsWell s → item_at t s ≡ Ok (group, u) → Reads IsItem with_nodes (NodesKeep Every false) t s group u
 unfolding item_at
 item_found before t s group u well e =
     let f1 : Located × State → Result (List (List ℕ) × State) ConfigFault = λ first. cond (is_symbol CloseTuple first.0.word) (fails EmptyTuple t.at) (names_at false CloseTuple first.0 first.1) in
@@ -90,9 +90,9 @@ item_found before t s group u well e =
           let p = passed (is_symbol CloseTuple k.0.0.word) _ (names_at false CloseTuple k.0.0 k.0.1) (group, u) k.2 in
           let l = list_found IsNode (λ _. node_of false) CloseTuple with_node (λ _. NodeKeeps Every false) (node_found false) (room k.0.1) [] k.0.0 k.0.1 group u (same_last s k.0.0 k.0.1 well k.1) p.1 in
           let same : k.0.1.seen ≡ s.seen = (token_is s k.0.0 k.0.1 k.1).1 in
-          subst (λ (g : List (List ℕ)). Reads (IsLooseItem Every) with_nodes (NodesKeep Every false) t s g u) (sym l.whole) (record {
+          subst (λ (g : List (List ℕ)). Reads IsItem with_nodes (NodesKeep Every false) t s g u) (sym l.whole) (record {
             ws = between OpenTuple l.ws CloseTuple;
-            is = inl (inr (l.ws, refl, l.is));
+            is = inr (l.ws, refl, l.is);
             moves = opened_by t (Punctuation OpenTuple) s k.0.0 k.0.1 u (l.ws ++ Punctuation CloseTuple ∷ []) well w k.1 l.begun l.moves;
             begun = ap is_end w;
             may = subst (λ (q : Seen). NodesKeep Every false q l.xs) same l.may;
@@ -101,7 +101,7 @@ item_found before t s group u well e =
       | inr h ↦
           let k = bind_ok (node_of false t s) (λ name. Ok (name.0 ∷ [], name.1)) (group, u) h.1 in
           let r = node_found false [] t s k.0.0 k.0.1 well k.1 in
-          subst (λ (p : List (List ℕ) × State). Reads (IsLooseItem Every) with_nodes (NodesKeep Every false) t s p.0 p.1) (ok_is (k.0.0 ∷ [], k.0.1) (group, u) k.2) (record { ws = r.ws; is = inl (inl (k.0.0, r.is, refl)); moves = r.moves; begun = r.begun; may = (r.may, tt); seen = r.seen })
+          subst (λ (p : List (List ℕ) × State). Reads IsItem with_nodes (NodesKeep Every false) t s p.0 p.1) (ok_is (k.0.0 ∷ [], k.0.1) (group, u) k.2) (record { ws = r.ws; is = inl (k.0.0, r.is, refl); moves = r.moves; begun = r.begun; may = (r.may, tt); seen = r.seen })
     ]
 
 -- a node list begins with no names listed
@@ -111,7 +111,7 @@ with_list seen groups = with_groups (listing seen) groups
 abbrev pub MayList : Seen → List (List (List ℕ)) → Type 0
 MayList seen groups = GroupsKeep Every (listing seen) groups
 
-pub groups_found : (t : Located) (s : State) (groups : List (List (List ℕ))) (u : State) → EndsWell s → groups_at t s ≡ Ok (groups, u) → Reads (IsLooseNodeList Every) with_list MayList t s groups u
+pub groups_found : (t : Located) (s : State) (groups : List (List (List ℕ))) (u : State) → EndsWell s → groups_at t s ≡ Ok (groups, u) → Reads IsNodeList with_list MayList t s groups u
 unfolding groups_at
 groups_found t s groups u well e =
     let fresh : State → State = λ v. record v { seen = listing v.seen } in
@@ -119,11 +119,11 @@ groups_found t s groups u well e =
     let w = mark_is OpenList t.word h.0 in
     let k = bind_ok _ _ _ h.1 in
     let p = passed _ _ _ _ k.2 in
-    let l = list_found (IsLooseItem Every) (λ _. item_at) CloseList with_nodes (λ _. NodesKeep Every false) item_found (room (fresh k.0.1)) [] k.0.0 (fresh k.0.1) groups u (same_last s k.0.0 k.0.1 well k.1) p.1 in
+    let l = list_found IsItem (λ _. item_at) CloseList with_nodes (λ _. NodesKeep Every false) item_found (room (fresh k.0.1)) [] k.0.0 (fresh k.0.1) groups u (same_last s k.0.0 k.0.1 well k.1) p.1 in
     let same : k.0.1.seen ≡ s.seen = (token_is s k.0.0 k.0.1 k.1).1 in
-    subst (λ (g : List (List (List ℕ))). Reads (IsLooseNodeList Every) with_list MayList t s g u) (sym l.whole) (record {
+    subst (λ (g : List (List (List ℕ))). Reads IsNodeList with_list MayList t s g u) (sym l.whole) (record {
       ws = between OpenList l.ws CloseList;
-      is = inl (l.ws, refl, l.is);
+      is = (l.ws, refl, l.is);
       moves = opened_by t (Punctuation OpenList) s k.0.0 k.0.1 u (l.ws ++ Punctuation CloseList ∷ []) well w k.1 l.begun (record { words = l.moves.words; last = l.moves.last });
       begun = ap is_end w;
       may = subst (λ (q : Seen). MayList q l.xs) same l.may;
@@ -148,7 +148,7 @@ ms_is at negative digits n e =
 record Timed (t : Located) (s : State) (n : ℕ) (t1 : Located) (u : State) : Type 0 where
   pub well : EndsWell u
   pub seen : u.seen ≡ s.seen
-  pub moved : is_end t1.word ≡ false → (ws : List Word) × IsLooseTimeout Every ws n × Moves (back t s) ws (back t1 u) × (is_end t.word ≡ false)
+  pub moved : is_end t1.word ≡ false → (ws : List Word) × IsTimeout strict ws n × Moves (back t s) ws (back t1 u) × (is_end t.word ≡ false)
 
 untimed : (t : Located) (s : State) (n : ℕ) (t1 : Located) (u : State) → EndsWell s → ◌≡◌ {A = Result (ℕ × Located × State) ConfigFault} (Ok (0, t, s)) (Ok (n, t1, u)) → Timed t s n t1 u
 untimed t s n t1 u well e =
@@ -166,7 +166,7 @@ timed (Number negative digits) at s n t1 u well e =
       seen = (token_is b.0 k.0.0 k.0.1 k.1).1 ∙ m.seen;
       moved = λ begun.
           let next = token_moves b.0 k.0.0 k.0.1 m.well k.1 begun in
-          (Number negative digits ∷ Punctuation Comma ∷ [], inr (Number negative digits, refl, inl (ms_is at negative digits a.0 a.1)), record { words = ap (λ (v : List Word). Number negative digits ∷ v) (m.moves.words ∙ ap (λ (v : List Word). Punctuation Comma ∷ v) next.words); last = next.last ∙ m.moves.last }, refl);
+          (Number negative digits ∷ Punctuation Comma ∷ [], inr (Number negative digits, refl, ms_is at negative digits a.0 a.1), record { words = ap (λ (v : List Word). Number negative digits ∷ v) (m.moves.words ∙ ap (λ (v : List Word). Punctuation Comma ∷ v) next.words); last = next.last ∙ m.moves.last }, refl);
     })
 timed w at s n t1 u well e = untimed (record { word = w; at = at }) s n t1 u well e
 
@@ -185,7 +185,7 @@ app_named before t name e =
     let w = short_name_is t b.0 b.1 in
     subst (λ (n : List ℕ). (t.word ≡ Name n) × FineApp before n) (ok_is b.0 name q.1) (w.0, record { short = w.1; once = p.0; few = leb-false 64 (length before) q.0 })
 
-app_valued : (before : List App) (name : List ℕ) (s : State) (app : App) (u : State) → EndsWell s → FineApp before name → app_value_at name s ≡ Ok (app, u) → Gets (λ ws x. IsLooseApp Every (pair_words name ws) x) with_app (AppKeeps Every before) s app u
+app_valued : (before : List App) (name : List ℕ) (s : State) (app : App) (u : State) → EndsWell s → FineApp before name → app_value_at name s ≡ Ok (app, u) → Gets (λ ws x. IsApp strict (pair_words name ws) x) with_app (AppKeeps Every before) s app u
 unfolding app_value_at
 app_valued before name s app u well fine e =
     let made : ℕ → List (List (List ℕ)) → App = λ n groups. record { name = name; timeout = n; groups = groups } in
@@ -197,7 +197,7 @@ app_valued before name s app u well fine e =
     let moved = time.moved list.begun in
     let m = token_then s a.0.0 a.0.1 moved.0 (back b.0.1 b.0.2) well a.1 moved.3 moved.2 in
     let same : b.0.2.seen ≡ s.seen = time.seen ∙ (token_is s a.0.0 a.0.1 a.1).1 in
-    subst (λ (p : App × State). Gets (λ ws x. IsLooseApp Every (pair_words name ws) x) with_app (AppKeeps Every before) s p.0 p.1) (ok_is (made b.0.0 c.0.0, c.0.1) (app, u) c.2) (record {
+    subst (λ (p : App × State). Gets (λ ws x. IsApp strict (pair_words name ws) x) with_app (AppKeeps Every before) s p.0 p.1) (ok_is (made b.0.0 c.0.0, c.0.1) (app, u) c.2) (record {
       ws = moved.0 ++ list.ws;
       is = (moved.0 ++ list.ws, refl, (moved.0, list.ws, refl, moved.1, list.is));
       moves = Moves-then s (back b.0.1 b.0.2) c.0.1 moved.0 list.ws m list.moves;
@@ -205,10 +205,10 @@ app_valued before name s app u well fine e =
       seen = list.seen ∙ ap (λ (q : Seen). with_list q c.0.0) same;
     })
 
-pub app_found : (before : List App) (t : Located) (s : State) (app : App) (u : State) → EndsWell s → app_at before t s ≡ Ok (app, u) → Reads (IsLooseApp Every) with_app (AppKeeps Every before) t s app u
-app_found before = pair_found (IsLooseApp Every) (app_name_of before) (λ k name. (k ≡ name) × FineApp before name) (λ name. closed (app_value_at name)) with_app (AppKeeps Every before)
+pub app_found : (before : List App) (t : Located) (s : State) (app : App) (u : State) → EndsWell s → app_at before t s ≡ Ok (app, u) → Reads (IsApp strict) with_app (AppKeeps Every before) t s app u
+app_found before = pair_found (IsApp strict) (app_name_of before) (λ k name. (k ≡ name) × FineApp before name) (λ name. closed (app_value_at name)) with_app (AppKeeps Every before)
     (λ t k e. let n = app_named before t k e in (k, n.0, (refl, n.1)))
-    (λ k name s x u well fine e. closed_found (λ ws app. IsLooseApp Every (pair_begun name ws) app) (app_value_at name) with_app (AppKeeps Every before)
+    (λ k name s x u well fine e. closed_found (λ ws app. IsApp strict (pair_begun name ws) app) (app_value_at name) with_app (AppKeeps Every before)
     (λ s x u well e. app_valued before name s x u well fine.1 e) s x u well (subst (λ (n : List ℕ). closed (app_value_at n) s ≡ Ok (x, u)) fine.0 e))
 
 -- ---- permissions
@@ -267,20 +267,20 @@ params_named before t k e =
     let b = bind_ok _ _ _ e in
     (b.0, atom_is t.word t.at b.0 b.1, first_is before t.at b.0 (param_named b.0) k refl b.2)
 
-wait_is : (w : Word) (at : ℕ) (wait : SyncWait) → wait_of (record { word = w; at = at }) ≡ Ok wait → IsLooseWait Every (w ∷ []) wait × (is_end w ≡ false)
+wait_is : (w : Word) (at : ℕ) (wait : SyncWait) → wait_of (record { word = w; at = at }) ≡ Ok wait → IsWait strict (w ∷ []) wait × (is_end w ≡ false)
 unfolding wait_of
 wait_is (Number negative digits) at wait e =
     let b = bind_ok _ _ _ e in
     let q : Ms b.0 ≡ wait = ok_is (Ms b.0) wait b.2 in
-    (subst (IsLooseWait Every (Number negative digits ∷ [])) q (Number negative digits, refl, inl (ms_is at negative digits b.0 b.1)), refl)
+    (subst (IsWait strict (Number negative digits ∷ [])) q (Number negative digits, refl, ms_is at negative digits b.0 b.1), refl)
 wait_is (Name name) at wait e =
     let h = held _ _ _ _ e in
-    (subst (IsLooseWait Every (Name name ∷ [])) h.1 (ap (λ (n : List ℕ). Name n ∷ []) (is_named name _ h.0)), refl)
+    (subst (IsWait strict (Name name ∷ [])) h.1 (ap (λ (n : List ℕ). Name n ∷ []) (is_named name _ h.0)), refl)
 wait_is _ at wait e = absurd cc
 
 -- a value of the parameter of this name
 abbrev GetsParam : List Param → ParamName → State → Param → State → Type 0
-GetsParam before name s p u = Gets (λ ws x. IsLooseParam Every (pair_words (spelled name) ws) x) with_param (ParamKeeps Every before) s p u
+GetsParam before name s p u = Gets (λ ws x. IsParam strict (pair_words (spelled name) ws) x) with_param (ParamKeeps Every before) s p u
 
 -- the parameter of this name occurs once
 once_as : (before : List Param) (name : ParamName) → has_param name before ≡ false → (other : ParamName) → ◌≡◌ {A = Option ParamName} (Some name) (Some other) → has_param other before ≡ false
@@ -289,7 +289,7 @@ once_as before name once other e = let same : name ≡ other = cc in subst (λ (
 module _ {A : Type 0} (Is : List Word → A → Type 0) (read : List A → Located → State → Result (A × State) ConfigFault) (step : Seen → A → Seen) (May : List A → Seen → A → Type 0)
     (reads : (before : List A) (t : Located) (s : State) (x : A) (u : State) → EndsWell s → read before t s ≡ Ok (x, u) → Reads Is step (May before) t s x u) where
   -- a list as the value of the parameter of this name
-  list_valued : (before : List Param) (name : ParamName) (made : List A → Param) → ((xs : List A) → name_of (made xs) ≡ Some name) → ((ws : List Word) (xs : List A) → IsListOf Is ws xs → IsLooseParam Every (pair_words (spelled name) ws) (made xs))
+  list_valued : (before : List Param) (name : ParamName) (made : List A → Param) → ((xs : List A) → name_of (made xs) ≡ Some name) → ((ws : List Word) (xs : List A) → IsListOf Is ws xs → IsParam strict (pair_words (spelled name) ws) (made xs))
       → ((seen : Seen) (xs : List A) → AllMay step May [] seen xs → ValueKeeps Every seen (made xs)) → ((seen : Seen) (xs : List A) → steps step seen xs ≡ with_param seen (made xs))
       → (s : State) (p : Param) (u : State) → EndsWell s → has_param name before ≡ false → ◌>>=◌ {B = Param × State} (list_of read s) (λ xs. Ok (made xs.0, xs.1)) ≡ Ok (p, u) → GetsParam before name s p u
   list_valued before name made named_so valued may seen s p u well once e =
@@ -305,7 +305,7 @@ module _ {A : Type 0} (Is : List Word → A → Type 0) (read : List A → Locat
 
 param_valued : (before : List Param) (name : ParamName) (s : State) (p : Param) (u : State) → EndsWell s → has_param name before ≡ false → param_value_at name s ≡ Ok (p, u) → GetsParam before name s p u
 unfolding param_value_at
-param_valued before named.Distributed s p u well once e = list_valued (IsLooseApp Every) app_at with_app (AppKeeps Every) app_found before named.Distributed Distributed (λ _. refl) (λ ws _ h. (ws, refl, h)) (λ _ _ h. h) (λ _ _. refl) s p u well once e
+param_valued before named.Distributed s p u well once e = list_valued (IsApp strict) app_at with_app (AppKeeps Every) app_found before named.Distributed Distributed (λ _. refl) (λ ws _ h. (ws, refl, h)) (λ _ _ h. h) (λ _ _. refl) s p u well once e
 param_valued before named.Permissions s p u well once e = list_valued IsPermission (λ _. permission_at) with_permission (PermissionKeeps Every) permission_found before named.Permissions Permissions (λ _. refl) (λ ws _ h. (ws, refl, h)) (λ _ _ h. h) same_seen s p u well once e
 param_valued before named.Mandatory s p u well once e = list_valued IsNode (λ _. node_of true) with_node (λ _. NodeKeeps Every true) (node_found true) before named.Mandatory Mandatory (λ _. refl) (λ ws _ h. (ws, refl, h)) (λ _ _ h. h) (λ _ _. refl) s p u well once e
 param_valued before named.Optional s p u well once e = list_valued IsNode (λ _. node_of true) with_node (λ _. NodeKeeps Every true) (node_found true) before named.Optional Optional (λ _. refl) (λ ws _ h. (ws, refl, h)) (λ _ _ h. h) (λ _ _. refl) s p u well once e
@@ -330,15 +330,15 @@ unknown_is name e known same = absurd (no_name known (sym (ap param_named same) 
     no_name named.Distributed h = absurd cc
     no_name _ h = absurd cc
 
-param_rested : (before : List Param) (k : Option ParamName) (name : List ℕ) (s : State) (p : Param) (u : State) → EndsWell s → FineParam before name k → param_rest_at k s ≡ Ok (p, u) → Gets (λ ws x. IsLooseParam Every (pair_begun name ws) x) with_param (ParamKeeps Every before) s p u
+param_rested : (before : List Param) (k : Option ParamName) (name : List ℕ) (s : State) (p : Param) (u : State) → EndsWell s → FineParam before name k → param_rest_at k s ≡ Ok (p, u) → Gets (λ ws x. IsParam strict (pair_begun name ws) x) with_param (ParamKeeps Every before) s p u
 unfolding param_rest_at
 param_rested before (Some _) name s p u well (Known known is once) e =
-    let g = closed_found (λ ws x. IsLooseParam Every (pair_begun (spelled known) ws) x) (param_value_at known) with_param (ParamKeeps Every before) (λ s x u well e. param_valued before known s x u well once e) s p u well e in
-    subst (λ (n : List ℕ). Gets (λ ws x. IsLooseParam Every (pair_begun n ws) x) with_param (ParamKeeps Every before) s p u) (sym is) g
+    let g = closed_found (λ ws x. IsParam strict (pair_begun (spelled known) ws) x) (param_value_at known) with_param (ParamKeeps Every before) (λ s x u well e. param_valued before known s x u well once e) s p u well e in
+    subst (λ (n : List ℕ). Gets (λ ws x. IsParam strict (pair_begun n ws) x) with_param (ParamKeeps Every before) s p u) (sym is) g
 param_rested before None name s p u well (Unknown other) e =
     let a = bind_ok _ _ _ e in
     let m = passed_found s a.0 well a.1 in
-    subst (λ (y : Param × State). Gets (λ ws x. IsLooseParam Every (pair_begun name ws) x) with_param (ParamKeeps Every before) s y.0 y.1) (ok_is (Param.Other, a.0) (p, u) a.2) (record {
+    subst (λ (y : Param × State). Gets (λ ws x. IsParam strict (pair_begun name ws) x) with_param (ParamKeeps Every before) s y.0 y.1) (ok_is (Param.Other, a.0) (p, u) a.2) (record {
       ws = m.ws ++ Punctuation CloseTuple ∷ [];
       is = (name, unknown_is name other, (m.ws, refl, m.term));
       moves = m.moves;
@@ -349,8 +349,8 @@ param_rested before None name s p u well (Unknown other) e =
     nothing : (known : ParamName) → ◌≡◌ {A = Option ParamName} None (Some known) → ⊥
     nothing known h = absurd cc
 
-pub param_found : (before : List Param) (t : Located) (s : State) (p : Param) (u : State) → EndsWell s → param_at before t s ≡ Ok (p, u) → Reads (IsLooseParam Every) with_param (ParamKeeps Every before) t s p u
-param_found before = pair_found (IsLooseParam Every) (param_name_of before) (λ k name. FineParam before name k) param_rest_at with_param (ParamKeeps Every before) (params_named before) (param_rested before)
+pub param_found : (before : List Param) (t : Located) (s : State) (p : Param) (u : State) → EndsWell s → param_at before t s ≡ Ok (p, u) → Reads (IsParam strict) with_param (ParamKeeps Every before) t s p u
+param_found before = pair_found (IsParam strict) (param_name_of before) (λ k name. FineParam before name k) param_rest_at with_param (ParamKeeps Every before) (params_named before) (param_rested before)
 
 -- the two cases of a section's name: the first `kernel`, or another
 data FineSection (before : List Section) (name : List ℕ) : Bool → Type 0 where
@@ -370,33 +370,33 @@ section_named before t k e =
     ] in
     (b.0, atom_is t.word t.at b.0 b.1, fine)
 
-kernel_valued : (before : List Section) (s : State) (x : Section) (u : State) → EndsWell s → has_kernel before ≡ false → kernel_at s ≡ Ok (x, u) → Gets (λ ws x. IsLooseSection Every (pair_words (codes "kernel") ws) x) with_section (SectionKeeps Every before) s x u
+kernel_valued : (before : List Section) (s : State) (x : Section) (u : State) → EndsWell s → has_kernel before ≡ false → kernel_at s ≡ Ok (x, u) → Gets (λ ws x. IsSection strict (pair_words (codes "kernel") ws) x) with_section (SectionKeeps Every before) s x u
 unfolding kernel_at
 kernel_valued before s x u well once e =
     let a = bind_ok _ _ _ e in
-    let g = bracketed_found (IsLooseParam Every) param_at with_param (ParamKeeps Every) param_found s a.0.0 a.0.1 well a.1 in
-    subst (λ (y : Section × State). Gets (λ ws x. IsLooseSection Every (pair_words (codes "kernel") ws) x) with_section (SectionKeeps Every before) s y.0 y.1) (ok_is (Kernel a.0.0, a.0.1) (x, u) a.2)
+    let g = bracketed_found (IsParam strict) param_at with_param (ParamKeeps Every) param_found s a.0.0 a.0.1 well a.1 in
+    subst (λ (y : Section × State). Gets (λ ws x. IsSection strict (pair_words (codes "kernel") ws) x) with_section (SectionKeeps Every before) s y.0 y.1) (ok_is (Kernel a.0.0, a.0.1) (x, u) a.2)
     (record { ws = g.ws; is = (g.ws, refl, g.is); moves = g.moves; may = record { once = λ _. once; params = g.may }; seen = g.seen })
 
-section_rested : (before : List Section) (k : Bool) (name : List ℕ) (s : State) (x : Section) (u : State) → EndsWell s → FineSection before name k → section_rest_at k s ≡ Ok (x, u) → Gets (λ ws x. IsLooseSection Every (pair_begun name ws) x) with_section (SectionKeeps Every before) s x u
+section_rested : (before : List Section) (k : Bool) (name : List ℕ) (s : State) (x : Section) (u : State) → EndsWell s → FineSection before name k → section_rest_at k s ≡ Ok (x, u) → Gets (λ ws x. IsSection strict (pair_begun name ws) x) with_section (SectionKeeps Every before) s x u
 unfolding section_rest_at
 section_rested before true name s x u well (IsKernel is once) e =
-    let g = closed_found (λ ws x. IsLooseSection Every (pair_begun (codes "kernel") ws) x) kernel_at with_section (SectionKeeps Every before) (λ s x u well e. kernel_valued before s x u well once e) s x u well e in
-    subst (λ (n : List ℕ). Gets (λ ws x. IsLooseSection Every (pair_begun n ws) x) with_section (SectionKeeps Every before) s x u) (sym is) g
+    let g = closed_found (λ ws x. IsSection strict (pair_begun (codes "kernel") ws) x) kernel_at with_section (SectionKeeps Every before) (λ s x u well e. kernel_valued before s x u well once e) s x u well e in
+    subst (λ (n : List ℕ). Gets (λ ws x. IsSection strict (pair_begun n ws) x) with_section (SectionKeeps Every before) s x u) (sym is) g
 section_rested before false name s x u well (IsOther other) e =
     let a = bind_ok _ _ _ e in
     let m = passed_found s a.0 well a.1 in
-    subst (λ (y : Section × State). Gets (λ ws x. IsLooseSection Every (pair_begun name ws) x) with_section (SectionKeeps Every before) s y.0 y.1) (ok_is (Section.Other, a.0) (x, u) a.2)
-    (record { ws = m.ws ++ Punctuation CloseTuple ∷ []; is = inl (name, no_kernel, (m.ws, refl, m.term)); moves = m.moves; may = tt; seen = m.seen })
+    subst (λ (y : Section × State). Gets (λ ws x. IsSection strict (pair_begun name ws) x) with_section (SectionKeeps Every before) s y.0 y.1) (ok_is (Section.Other, a.0) (x, u) a.2)
+    (record { ws = m.ws ++ Punctuation CloseTuple ∷ []; is = (name, no_kernel, (m.ws, refl, m.term)); moves = m.moves; may = tt; seen = m.seen })
   where
     no_kernel : name ≢ codes "kernel"
     no_kernel same = let wrong : true ≡ false = ap (λ (n : List ℕ). bytes_eq n (codes "kernel")) (sym same) ∙ other in cc
 
-pub section_found : (before : List Section) (t : Located) (s : State) (x : Section) (u : State) → EndsWell s → section_at before t s ≡ Ok (x, u) → Reads (IsLooseSection Every) with_section (SectionKeeps Every before) t s x u
+pub section_found : (before : List Section) (t : Located) (s : State) (x : Section) (u : State) → EndsWell s → section_at before t s ≡ Ok (x, u) → Reads (IsSection strict) with_section (SectionKeeps Every before) t s x u
 unfolding section_at
 section_found before t s x u well e =
     let p = passed _ _ _ _ e in
-    pair_found (IsLooseSection Every) (names_kernel before) (λ k name. FineSection before name k) section_rest_at with_section (SectionKeeps Every before) (section_named before) (section_rested before) t s x u well p.1
+    pair_found (IsSection strict) (names_kernel before) (λ k name. FineSection before name k) section_rest_at with_section (SectionKeeps Every before) (section_named before) (section_rested before) t s x u well p.1
 
 -- ---- no token is the end
 
@@ -470,7 +470,7 @@ file_again : (end : Located) (ts : List Located) (sections : List Section) → i
     → file_at (at (Ok end) ts nothing) ≡ Ok (written sections (nodes_in sections))
 file_again end ts sections is file within some =
     let c = ended ts file.0 (Punctuation FullStop) file.1 in
-    let list : IsListOf (IsLooseSection Every) (map (λ t. t.word) c.front) sections = subst (λ (l : List Word). IsListOf (IsLooseSection Every) l sections) (sym c.first) file.2 in
+    let list : IsListOf (IsSection strict) (map (λ t. t.word) c.front) sections = subst (λ (l : List Word). IsListOf (IsSection strict) l sections) (sym c.first) file.2 in
     let seen = steps with_section nothing sections in
     let some_app : length (written sections seen.met).apps ≢ 0 = subst (λ (nodes : List (List ℕ)). length (written sections nodes).apps ≢ 0) (sym (seen_is sections)) some in
     ap (λ (l : List Located). file_at (at (Ok end) l nothing)) c.whole
@@ -500,7 +500,7 @@ text_found text s draft known short e =
     let well = ends_well s.last (length text) known.end in
     let no_end : NoEnd (words s) = subst (λ (q : Stream). NoEnd (words q)) (sym known.read) (no_end_within (suc (length text)) (length text) 0 text) in
     let a = bind_ok _ _ _ e in
-    let g = bracketed_found (IsLooseSection Every) section_at with_section (SectionKeeps Every) section_found (whole s) a.0.0 a.0.1 well a.1 in
+    let g = bracketed_found (IsSection strict) section_at with_section (SectionKeeps Every) section_found (whole s) a.0.0 a.0.1 well a.1 in
     let b = bind_ok _ _ _ a.2 in
     let ends = end_found a.0.1 b.0.0 b.0.1 (still_well (whole s) a.0.1 g.ws well g.moves) (no_end_behind g.ws (words_in a.0.1) (subst NoEnd g.moves.words no_end)) b.1 in
     let met : b.0.1.seen.met ≡ nodes_in a.0.0 = ap (λ (q : Seen). q.met) (ends.seen ∙ g.seen) ∙ seen_is a.0.0 in

@@ -18,7 +18,7 @@ use Rattle.dac_shapes.specs.Within.{joined, params_in, names_of_app, names_of_pa
 use Rattle.dac_shapes.specs.declared.param.ParamName.{ParamName}
 use Rattle.dac_shapes.specs.declared.param.ParamName.TheVariants as named
 use Rattle.dac_shapes.specs.Written.{App, Permission, Param, Distributed, Permissions, Mandatory, Optional, Section, Kernel, name_of, Timeout, Written, unsaid, put, put_all, put_section}
-use Rattle.dac_shapes.specs.Grammar.{Parted, IsListOf, IsNode, IsLooseItem, IsLooseApp, IsLooseParam, IsLooseSection, IsTextOf}
+use Rattle.dac_shapes.specs.Grammar.{Parted, IsListOf, IsNode, IsItem, strict, IsApp, IsParam, IsSection, IsTextOf}
 
 pub each_append : {A : Type 0} (P : A → Type 0) (xs ys : List A) → Each P xs → Each P ys → Each P (xs ++ ys)
 each_append P [] ys a b = b
@@ -561,23 +561,19 @@ some_parted : (words : List Word) (group : List (List ℕ)) → Parted IsNode wo
 some_parted words [] h = absurd h
 some_parted words (x ∷ xs) h = omega arith
 
-some_item : (words : List Word) (group : List (List ℕ)) → IsLooseItem Every words group → HasMember group
-some_item words group (inl (inl h)) = subst HasMember (sym h.2) (omega arith)
-some_item words group (inl (inr h)) = some_parted h.0 group h.2
-some_item words group (inr h) = absurd (h.0 tt)
+some_item : (words : List Word) (group : List (List ℕ)) → IsItem words group → HasMember group
+some_item words group (inl h) = subst HasMember (sym h.2) (omega arith)
+some_item words group (inr h) = some_parted h.0 group h.2
 
-some_app : (words : List Word) (app : App) → IsLooseApp Every words app → HasMembers app
-some_app words app h = elim h.2.4 [
-  | inl list ↦ each_parted (IsLooseItem Every) HasMember some_item list.0 app.groups list.2
-  | inr none ↦ absurd (none.0 tt)
-]
+some_app : (words : List Word) (app : App) → IsApp strict words app → HasMembers app
+some_app words app h = let list = h.2.4 in each_parted IsItem HasMember some_item list.0 app.groups list.2
 
-some_param : (words : List Word) (param : Param) → IsLooseParam Every words param → ParamHasMembers param
-some_param words (Distributed apps) h = each_listed (IsLooseApp Every) HasMembers some_app h.0 apps h.2
+some_param : (words : List Word) (param : Param) → IsParam strict words param → ParamHasMembers param
+some_param words (Distributed apps) h = each_listed (IsApp strict) HasMembers some_app h.0 apps h.2
 some_param words _ h = tt
 
-some_section : (words : List Word) (section : Section) → IsLooseSection Every words section → SectionHasMembers section
-some_section words (Kernel params) h = each_listed (IsLooseParam Every) ParamHasMembers some_param h.0 params h.2
+some_section : (words : List Word) (section : Section) → IsSection strict words section → SectionHasMembers section
+some_section words (Kernel params) h = each_listed (IsParam strict) ParamHasMembers some_param h.0 params h.2
 some_section words Section.Other h = tt
 
 some_params : (sections : List Section) → Each SectionHasMembers sections → Each ParamHasMembers (params_in sections)
@@ -663,4 +659,4 @@ put_within sections within some =
 
 pub text_within : (text : List ℕ) (w : Written) → IsTextOf text w → IsWithinLimits w
 text_within text w is =
-    subst IsWithinLimits (sym (is.says ∙ said (unsaid (nodes_in is.sections)) is.sections)) (put_within is.sections is.within (some_params is.sections (each_listed (IsLooseSection Every) SectionHasMembers some_section is.file.0 is.sections is.file.2)))
+    subst IsWithinLimits (sym (is.says ∙ said (unsaid (nodes_in is.sections)) is.sections)) (put_within is.sections is.within (some_params is.sections (each_listed (IsSection strict) SectionHasMembers some_section is.file.0 is.sections is.file.2)))

@@ -1,8 +1,5 @@
--- The grammar of configurations, on tokens. It refers to no reader. Its shapes are defined once, with the kinds of
--- faults that are kept; in a file every one is.
+-- The grammar of configurations, on tokens. It refers to no reader.
 use Rattle.std.specs.Prelude.{◌≡◌, ◌≢◌, ◌⊎◌, ℕ, ◌<◌, ◌≤◌, Bool, true, false, List, [], ◌∷◌, ◌++◌, length, map, All, codes}
-use Rattle.dac_tokens.specs.declared.fault.FaultKind.{FaultKind}
-use Rattle.dac_tokens.specs.declared.fault.FaultKind.TheVariants.{Unsupported, EmptyList, EmptyTuple, NumberTooLarge}
 use Rattle.dac_tokens.specs.declared.token.Symbol.{Symbol}
 use Rattle.dac_tokens.specs.declared.token.Symbol.TheVariants.{OpenList, CloseList, OpenTuple, CloseTuple, Comma, FullStop}
 use Rattle.dac_tokens.specs.TokenGrammar.{AreTokensOf}
@@ -14,7 +11,6 @@ use Rattle.dac_shapes.specs.declared.draft.SyncWait.{SyncWait}
 use Rattle.dac_shapes.specs.declared.draft.SyncWait.TheVariants.{NoSync, Forever, Ms}
 use Rattle.dac_shapes.specs.Written.{App, Permission, Param, Distributed, Permissions, Mandatory, Optional, Timeout, Section, Kernel, Written, spelled, written, ms_bound}
 use Rattle.dac_tokens.specs.Digits.{value_from}
-use Rattle.dac_shapes.specs.Limits.{Every}
 use Rattle.dac_shapes.specs.Within.{AreWithinLimits, nodes_in}
 
 -- one or more items, each by `Is`, separated by commas
@@ -73,6 +69,10 @@ IsItem words group =
     ((name : List ℕ) × (words ≡ Name name ∷ []) × (group ≡ name ∷ []))
     ⊎ ((inner : List Word) × (words ≡ between OpenTuple inner CloseTuple) × Parted IsNode inner group)
 
+-- a node list, which must not be empty
+abbrev pub IsNodeList : List Word → List (List (List ℕ)) → Type 0
+IsNodeList words groups = (inner : List Word) × (words ≡ between OpenList inner CloseList) × Parted IsItem inner groups
+
 -- this token is a number of milliseconds that is not negative and below the bound
 abbrev pub IsMs : Word → ℕ → Type 0
 IsMs word n = (negative : Bool) × (digits : List ℕ) × (word ≡ Number negative digits) × (n ≡ value_from 0 digits)
@@ -87,82 +87,66 @@ IsFlag words false = words ≡ Name (codes "false") ∷ []
 abbrev pub IsPermission : List Word → Permission → Type 0
 IsPermission words permission = IsPair permission.name (λ value. IsFlag value permission.value) words
 
--- ---- loose shapes
+-- a section that is ignored: a pair of any name other than `kernel` and any term
+abbrev pub IsOtherSection : List Word → Type 0
+IsOtherSection words = (name : List ℕ) × (name ≢ codes "kernel") × IsPair name IsTerm words
 
--- Loose shapes tolerate an empty list or tuple of nodes, a number that is too large, and a string in place of a
--- section, each unless the kind of its fault is kept.
-module _ (Kept : FaultKind → Type 0) where
-  -- this shape is tolerated
-  abbrev pub Passes : FaultKind → Type 0
-  Passes kind = Kept kind → ⊥
+-- The shapes of node lists, numbers of milliseconds and ignored sections. The shapes below take them as a parameter,
+-- because laws on faults replace them by looser ones.
+pub record Parts : Type 1 where
+  pub IsNodes : List Word → List (List (List ℕ)) → Type 0
+  pub IsNumber : Word → ℕ → Type 0
+  pub IsIgnored : List Word → Type 0
 
-  -- a tuple of nodes can be empty
-  abbrev pub IsLooseItem : List Word → List (List ℕ) → Type 0
-  IsLooseItem words group =
-      IsItem words group ⊎ (Passes EmptyTuple × (words ≡ Punctuation OpenTuple ∷ Punctuation CloseTuple ∷ []) × (group ≡ []))
+-- those of a file, as defined above
+abbrev pub strict : Parts
+strict = record { IsNodes = IsNodeList; IsNumber = IsMs; IsIgnored = IsOtherSection }
 
-  -- a node list can be empty
-  abbrev pub IsLooseNodeList : List Word → List (List (List ℕ)) → Type 0
-  IsLooseNodeList words groups =
-      ((inner : List Word) × (words ≡ between OpenList inner CloseList) × Parted IsLooseItem inner groups)
-      ⊎ (Passes EmptyList × (words ≡ Punctuation OpenList ∷ Punctuation CloseList ∷ []) × (groups ≡ []))
-
-  -- a number can be too large
-  abbrev pub IsLooseMs : Word → ℕ → Type 0
-  IsLooseMs word n =
-      IsMs word n
-      ⊎ (Passes NumberTooLarge × (digits : List ℕ) × (word ≡ Number false digits) × (n ≡ value_from 0 digits) × (ms_bound ≤ n))
-
+module _ (parts : Parts) where
   -- nothing, for 0, or a number and a comma
-  abbrev pub IsLooseTimeout : List Word → ℕ → Type 0
-  IsLooseTimeout words n =
+  abbrev pub IsTimeout : List Word → ℕ → Type 0
+  IsTimeout words n =
       ((words ≡ []) × (n ≡ 0))
-      ⊎ ((word : Word) × (words ≡ word ∷ Punctuation Comma ∷ []) × IsLooseMs word n)
+      ⊎ ((word : Word) × (words ≡ word ∷ Punctuation Comma ∷ []) × parts.IsNumber word n)
 
   -- the value of an application: its timeout, if written, and its node list
-  abbrev pub IsLooseAppValue : List Word → App → Type 0
-  IsLooseAppValue words app = (timeout list : List Word) × (words ≡ timeout ++ list)
-      × IsLooseTimeout timeout app.timeout × IsLooseNodeList list app.groups
+  abbrev pub IsAppValue : List Word → App → Type 0
+  IsAppValue words app = (timeout list : List Word) × (words ≡ timeout ++ list)
+      × IsTimeout timeout app.timeout × parts.IsNodes list app.groups
 
   -- an application, as a pair of its name and its value
-  abbrev pub IsLooseApp : List Word → App → Type 0
-  IsLooseApp words app = IsPair app.name (λ value. IsLooseAppValue value app) words
+  abbrev pub IsApp : List Word → App → Type 0
+  IsApp words app = IsPair app.name (λ value. IsAppValue value app) words
 
   -- a number, or `infinity`
-  abbrev pub IsLooseWait : List Word → SyncWait → Type 0
-  IsLooseWait words NoSync = ⊥
-  IsLooseWait words Forever = words ≡ Name (codes "infinity") ∷ []
-  IsLooseWait words (Ms n) = (word : Word) × (words ≡ word ∷ []) × IsLooseMs word n
+  abbrev pub IsWait : List Word → SyncWait → Type 0
+  IsWait words NoSync = ⊥
+  IsWait words Forever = words ≡ Name (codes "infinity") ∷ []
+  IsWait words (Ms n) = (word : Word) × (words ≡ word ∷ []) × parts.IsNumber word n
 
   -- A parameter, with a bare or quoted name. One that is ignored is a pair of any other name and any term.
-  abbrev pub IsLooseParam : List Word → Param → Type 0
-  IsLooseParam words (Distributed apps) =
-      IsPair (spelled named.Distributed) (λ value. IsListOf IsLooseApp value apps) words
-  IsLooseParam words (Permissions permissions) =
+  abbrev pub IsParam : List Word → Param → Type 0
+  IsParam words (Distributed apps) = IsPair (spelled named.Distributed) (λ value. IsListOf IsApp value apps) words
+  IsParam words (Permissions permissions) =
       IsPair (spelled named.Permissions) (λ value. IsListOf IsPermission value permissions) words
-  IsLooseParam words (Mandatory names) = IsPair (spelled named.Mandatory) (λ value. IsListOf IsNode value names) words
-  IsLooseParam words (Optional names) = IsPair (spelled named.Optional) (λ value. IsListOf IsNode value names) words
-  IsLooseParam words (Timeout wait) = IsPair (spelled named.Timeout) (λ value. IsLooseWait value wait) words
-  IsLooseParam words Param.Other =
-      (name : List ℕ) × ((known : ParamName) → name ≢ spelled known) × IsPair name IsTerm words
+  IsParam words (Mandatory names) = IsPair (spelled named.Mandatory) (λ value. IsListOf IsNode value names) words
+  IsParam words (Optional names) = IsPair (spelled named.Optional) (λ value. IsListOf IsNode value names) words
+  IsParam words (Timeout wait) = IsPair (spelled named.Timeout) (λ value. IsWait value wait) words
+  IsParam words Param.Other = (name : List ℕ) × ((known : ParamName) → name ≢ spelled known) × IsPair name IsTerm words
 
-  -- the section `kernel` with these parameters, or a pair of any other name and any term, which a string can replace
-  abbrev pub IsLooseSection : List Word → Section → Type 0
-  IsLooseSection words (Kernel params) = IsPair (codes "kernel") (λ value. IsListOf IsLooseParam value params) words
-  IsLooseSection words Section.Other =
-      ((name : List ℕ) × (name ≢ codes "kernel") × IsPair name IsTerm words)
-      ⊎ (Passes Unsupported × (words ≡ Text ∷ []))
+  -- the section `kernel` with these parameters, or one that is ignored
+  abbrev pub IsSection : List Word → Section → Type 0
+  IsSection words (Kernel params) = IsPair (codes "kernel") (λ value. IsListOf IsParam value params) words
+  IsSection words Section.Other = parts.IsIgnored words
 
-  -- a file: a list of sections, and the full stop
-  abbrev pub IsLooseFile : List Word → List Section → Type 0
-  IsLooseFile words sections =
-      (list : List Word) × (words ≡ list ++ Punctuation FullStop ∷ []) × IsListOf IsLooseSection list sections
+  -- a list of sections, and the full stop
+  abbrev pub IsFileOf : List Word → List Section → Type 0
+  IsFileOf words sections =
+      (list : List Word) × (words ≡ list ++ Punctuation FullStop ∷ []) × IsListOf IsSection list sections
 
--- ---- files
-
--- a file, in which every shape is kept
+-- a file
 abbrev pub IsFile : List Word → List Section → Type 0
-IsFile words sections = IsLooseFile Every words sections
+IsFile words sections = IsFileOf strict words sections
 
 -- A text of at most MAX_TEXT bytes spells this draft: its tokens form a file that keeps the limits and lists at least
 -- one application.

@@ -3,5 +3,6 @@ pub mod Shape
 pub mod Limits
 pub mod Within
 pub mod Grammar
+pub mod Loose
 pub mod Views
 pub mod laws

@@ -12,7 +12,8 @@ use Rattle.dac_shapes.specs.Written.{App, Permission}
 use Rattle.dac_shapes.specs.Limits.{Seen, is_among, with_node, with_nodes, with_groups, listing, with_app, NodeKeeps, NodesKeep, GroupsKeep, AppKeeps, PermissionKeeps}
 use Rattle.dac_tokens.specs.Digits.{value_from}
 use Rattle.dac_shapes.specs.Shape.{State, fails, is_symbol, atom_of, short_name_of, node_of, names_at, item_at, items_at, groups_at, milliseconds_of, timeout_at, app_name_of, app_value_at, app_at, flag_of, permission_value_at, permission_at, closed}
-use Rattle.dac_shapes.specs.Grammar.{Parted, IsNode, IsItem, IsMs, IsFlag, IsPermission, IsLooseItem, IsLooseNodeList, IsLooseAppValue, IsLooseApp}
+use Rattle.dac_shapes.specs.Grammar.{Parted, IsNode, IsItem, IsMs, IsFlag, IsPermission, IsAppValue, IsApp}
+use Rattle.dac_shapes.specs.Loose.{IsLooseItem, IsLooseNodeList, loose}
 use Rattle.dac_shapes.specs.laws.Splits.{words_of, cons_is, split, cut, none, Begins, at, symbol_again}
 use Rattle.dac_shapes.specs.laws.Again.{Fine, fine_front, Met, Said, met_then, said_then, said_said, said_if, met_if, met_is, parted_begins, whole_met, pair_met}
 
@@ -251,7 +252,7 @@ module _ (last : Result Located ConfigFault) (Bad : ℕ → Type 0) (Kept : Faul
   unfolding app_value_at timeout_at
   value_large name offset digits vs seen e = rw e refl
 
-  app_value_met : (vs us : List Located) (seen : Seen) (app : App) → IsLooseAppValue Kept (words_of vs) app → Fine Bad vs → GroupsKeep Kept (listing seen) app.groups → Met last Bad Kept app us (with_app seen app) (app_value_at app.name (at last (vs ++ us) seen))
+  app_value_met : (vs us : List Located) (seen : Seen) (app : App) → IsAppValue (loose Kept) (words_of vs) app → Fine Bad vs → GroupsKeep Kept (listing seen) app.groups → Met last Bad Kept app us (with_app seen app) (app_value_at app.name (at last (vs ++ us) seen))
   app_value_met vs us seen app is fine keep = elim is.3 [
     | inl h ↦
         let whole : words_of vs ≡ is.1 = is.2 ∙ ap (λ (l : List Word). l ++ is.1) h.0 in
@@ -269,7 +270,7 @@ module _ (last : Result Located ConfigFault) (Bad : ℕ → Type 0) (Kept : Faul
         ]
   ]
 
-  pub app_begins : (ws : List Word) (app : App) → IsLooseApp Kept ws app → Begins ws
+  pub app_begins : (ws : List Word) (app : App) → IsApp (loose Kept) ws app → Begins ws
   app_begins ws app is = record { head = Punctuation OpenTuple; tail = Name app.name ∷ Punctuation Comma ∷ is.0 ++ Punctuation CloseTuple ∷ []; whole = is.1; no_list = refl; no_tuple = refl }
 
   app_named : (before : List App) (seen : Seen) (app : App) → AppKeeps Kept before seen app → (t : Located) → t.word ≡ Name app.name → Said Bad Kept app.name (app_name_of before t)
@@ -281,10 +282,10 @@ module _ (last : Result Located ConfigFault) (Bad : ℕ → Type 0) (Kept : Faul
       (said_if last Bad Kept name among (fails TwiceApp t.at) (cond (leb 64 (length before)) (fails TooManyApps t.at) (Ok name)) (λ twice kept. apart among twice (keep.once kept))
       (λ once. said_if last Bad Kept name (leb 64 (length before)) (fails TooManyApps t.at) (Ok name) (λ many kept. absurd (omega (arith, keep.few kept once, leb-true 64 (length before) many))) (λ few. refl)))
 
-  pub app_met : (before : List App) (t : Located) (ts us : List Located) (seen : Seen) (app : App) → IsLooseApp Kept (words_of (t ∷ ts)) app → Fine Bad (t ∷ ts) → AppKeeps Kept before seen app → Met last Bad Kept app us (with_app seen app) (app_at before t (at last (ts ++ us) seen))
+  pub app_met : (before : List App) (t : Located) (ts us : List Located) (seen : Seen) (app : App) → IsApp (loose Kept) (words_of (t ∷ ts)) app → Fine Bad (t ∷ ts) → AppKeeps Kept before seen app → Met last Bad Kept app us (with_app seen app) (app_at before t (at last (ts ++ us) seen))
   app_met before t ts us seen app is fine keep =
       pair_met last Bad Kept (app_name_of before) (λ name. closed (app_value_at name)) app.name app.name app seen (with_app seen app) (λ n w ok. app_named before seen app keep n w)
-      (app_value_at app.name) (λ value. IsLooseAppValue Kept value app) (λ s. refl) (λ vs us' value f. app_value_met vs us' seen app value f keep.nodes) t ts us is fine
+      (app_value_at app.name) (λ value. IsAppValue (loose Kept) value app) (λ s. refl) (λ vs us' value f. app_value_met vs us' seen app value f keep.nodes) t ts us is fine
 
   -- ---- permissions
 

@@ -14,9 +14,11 @@ use Rattle.dac_shapes.specs.Written.{App, Permission, Param, Distributed, Permis
 use Rattle.dac_shapes.specs.Limits.{Seen, nothing, AllMay, steps, has_param, has_kernel, with_node, with_nodes, with_app, with_apps, with_permission, with_param, with_section, NodeKeeps, NodesKeep, AppKeeps, PermissionKeeps, ParamKeeps, KernelKeeps, SectionKeeps, Keeps, Every, MaySections}
 use Rattle.dac_tokens.specs.Digits.{value_from}
 use Rattle.dac_shapes.specs.Shape.{State, fails, node_of, wait_of, milliseconds_of, app_at, permission_at, param_named, param_name_of, param_value_at, param_rest_at, param_at, names_kernel, kernel_at, section_rest_at, section_at, passed_at, pair_at, closed, list_of}
-use Rattle.dac_shapes.specs.Grammar.{IsListOf, IsPair, IsNode, IsPermission, IsTerm, IsMs, IsLooseApp, IsLooseWait, IsLooseParam, IsLooseSection}
+use Rattle.dac_shapes.specs.Grammar.{IsListOf, IsPair, IsTerm, IsNode, IsMs, IsPermission, strict, IsApp, IsWait, IsParam, IsSection}
+use Rattle.dac_shapes.specs.Loose.{loose}
 use Rattle.dac_shapes.specs.laws.Names.{is_named, param_is, same_seen}
 use Rattle.dac_shapes.specs.laws.Splits.{words_of, cons_is, cut, none, Begins, at}
+use Rattle.dac_shapes.specs.laws.Loosely.{sections_loose}
 use Rattle.dac_shapes.specs.laws.AgainTerms.{passed_again}
 use Rattle.dac_shapes.specs.laws.Again.{Unkept, Nowhere, fine_nowhere, Fine, Met, Said, met_then, met_is, bracketed_met, rest_met, pair_met}
 use Rattle.dac_shapes.specs.laws.AgainReaders.{large_is, atom_is, ms_is, node_begins, nodes_met, app_begins, app_met, permission_begins, permission_met}
@@ -25,16 +27,16 @@ pair_begins : (name : List ℕ) (IsValue : List Word → Type 0) (ws : List Word
 pair_begins name IsValue ws is = record { head = Punctuation OpenTuple; tail = Name name ∷ Punctuation Comma ∷ is.0 ++ Punctuation CloseTuple ∷ []; whole = is.1; no_list = refl; no_tuple = refl }
 
 module _ (Kept : FaultKind → Type 0) where
-  param_begins : (ws : List Word) (p : Param) → IsLooseParam Kept ws p → Begins ws
-  param_begins ws (Distributed apps) is = pair_begins (spelled named.Distributed) (λ value. IsListOf (IsLooseApp Kept) value apps) ws is
+  param_begins : (ws : List Word) (p : Param) → IsParam (loose Kept) ws p → Begins ws
+  param_begins ws (Distributed apps) is = pair_begins (spelled named.Distributed) (λ value. IsListOf (IsApp (loose Kept)) value apps) ws is
   param_begins ws (Permissions permissions) is = pair_begins (spelled named.Permissions) (λ value. IsListOf IsPermission value permissions) ws is
   param_begins ws (Mandatory names) is = pair_begins (spelled named.Mandatory) (λ value. IsListOf IsNode value names) ws is
   param_begins ws (Optional names) is = pair_begins (spelled named.Optional) (λ value. IsListOf IsNode value names) ws is
-  param_begins ws (Timeout wait) is = pair_begins (spelled named.Timeout) (λ value. IsLooseWait Kept value wait) ws is
+  param_begins ws (Timeout wait) is = pair_begins (spelled named.Timeout) (λ value. IsWait (loose Kept) value wait) ws is
   param_begins ws Param.Other is = pair_begins is.0 IsTerm ws is.2
 
-  section_begins : (ws : List Word) (x : Section) → IsLooseSection Kept ws x → Begins ws
-  section_begins ws (Kernel params) is = pair_begins (codes "kernel") (λ value. IsListOf (IsLooseParam Kept) value params) ws is
+  section_begins : (ws : List Word) (x : Section) → IsSection (loose Kept) ws x → Begins ws
+  section_begins ws (Kernel params) is = pair_begins (codes "kernel") (λ value. IsListOf (IsParam (loose Kept)) value params) ws is
   section_begins ws Section.Other is = elim is [
     | inl pair ↦ pair_begins pair.0 IsTerm ws pair.2
     | inr file ↦ record { head = Text; tail = []; whole = file.1; no_list = refl; no_tuple = refl }
@@ -104,7 +106,7 @@ module _ (last : Result Located ConfigFault) (Bad : ℕ → Type 0) (Kept : Faul
   unfolding param_value_at wait_of
   wait_large offset digits us seen e = rw e refl
 
-  timeout_met : (vs us : List Located) (seen : Seen) (wait : SyncWait) → IsLooseWait Kept (words_of vs) wait → Met last Bad Kept (Timeout wait) us seen (param_value_at named.Timeout (at last (vs ++ us) seen))
+  timeout_met : (vs us : List Located) (seen : Seen) (wait : SyncWait) → IsWait (loose Kept) (words_of vs) wait → Met last Bad Kept (Timeout wait) us seen (param_value_at named.Timeout (at last (vs ++ us) seen))
   timeout_met vs us seen NoSync is = absurd is
   timeout_met vs us seen Forever is = word_met vs us seen Forever (Name (codes "infinity")) is forever_is
   timeout_met vs us seen (Ms n) is = elim is.2 [
@@ -117,12 +119,12 @@ module _ (last : Result Located ConfigFault) (Bad : ℕ → Type 0) (Kept : Faul
         met_is last Bad Kept (Timeout (Ms n)) us seen (param_value_at named.Timeout (at last (vs ++ us) seen)) (fails NumberTooLarge c.head.at) (ap (λ (l : List Located). param_value_at named.Timeout (at last (l ++ us) seen)) c.whole ∙ read) large.0
   ]
 
-  distributed_met : (vs us : List Located) (seen : Seen) (apps : List App) → IsListOf (IsLooseApp Kept) (words_of vs) apps → Fine Bad vs → AllMay with_app (AppKeeps Kept) [] seen apps → Met last Bad Kept (Distributed apps) us (with_apps seen apps) (param_value_at named.Distributed (at last (vs ++ us) seen))
+  distributed_met : (vs us : List Located) (seen : Seen) (apps : List App) → IsListOf (IsApp (loose Kept)) (words_of vs) apps → Fine Bad vs → AllMay with_app (AppKeeps Kept) [] seen apps → Met last Bad Kept (Distributed apps) us (with_apps seen apps) (param_value_at named.Distributed (at last (vs ++ us) seen))
   unfolding param_value_at
   distributed_met vs us seen apps is fine keep =
       let after = with_apps seen apps in
       met_then last Bad Kept apps us after (Distributed apps) us after (list_of app_at (at last (vs ++ us) seen)) (λ apps. Ok (Distributed apps.0, apps.1))
-      (bracketed_met last Bad Kept (IsLooseApp Kept) (app_begins last Bad Kept) app_at with_app (AppKeeps Kept) (app_met last Bad Kept) vs us seen apps is fine keep) refl
+      (bracketed_met last Bad Kept (IsApp (loose Kept)) (app_begins last Bad Kept) app_at with_app (AppKeeps Kept) (app_met last Bad Kept) vs us seen apps is fine keep) refl
 
   permissions_met : (vs us : List Located) (seen : Seen) (permissions : List Permission) → IsListOf IsPermission (words_of vs) permissions → Fine Bad vs → AllMay with_permission (PermissionKeeps Kept) [] seen permissions → Met last Bad Kept (Permissions permissions) us seen (param_value_at named.Permissions (at last (vs ++ us) seen))
   unfolding param_value_at
@@ -158,13 +160,13 @@ module _ (last : Result Located ConfigFault) (Bad : ℕ → Type 0) (Kept : Faul
   known_met name before p seen IsValue once value t ts us pair fine =
       pair_met last Bad Kept (param_name_of before) param_rest_at (spelled name) (Some name) p seen (with_param seen p) (λ n w ok. known_said before n name once w ok) (param_value_at name) IsValue (rest_of_known name) value t ts us pair fine
 
-  param_met : (before : List Param) (t : Located) (ts us : List Located) (seen : Seen) (p : Param) → IsLooseParam Kept (words_of (t ∷ ts)) p → Fine Bad (t ∷ ts) → ParamKeeps Kept before seen p → Met last Bad Kept p us (with_param seen p) (param_at before t (at last (ts ++ us) seen))
-  param_met before t ts us seen (Distributed apps) is fine keep = known_met named.Distributed before (Distributed apps) seen (λ value. IsListOf (IsLooseApp Kept) value apps) (λ kept. keep.once kept named.Distributed refl) (λ vs us' value f. distributed_met vs us' seen apps value f keep.value) t ts us is fine
+  param_met : (before : List Param) (t : Located) (ts us : List Located) (seen : Seen) (p : Param) → IsParam (loose Kept) (words_of (t ∷ ts)) p → Fine Bad (t ∷ ts) → ParamKeeps Kept before seen p → Met last Bad Kept p us (with_param seen p) (param_at before t (at last (ts ++ us) seen))
+  param_met before t ts us seen (Distributed apps) is fine keep = known_met named.Distributed before (Distributed apps) seen (λ value. IsListOf (IsApp (loose Kept)) value apps) (λ kept. keep.once kept named.Distributed refl) (λ vs us' value f. distributed_met vs us' seen apps value f keep.value) t ts us is fine
   param_met before t ts us seen (Permissions permissions) is fine keep =
       known_met named.Permissions before (Permissions permissions) seen (λ value. IsListOf IsPermission value permissions) (λ kept. keep.once kept named.Permissions refl) (λ vs us' value f. permissions_met vs us' seen permissions value f keep.value) t ts us is fine
   param_met before t ts us seen (Mandatory names) is fine keep = known_met named.Mandatory before (Mandatory names) seen (λ value. IsListOf IsNode value names) (λ kept. keep.once kept named.Mandatory refl) (λ vs us' value f. mandatory_met vs us' seen names value f keep.value) t ts us is fine
   param_met before t ts us seen (Optional names) is fine keep = known_met named.Optional before (Optional names) seen (λ value. IsListOf IsNode value names) (λ kept. keep.once kept named.Optional refl) (λ vs us' value f. optional_met vs us' seen names value f keep.value) t ts us is fine
-  param_met before t ts us seen (Timeout wait) is fine keep = known_met named.Timeout before (Timeout wait) seen (λ value. IsLooseWait Kept value wait) (λ kept. keep.once kept named.Timeout refl) (λ vs us' value f. timeout_met vs us' seen wait value) t ts us is fine
+  param_met before t ts us seen (Timeout wait) is fine keep = known_met named.Timeout before (Timeout wait) seen (λ value. IsWait (loose Kept) value wait) (λ kept. keep.once kept named.Timeout refl) (λ vs us' value f. timeout_met vs us' seen wait value) t ts us is fine
   param_met before t ts us seen Param.Other is fine keep =
       rest_met last Bad Kept (param_name_of before) param_rest_at is.0 None Param.Other seen seen (λ n w ok. other_said before n is.0 w (unknown_so is.0 is.1)) (is.2.0 ++ Punctuation CloseTuple ∷ []) t ts us is.2.1 fine
       (λ vs e f. met_is last Bad Kept Param.Other us seen (param_rest_at None (at last (vs ++ us) seen)) (Ok (Param.Other, at last us seen)) (rest_of_other (at last (vs ++ us) seen) (at last us seen) (passed_again last is.2.0 vs us seen is.2.2 e)) refl)
@@ -182,11 +184,11 @@ module _ (last : Result Located ConfigFault) (Bad : ℕ → Type 0) (Kept : Faul
   other_section_said : (before : List Section) (t : Located) (name : List ℕ) → t.word ≡ Name name → bytes_eq name (codes "kernel") ≡ false → Said Bad Kept false (names_kernel before t)
   other_section_said before t name w other = subst (λ (r : Result Bool ConfigFault). Said Bad Kept false r) (sym (other_section_is before t name w other)) refl
 
-  kernel_met : (before : List Section) (vs us : List Located) (seen : Seen) (params : List Param) → IsListOf (IsLooseParam Kept) (words_of vs) params → Fine Bad vs → KernelKeeps Kept before seen params → Met last Bad Kept (Kernel params) us (with_section seen (Kernel params)) (kernel_at (at last (vs ++ us) seen))
+  kernel_met : (before : List Section) (vs us : List Located) (seen : Seen) (params : List Param) → IsListOf (IsParam (loose Kept)) (words_of vs) params → Fine Bad vs → KernelKeeps Kept before seen params → Met last Bad Kept (Kernel params) us (with_section seen (Kernel params)) (kernel_at (at last (vs ++ us) seen))
   unfolding kernel_at
   kernel_met before vs us seen params is fine keep =
       let after = with_section seen (Kernel params) in
-      met_then last Bad Kept params us after (Kernel params) us after (list_of param_at (at last (vs ++ us) seen)) (λ params. Ok (Kernel params.0, params.1)) (bracketed_met last Bad Kept (IsLooseParam Kept) (param_begins Kept) param_at with_param (ParamKeeps Kept) param_met vs us seen params is fine keep.params) refl
+      met_then last Bad Kept params us after (Kernel params) us after (list_of param_at (at last (vs ++ us) seen)) (λ params. Ok (Kernel params.0, params.1)) (bracketed_met last Bad Kept (IsParam (loose Kept)) (param_begins Kept) param_at with_param (ParamKeeps Kept) param_met vs us seen params is fine keep.params) refl
 
   rest_of_kernel : (s : State) → section_rest_at true s ≡ closed kernel_at s
   unfolding section_rest_at
@@ -205,12 +207,12 @@ module _ (last : Result Located ConfigFault) (Bad : ℕ → Type 0) (Kept : Faul
   unfolding section_at
   file_is before t s w = rw w refl
 
-  kernel_section_met : (before : List Section) (t : Located) (ts us : List Located) (seen : Seen) (params : List Param) → IsLooseSection Kept (words_of (t ∷ ts)) (Kernel params) → Fine Bad (t ∷ ts) → SectionKeeps Kept before seen (Kernel params) → Met last Bad Kept (Kernel params) us (with_section seen (Kernel params)) (section_at before t (at last (ts ++ us) seen))
+  kernel_section_met : (before : List Section) (t : Located) (ts us : List Located) (seen : Seen) (params : List Param) → IsSection (loose Kept) (words_of (t ∷ ts)) (Kernel params) → Fine Bad (t ∷ ts) → SectionKeeps Kept before seen (Kernel params) → Met last Bad Kept (Kernel params) us (with_section seen (Kernel params)) (section_at before t (at last (ts ++ us) seen))
   kernel_section_met before t ts us seen params is fine keep =
       let brace = (cons_is t.word (Punctuation OpenTuple) (words_of ts) (Name (codes "kernel") ∷ Punctuation Comma ∷ is.0 ++ Punctuation CloseTuple ∷ []) is.1).0 in
       let after = with_section seen (Kernel params) in
       met_is last Bad Kept (Kernel params) us after (section_at before t (at last (ts ++ us) seen)) (pair_at (names_kernel before) section_rest_at t (at last (ts ++ us) seen)) (no_text before t (at last (ts ++ us) seen) brace)
-      (pair_met last Bad Kept (names_kernel before) section_rest_at (codes "kernel") true (Kernel params) seen after (λ n w ok. kernel_said before n keep.once w ok) kernel_at (λ value. IsListOf (IsLooseParam Kept) value params) rest_of_kernel (λ vs us' value f. kernel_met before vs us' seen params value f keep) t ts us is fine)
+      (pair_met last Bad Kept (names_kernel before) section_rest_at (codes "kernel") true (Kernel params) seen after (λ n w ok. kernel_said before n keep.once w ok) kernel_at (λ value. IsListOf (IsParam (loose Kept)) value params) rest_of_kernel (λ vs us' value f. kernel_met before vs us' seen params value f keep) t ts us is fine)
 
   other_pair_met : (before : List Section) (t : Located) (ts us : List Located) (seen : Seen) (name : List ℕ) → name ≢ codes "kernel" → IsPair name IsTerm (words_of (t ∷ ts)) → Fine Bad (t ∷ ts) → Met last Bad Kept Section.Other us seen (section_at before t (at last (ts ++ us) seen))
   other_pair_met before t ts us seen name other is fine =
@@ -219,23 +221,23 @@ module _ (last : Result Located ConfigFault) (Bad : ℕ → Type 0) (Kept : Faul
       (rest_met last Bad Kept (names_kernel before) section_rest_at name false Section.Other seen seen (λ n w ok. other_section_said before n name w (no_kernel name other)) (is.0 ++ Punctuation CloseTuple ∷ []) t ts us is.1 fine
       (λ vs e f. met_is last Bad Kept Section.Other us seen (section_rest_at false (at last (vs ++ us) seen)) (Ok (Section.Other, at last us seen)) (rest_of_section (at last (vs ++ us) seen) (at last us seen) (passed_again last is.0 vs us seen is.2 e)) refl))
 
-  section_met : (before : List Section) (t : Located) (ts us : List Located) (seen : Seen) (x : Section) → IsLooseSection Kept (words_of (t ∷ ts)) x → Fine Bad (t ∷ ts) → SectionKeeps Kept before seen x → Met last Bad Kept x us (with_section seen x) (section_at before t (at last (ts ++ us) seen))
+  section_met : (before : List Section) (t : Located) (ts us : List Located) (seen : Seen) (x : Section) → IsSection (loose Kept) (words_of (t ∷ ts)) x → Fine Bad (t ∷ ts) → SectionKeeps Kept before seen x → Met last Bad Kept x us (with_section seen x) (section_at before t (at last (ts ++ us) seen))
   section_met before t ts us seen (Kernel params) is fine keep = kernel_section_met before t ts us seen params is fine keep
   section_met before t ts us seen Section.Other is fine keep = elim is [
     | inl pair ↦ other_pair_met before t ts us seen pair.0 pair.1 pair.2 fine
     | inr file ↦ met_is last Bad Kept Section.Other us seen (section_at before t (at last (ts ++ us) seen)) (fails Unsupported t.at) (file_is before t (at last (ts ++ us) seen) (cons_is t.word Text (words_of ts) [] file.1).0) file.0
   ]
 
-  pub sections_met : (ts us : List Located) (sections : List Section) → IsListOf (IsLooseSection Kept) (words_of ts) sections → Fine Bad ts → Keeps Kept sections → Met last Bad Kept sections us (steps with_section nothing sections) (list_of section_at (at last (ts ++ us) nothing))
-  sections_met ts us sections is fine keep = bracketed_met last Bad Kept (IsLooseSection Kept) (section_begins Kept) section_at with_section (SectionKeeps Kept) section_met ts us nothing sections is fine keep
+  pub sections_met : (ts us : List Located) (sections : List Section) → IsListOf (IsSection (loose Kept)) (words_of ts) sections → Fine Bad ts → Keeps Kept sections → Met last Bad Kept sections us (steps with_section nothing sections) (list_of section_at (at last (ts ++ us) nothing))
+  sections_met ts us sections is fine keep = bracketed_met last Bad Kept (IsSection (loose Kept)) (section_begins Kept) section_at with_section (SectionKeeps Kept) section_met ts us nothing sections is fine keep
 
 never_unkept : (kind : FaultKind) (offset : ℕ) → Unkept Nowhere Every kind offset → ⊥
 never_unkept BadShape offset of = of.1 tt
 never_unkept _ offset of = of tt
 
 -- sections that keep every shape and limit are read
-pub sections_again : (last : Result Located ConfigFault) (ts us : List Located) (sections : List Section) → IsListOf (IsLooseSection Every) (words_of ts) sections → MaySections sections → list_of section_at (at last (ts ++ us) nothing) ≡ Ok (sections, at last us (steps with_section nothing sections))
-sections_again last ts us sections is may = read (list_of section_at (at last (ts ++ us) nothing)) (sections_met last Nowhere Every ts us sections is (fine_nowhere ts) may)
+pub sections_again : (last : Result Located ConfigFault) (ts us : List Located) (sections : List Section) → IsListOf (IsSection strict) (words_of ts) sections → MaySections sections → list_of section_at (at last (ts ++ us) nothing) ≡ Ok (sections, at last us (steps with_section nothing sections))
+sections_again last ts us sections is may = read (list_of section_at (at last (ts ++ us) nothing)) (sections_met last Nowhere Every ts us sections (sections_loose Every (words_of ts) sections is) (fine_nowhere ts) may)
   where
     read : (r : Result (List Section × State) ConfigFault) → Met last Nowhere Every sections us (steps with_section nothing sections) r → r ≡ Ok (sections, at last us (steps with_section nothing sections))
     read (Ok y) is = ap (λ (y : List Section × State). Ok y) is
