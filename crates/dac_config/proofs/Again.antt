@@ -1,13 +1,13 @@
 -- The canonical text spells the same configuration: drafts can be spelled, each of their nodes occurs in a parameter,
 -- and the canonical draft has the same table.
-use Rattle.std.proofs.Common.{◌≡◌, ◌≢◌, ℕ, ◌+◌, ◌<◌, ◌≤◌, Bool, true, false, cond, not, ◌||◌, ◌&&◌, List, [], ◌∷◌, ◌++◌, length, map, fold, get_or, filter, count_by, All, bytes_eq, ⊎_elim, refl, sym, ap, subst, ◌∙◌, arith, append_assoc, append-nil}
+use Rattle.std.proofs.Common.{◌≡◌, ◌≢◌, ℕ, ◌+◌, ◌<◌, ◌≤◌, Bool, true, false, cond, not, ◌||◌, ◌&&◌, List, [], ◌∷◌, ◌++◌, length, map, get_or, filter, count_by, All, bytes_eq, ⊎_elim, refl, sym, ap, subst, ◌∙◌, arith, append_assoc, append-nil}
 use Rattle.std.specs.List.{AllByRecursion as Each, AllZip, IsDistinct}
 use Rattle.std.proofs.Math.Bool.{or-true, or-false, and-true, and-or_distrib_right}
 use Rattle.std.proofs.lemmas.Bool.{and_parts, and_from, cond_both, or_cases, or_left, or_right}
 use Rattle.std.proofs.lemmas.List.{length-map, length-append}
 use Rattle.std.proofs.lemmas.List.Elements.{All-head, All-tail, All-append, All-map, All-filter, All-weaker, All-from_recursion, recursion_from_All}
 use Rattle.std.proofs.lemmas.List.Kept.{IsStrictlySortedBy-filter}
-use Rattle.std.proofs.lemmas.List.Sums.{fold-append, sum_by-cons}
+use Rattle.std.proofs.lemmas.List.Sums.{sum_by-cons}
 use Rattle.std.proofs.lemmas.Map.Keys.{IsDistinct-from_sorted}
 use Rattle.std.proofs.lemmas.Map.Text.{is_eq-slice_cmp}
 use Rattle.std.proofs.lemmas.Simd.{map-map}
@@ -16,10 +16,11 @@ use Rattle.dac_shapes.specs.declared.draft.SyncWait.{SyncWait}
 use Rattle.dac_shapes.specs.declared.draft.SyncWait.TheVariants.{NoSync, Forever, Ms}
 use Rattle.dac_shapes.specs.declared.param.ParamName.{ParamName}
 use Rattle.dac_shapes.specs.declared.param.ParamName.TheVariants as named
-use Rattle.dac_shapes.specs.Written.{App, Permission, Param, Distributed, Permissions, Mandatory, Optional, Timeout, Section, Kernel, Written, name_of, put, put_all, put_section, unsaid, written}
+use Rattle.dac_shapes.specs.Written.{App, Permission, Param, Distributed, Permissions, Mandatory, Optional, Timeout, Kernel, Written, name_of, put, put_all, unsaid, written}
 use Rattle.dac_shapes.specs.Limits.{is_among, is_named}
 use Rattle.dac_shapes.specs.Grammar.{IsFile, IsTextOf}
 use Rattle.dac_shapes.specs.Within.{joined, params_in, names_of_app, names_of_param, names_in, nodes_in, AreAppsWithin, IsValueWithin, AreWithinLimits, IsWithinLimits}
+use Rattle.dac_shapes.specs.laws.Params.{put_params, nodes_stay}
 use Rattle.dac_config.specs.Table.{NodeRow, AppRow, Table}
 use Rattle.dac_config.specs.Canonical.{canonical_text}
 use Rattle.dac_config.specs.Numbering.{name_cmp, numbers_from, numbered_node, numbered_nodes, permitted, numbered_app, numbered, in_byte_order}
@@ -41,21 +42,6 @@ record Known (w : Written) : Type 0 where
   spells : Each CanSpell (said_params w)
   said : Within w.nodes (said_names w)
   some : length w.apps ≢ 0
-
--- ---- the draft of sections is that of their parameters
-
-put_params : (w : Written) (sections : List Section) → fold put_section w sections ≡ put_all w (params_in sections)
-put_params w [] = refl
-put_params w (Kernel params ∷ sections) = put_params (put_all w params) sections ∙ sym (fold-append put w params (params_in sections))
-put_params w (Section.Other ∷ sections) = put_params w sections
-
-nodes_stay : (w : Written) (params : List Param) → (put_all w params).nodes ≡ w.nodes
-nodes_stay w [] = refl
-nodes_stay w (param ∷ params) = nodes_stay (put w param) params ∙ one param
-  where
-    one : (p : Param) → (put w p).nodes ≡ w.nodes
-    one (Distributed apps) = refl
-    one _ = refl
 
 -- ---- a draft can be spelled
 

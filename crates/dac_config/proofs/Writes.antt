@@ -7,7 +7,7 @@ use Rattle.std.specs.Char.{IsAsciiDigit, IsAsciiLowercase}
 use Rattle.std.proofs.lemmas.Bool.Decides.{Decides-and, Decides-by_and, Decides-not}
 use Rattle.std.proofs.lemmas.Fmt.{decimal_by_steps}
 use Rattle.std.proofs.lemmas.List.{length-map}
-use Rattle.std.proofs.lemmas.List.Elements.{All-nil, All-cons, All-head, All-tail, All-push, All-append, All-from_recursion, recursion_from_All}
+use Rattle.std.proofs.lemmas.List.Elements.{All-nil, All-cons, All-head, All-tail, All-push}
 use Rattle.std.proofs.lemmas.Slice.Eq.{bytes_eq-Decides}
 use Rattle.dac_tokens.specs.declared.token.Symbol.TheVariants.{OpenList, CloseList, OpenTuple, CloseTuple, Comma, FullStop}
 use Rattle.dac_tokens.specs.Digits.{value_from}
@@ -21,6 +21,7 @@ use Rattle.dac_shapes.specs.declared.param.ParamName.TheVariants as named
 use Rattle.dac_shapes.specs.Written.{App, Permission, Param, Distributed, Permissions, Mandatory, Optional, Timeout, Section, Kernel, spelled}
 use Rattle.dac_shapes.specs.Within.{params_in}
 use Rattle.dac_shapes.specs.Grammar.{Parted, between, IsListOf, IsPair, IsNode, IsItem, IsMs, IsPermission, strict, IsTimeout, IsAppValue, IsApp, IsWait, IsParam, IsSection, IsFile}
+use Rattle.dac_shapes.specs.laws.Params.{each_append}
 use Rattle.dac_config.specs.Table.{NodeRow, AppRow, Table}
 use Rattle.dac_config.specs.Canonical.{begins_small, is_bare, name_text, separated_after, parted, list_text, pair_text, node_name_text, group_text, app_text, forbidden_text, wait_texts, param_texts, canonical_text}
 use Rattle.dac_config.proofs.Names.{each_parts}
@@ -463,9 +464,6 @@ CanSpellSection Section.Other = Unit {0}
 section_spells : (words : List Word) (section : Section) → Each Quotes words → IsSection strict words section → CanSpellSection section
 section_spells words (Kernel params) quotes h = listed_spells (IsParam strict) CanSpell param_spells h.0 params (pair_spells (codes "kernel") _ words quotes h).1 h.2
 section_spells words Section.Other quotes h = tt
-
-each_append : {A : Type 0} (P : A → Type 0) (xs ys : List A) → Each P xs → Each P ys → Each P (xs ++ ys)
-each_append P xs ys h k = recursion_from_All P (xs ++ ys) (All-append P xs ys (All-from_recursion P xs h) (All-from_recursion P ys k))
 
 params_spell : (sections : List Section) → Each CanSpellSection sections → Each CanSpell (params_in sections)
 params_spell [] h = tt

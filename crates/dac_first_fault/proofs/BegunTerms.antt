@@ -1,5 +1,5 @@
 -- The reader that skips terms: if it reaches the end, a term begins so.
-use Rattle.std.proofs.Common.{◌≡◌, ℕ, zero, suc, true, cond, List, [], ◌∷◌, ◌++◌, Result, Ok, refl, sym, ap, subst, ◌∙◌, append_assoc}
+use Rattle.std.proofs.Common.{◌≡◌, ℕ, zero, suc, cond, List, [], ◌∷◌, ◌++◌, Result, Ok, refl, sym, ap, subst, ◌∙◌, append_assoc}
 use Rattle.std.specs.Prelude.{All}
 use Rattle.std.proofs.lemmas.List.Elements.{All-nil, All-cons}
 use Rattle.dac_tokens.specs.declared.fault.ConfigFault.{ConfigFault}
@@ -10,7 +10,7 @@ use Rattle.dac_tokens.specs.Gives.{◌>>=◌}
 use Rattle.dac_tokens.specs.Words.{Word, Punctuation, Name, Number, Text, End, Located}
 use Rattle.dac_shapes.specs.Shape.{State, fails, is_symbol, is_text, token, room, terms_at, terms_in, texts_at, term_by, term_at, passed_at}
 use Rattle.dac_shapes.specs.Grammar.{AreBrackets, IsTerm, AreTerms, OfList, OfTuple, Atom, Integer, Strings, Empty, Between, One, More}
-use Rattle.dac_first_fault.proofs.Steps.{mark_is}
+use Rattle.dac_shapes.specs.laws.Names.{mark_is, text_is}
 use Rattle.dac_first_fault.proofs.Begun.{IsShort, words_in, by_state, by_behind, Sees, blank, chosen, weaker, shifted, and_then, token_then, token_behind}
 
 abbrev Skipped : (List Word → Type 0) → List Word → Result (Located × State) ConfigFault → Type 0
@@ -23,13 +23,6 @@ some_token = (record { word = End; at = 0 }, blank)
 
 abbrev AreTexts : List Word → Type 0
 AreTexts words = All (λ word. word ≡ Text) words
-
-pub text_is : (w : Word) → is_text w ≡ true → w ≡ Text
-text_is Text e = refl
-text_is (Punctuation x) e = absurd cc
-text_is (Name name) e = absurd cc
-text_is (Number negative digits) e = absurd cc
-text_is End e = absurd cc
 
 none_texts : (own : List Word) → own ≡ [] → AreTexts own
 none_texts own e = subst AreTexts (sym e) (All-nil (λ word. word ≡ Text))

@@ -23,12 +23,13 @@ use Rattle.dac_shapes.specs.laws.Splits.{at, ended}
 use Rattle.dac_shapes.specs.laws.AgainSections.{sections_again, sections_met}
 use Rattle.dac_first_fault.specs.FirstFault.{IsLocatedAt, Itself, InList, InTuple, words, CanBegin, CanCause, Only, Before, IsOfName, Breaks, NoKind, CanBeginLoosely, Spoils, Brings, IsWell, IsFileWithinLimits, IsNoName, apps_in, BeginsWith, IsFaultOf, Long, NoToken, Token, Ends, Nobody}
 use Rattle.dac_first_fault.proofs.Outcomes.{Took, Failed, Asked, Takes, Always, Plain, Gives}
-use Rattle.dac_first_fault.proofs.Steps.{mark_is, symbol_yes, symbol_no, symbol_none, symbol_end}
+use Rattle.dac_first_fault.proofs.Steps.{symbol_yes, symbol_no, symbol_none, symbol_end}
 use Rattle.dac_first_fault.proofs.Sections.{sections_reader}
 use Rattle.dac_first_fault.proofs.Begun.{halt, by_pair}
 use Rattle.dac_first_fault.proofs.Held.{Quieted, IsQuiet, QuietBehind, Stops, Lone, Had, Holds}
 use Rattle.dac_first_fault.proofs.HeldSections.{AreSections, sections_held}
 use Rattle.dac_shapes.specs.laws.Again.{Unkept, Nowhere, fine_nowhere, Fine, fine_front, Met}
+use Rattle.dac_shapes.specs.laws.Names.{mark_is}
 use Rattle.dac_first_fault.proofs.Spared.{Strict, sections_so, strictly_so}
 use Rattle.dac_first_fault.proofs.Loosely.{file_strict}
 use Rattle.dac_first_fault.proofs.Order.{words_append}

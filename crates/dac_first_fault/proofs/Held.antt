@@ -14,8 +14,8 @@ use Rattle.dac_shapes.specs.Limits.{Seen, AllMay, steps}
 use Rattle.dac_shapes.specs.Shape.{State, fails, is_symbol, token, symbol_at, more_at, comma_list, list_of, pair_at, closed, room}
 use Rattle.dac_shapes.specs.Grammar.{Parted, IsListOf}
 use Rattle.dac_shapes.specs.laws.Splits.{at}
+use Rattle.dac_shapes.specs.laws.Names.{mark_is}
 use Rattle.dac_first_fault.specs.FirstFault.{rank}
-use Rattle.dac_first_fault.proofs.Steps.{mark_is}
 use Rattle.dac_first_fault.proofs.Lists.{regroup}
 use Rattle.dac_first_fault.proofs.Begun.{halt, words_in, Begun, Via, by_pair}
 

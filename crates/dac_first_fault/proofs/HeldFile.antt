@@ -14,7 +14,7 @@ use Rattle.dac_shapes.specs.Shape.{State, fails, is_symbol, token, symbol_at, li
 use Rattle.dac_shapes.specs.laws.Splits.{at}
 use Rattle.dac_shapes.specs.Grammar.{IsFile}
 use Rattle.dac_shapes.specs.Loose.{IsLooseFile}
-use Rattle.dac_first_fault.proofs.Steps.{mark_is}
+use Rattle.dac_shapes.specs.laws.Names.{mark_is}
 use Rattle.dac_first_fault.proofs.Begun.{halt, Begun, words_in, by_pair}
 use Rattle.dac_first_fault.proofs.Spared.{Strict, Free, no_limit}
 use Rattle.dac_first_fault.proofs.Loosely.{file_strict}

@@ -13,23 +13,17 @@ use Rattle.dac_tokens.specs.declared.token.Symbol.TheVariants.{OpenList, CloseLi
 use Rattle.dac_tokens.specs.Gives.{◌>>=◌}
 use Rattle.dac_tokens.specs.Words.{Word, Punctuation, Name, Number, Text, End, Located}
 use Rattle.dac_shapes.specs.Written.{App, Permission}
-use Rattle.dac_shapes.specs.Limits.{Seen, nothing, is_among, with_name, with_node, with_nodes, with_groups, listing, with_app, with_permission, AllMay, steps, NodeKeeps, NodesKeep, GroupsKeep, AppKeeps, PermissionKeeps}
+use Rattle.dac_shapes.specs.Limits.{Seen, nothing, is_among, with_name, with_node, with_nodes, with_groups, listing, with_list, with_app, with_permission, AllMay, steps, NodeKeeps, NodesKeep, GroupsKeep, ListKeeps, AppKeeps, PermissionKeeps}
 use Rattle.dac_tokens.specs.Digits.{value_from}
 use Rattle.dac_shapes.specs.Shape.{State, fails, is_symbol, token, symbol_at, atom_of, short_name_of, milliseconds_of, flag_of, app_name_of, node_of, names_at, item_at, items_at, groups_at, timeout_at, app_value_at, app_at, permission_value_at, permission_at, closed, room}
 use Rattle.dac_shapes.specs.Grammar.{Parted, IsNode, IsMs, IsFlag, IsPermission, IsTimeout, IsAppValue, IsApp}
 use Rattle.dac_shapes.specs.Loose.{IsLooseItem, IsLooseNodeList, IsLooseMs, loose}
 use Rattle.dac_shapes.specs.laws.Splits.{at}
-use Rattle.dac_shapes.specs.laws.Names.{is_named}
-use Rattle.dac_first_fault.proofs.Steps.{mark_is}
+use Rattle.dac_shapes.specs.laws.Names.{unless_first, zero_is, mark_is, is_named}
 use Rattle.dac_first_fault.proofs.Readers.{not_negative}
 use Rattle.dac_first_fault.proofs.Begun.{halt, Begun, Via, words_in, by_pair, pair_is, pair_begins, pair_some}
 use Rattle.dac_first_fault.proofs.Spared.{Free, node_so, nodes_so, groups_so}
 use Rattle.dac_first_fault.proofs.Held.{Goes, or_begun, words, IsQuiet, Held, Frees, Stops, QuietBehind, but_one, Alone, Over, IsOver, Holds, Shows, shows_then, shows_if, Unfit, spoilt, broken, held_if, held_to, held_then, held_look, behind_mark, behind_names, token_held, symbol_held, Taken, IsHeldRun, list_held, IsHeldClosed, closed_held, pair_held}
-
-not_less : (c d : Bool) (v : ℕ) → c ≡ true → (c && not d) ≡ false → (d ≡ true → v ≡ 0) → v ≡ 0
-not_less true true v e f z = z refl
-not_less true false v e f z = absurd cc
-not_less false d v e f z = absurd cc
 
 module _ (Marks : Type 0) (bad : ℕ) (Bound : FaultKind → Type 0) (mode : Marks ⊎ Free Bound) where
   -- a function applied to the item that was read
@@ -113,7 +107,7 @@ module _ (Marks : Type 0) (bad : ℕ) (Bound : FaultKind → Type 0) (mode : Mar
   ms_shows Q offset negative digits spoils =
       let v = value_from 0 digits in
       shows_if Marks bad Bound Q (IsMs (Number negative digits)) (negative && not (eqb v 0)) (fails BadShape offset) (cond (ltb v 4294967296) (Ok v) (fails NumberTooLarge offset)) (λ below h. absurd h)
-      (λ above. shows_if Marks bad Bound Q (IsMs (Number negative digits)) (ltb v 4294967296) (Ok v) (fails NumberTooLarge offset) (λ small. (negative, digits, refl, refl, ltb-true v 4294967296 small, λ n. not_less negative (eqb v 0) v n above (λ z. eqb-true v 0 z)))
+      (λ above. shows_if Marks bad Bound Q (IsMs (Number negative digits)) (ltb v 4294967296) (Ok v) (fails NumberTooLarge offset) (λ small. (negative, digits, refl, refl, ltb-true v 4294967296 small, λ n. zero_is negative (eqb v 0) v n above (λ z. eqb-true v 0 z)))
       (λ large h. let least = ltb-false v 4294967296 large in spoils (not_negative negative v above least) least h))
 
   -- a name of at most MAX_NAME bytes, or a longer one that breaks the limit
@@ -146,10 +140,6 @@ module _ (Marks : Type 0) (bad : ℕ) (Bound : FaultKind → Type 0) (mode : Mar
       (λ few. record { is = k.0; short = λ b. k.1; once = λ b. once; few = λ b new. leb-false 64 (length before) few })))
 
   -- ---- nodes
-
-  unless_first : (a b : Bool) → (not a && b) ≡ false → a ≡ false → b ≡ false
-  unless_first true b e f = absurd cc
-  unless_first false b e f = e
 
   pub node_held : (repeats : Bool) (t : Located) (s : State) → Alone Marks bad Bound t s.left.tokens → IsOver Marks bad Bound s → Holds Marks bad Bound by_pair (Taken IsNode (NodeKeeps Bound repeats) with_node s.seen) (t.word ∷ words_in s) (node_of repeats t s)
   unfolding node_of
@@ -217,18 +207,11 @@ module _ (Marks : Type 0) (bad : ℕ) (Bound : FaultKind → Type 0) (mode : Mar
   some_item : Marks ⊎ ((before : List (List (List ℕ))) (seen : Seen) → Begun (Item seen) [])
   some_item = or_begun mode (λ free before seen. record { more = Name [] ∷ []; x = ([] ∷ [], at (Err halt) [] (with_node seen [])); is = (inl (inl ([], refl, refl)), nodes_so Bound free false seen ([] ∷ []), refl) })
 
-  -- a node list begins with no names listed
-  abbrev with_list : Seen → List (List (List ℕ)) → Seen
-  with_list seen groups = with_groups (listing seen) groups
-
-  abbrev MayList : Seen → List (List (List ℕ)) → Type 0
-  MayList seen groups = GroupsKeep Bound (listing seen) groups
-
   abbrev NodeList : Seen → List Word → List (List (List ℕ)) × State → Type 0
-  NodeList seen own x = Taken (IsLooseNodeList Bound) MayList with_list seen own x
+  NodeList seen own x = Taken (IsLooseNodeList Bound) (ListKeeps Bound) with_list seen own x
 
-  in_list : (seen : Seen) (vs : List Word) (ys : List (List (List ℕ)) × State) (xs : List (List (List ℕ))) (inner : List Word) → vs ≡ inner ++ Punctuation CloseList ∷ [] → ys.0 ≡ xs → Parted (IsLooseItem Bound) inner xs → MayList seen xs → ys.1.seen ≡ with_list seen xs → NodeList seen (Punctuation OpenList ∷ vs) ys
-  in_list seen vs ys xs inner e f p all after = subst (λ (l : List (List (List ℕ))). IsLooseNodeList Bound (Punctuation OpenList ∷ vs) l × MayList seen l × (ys.1.seen ≡ with_list seen l)) (sym f) (inl (inner, ap (λ (l : List Word). Punctuation OpenList ∷ l) e, p), all, after)
+  in_list : (seen : Seen) (vs : List Word) (ys : List (List (List ℕ)) × State) (xs : List (List (List ℕ))) (inner : List Word) → vs ≡ inner ++ Punctuation CloseList ∷ [] → ys.0 ≡ xs → Parted (IsLooseItem Bound) inner xs → ListKeeps Bound seen xs → ys.1.seen ≡ with_list seen xs → NodeList seen (Punctuation OpenList ∷ vs) ys
+  in_list seen vs ys xs inner e f p all after = subst (λ (l : List (List (List ℕ))). IsLooseNodeList Bound (Punctuation OpenList ∷ vs) l × ListKeeps Bound seen l × (ys.1.seen ≡ with_list seen l)) (sym f) (inl (inner, ap (λ (l : List Word). Punctuation OpenList ∷ l) e, p), all, after)
 
   abbrev InList : Seen → List Word → List (List (List ℕ)) × State → Type 0
   InList seen vs x = NodeList seen (Punctuation OpenList ∷ vs) x
@@ -292,7 +275,7 @@ module _ (Marks : Type 0) (bad : ℕ) (Bound : FaultKind → Type 0) (mode : Mar
       abbrev app_with : ℕ → List (List (List ℕ)) → App
       app_with n groups = record { name = name; timeout = n; groups = groups }
 
-      may_app : (n : ℕ) (groups : List (List (List ℕ))) → MayList seen groups → AppKeeps Bound before seen (app_with n groups)
+      may_app : (n : ℕ) (groups : List (List (List ℕ))) → ListKeeps Bound seen groups → AppKeeps Bound before seen (app_with n groups)
       may_app n groups may = record { short = fine.short; once = fine.once; few = fine.few; nodes = may }
 
       -- its only node is one that is allowed at the start of any list

@@ -19,10 +19,10 @@ use Rattle.dac_shapes.specs.Shape.{State, fails, is_symbol, is_text, token, room
 use Rattle.dac_shapes.specs.Grammar.{IsListOf, IsNode, IsMs, IsPermission, IsApp, IsWait, IsParam, IsSection}
 use Rattle.dac_shapes.specs.Loose.{loose}
 use Rattle.dac_shapes.specs.laws.Splits.{at}
-use Rattle.dac_shapes.specs.laws.Names.{is_named, param_is, same_seen}
+use Rattle.dac_shapes.specs.laws.Names.{text_is, unknown_is, is_named, param_is, same_seen}
 use Rattle.dac_first_fault.proofs.Begun.{halt, Halts, Begun, words_in, by_pair, by_state, Sees, pair_of, pair_is, pair_begins, pair_some}
 use Rattle.dac_first_fault.proofs.Spared.{Free}
-use Rattle.dac_first_fault.proofs.BegunTerms.{text_is, IsPassed, passed_sees, a_term}
+use Rattle.dac_first_fault.proofs.BegunTerms.{IsPassed, passed_sees, a_term}
 use Rattle.dac_first_fault.proofs.Held.{or_begun, words, Held, all_kept, Stops, QuietBehind, Alone, Lone, Over, IsOver, Holds, Shows, shows_then, shows_if, Unfit, spoilt, held_if, held_to, held_look, token_held, Taken, IsHeldList, bracketed_held, IsHeldClosed, closed_held, pair_held}
 use Rattle.dac_first_fault.proofs.HeldReaders.{made_held, Good, good_nothing, good_steps, good_nodes, good_app, atom_shows, ms_shows, node_held, some_node, Any, free_good, app_held, some_app, permission_held, some_permission}
 
@@ -30,16 +30,6 @@ use Rattle.dac_first_fault.proofs.HeldReaders.{made_held, Good, good_nothing, go
 abbrev IsFor : List ℕ → Option ParamName → Type 0
 IsFor name (Some known) = name ≡ spelled known
 IsFor name None = (known : ParamName) → name ≢ spelled known
-
-unknown_is : (name : List ℕ) → param_named name ≡ None → (known : ParamName) → name ≢ spelled known
-unknown_is name e known same = absurd (no_name known (sym (ap param_named same) ∙ e))
-  where
-    no_name : (p : ParamName) → param_named (spelled p) ≡ None → ⊥
-    no_name named.Distributed h = absurd cc
-    no_name named.Permissions h = absurd cc
-    no_name named.Mandatory h = absurd cc
-    no_name named.Optional h = absurd cc
-    no_name named.Timeout h = absurd cc
 
 no_kernel : (name : List ℕ) → bytes_eq name (codes "kernel") ≡ false → name ≢ codes "kernel"
 no_kernel name other same = let wrong : true ≡ false = ap (λ (n : List ℕ). bytes_eq n (codes "kernel")) (sym same) ∙ other in cc

@@ -14,10 +14,11 @@ use Rattle.dac_shapes.specs.Limits.{Seen, is_among, with_node, listing}
 use Rattle.dac_tokens.specs.Digits.{value_from}
 use Rattle.dac_shapes.specs.Shape.{State, fails, is_symbol, token, symbol_at, atom_of, short_name_of, milliseconds_of, wait_of, flag_of, app_name_of, node_of, names_at, item_at, items_at, groups_at, timeout_at, app_value_at, app_at, permission_value_at, permission_at, closed}
 use Rattle.dac_shapes.specs.laws.Splits.{at}
+use Rattle.dac_shapes.specs.laws.Names.{mark_is}
 use Rattle.dac_first_fault.specs.FirstFault.{IsShortName, Itself, InList, InTuple}
 use Rattle.dac_first_fault.proofs.Outcomes.{Failed, Asked, further, wants_further, Always, Plain, Reader, Gives, IsReader, Wanting, made}
 use Rattle.dac_first_fault.proofs.Alike.{same_reader, alike}
-use Rattle.dac_first_fault.proofs.Steps.{first_goes, first_taken, first_fails, wants_token, Here, here_ok, here_fails, here_if, here_then, IsLook, look_only, symbol_then, closed_reader, pair_reader, pair_end, mark_is}
+use Rattle.dac_first_fault.proofs.Steps.{first_goes, first_taken, first_fails, wants_token, Here, here_ok, here_fails, here_if, here_then, IsLook, look_only, symbol_then, closed_reader, pair_reader, pair_end}
 use Rattle.dac_first_fault.proofs.Lists.{regroup, as_list, whole_end}
 
 -- ---- one token's contents

@@ -4,13 +4,14 @@ use Rattle.std.specs.Str.{bytes_eq}
 use Rattle.dac_tokens.specs.declared.fault.ConfigFault.{ConfigFault}
 use Rattle.dac_tokens.specs.declared.fault.FaultKind.TheVariants.{BadShape, Unsupported}
 use Rattle.dac_tokens.specs.Gives.{◌>>=◌}
-use Rattle.dac_tokens.specs.Words.{Word, Punctuation, Name, Number, Text, End, Located}
+use Rattle.dac_tokens.specs.Words.{End, Located}
 use Rattle.dac_shapes.specs.declared.param.ParamName.{ParamName}
 use Rattle.dac_shapes.specs.declared.param.ParamName.TheVariants as named
 use Rattle.dac_shapes.specs.Written.{Param, Distributed, Permissions, Mandatory, Optional, Timeout, Section, Kernel}
 use Rattle.dac_shapes.specs.Limits.{Seen, has_kernel}
 use Rattle.dac_shapes.specs.Shape.{State, fails, is_text, token, atom_of, list_of, app_at, permission_at, node_of, wait_of, param_named, first_param, param_name_of, param_value_at, param_rest_at, param_at, names_kernel, kernel_at, section_rest_at, section_at, pair_at}
 use Rattle.dac_shapes.specs.laws.Splits.{at}
+use Rattle.dac_shapes.specs.laws.Names.{text_is}
 use Rattle.dac_first_fault.specs.FirstFault.{Itself}
 use Rattle.dac_first_fault.proofs.Outcomes.{Asked, Always, Plain, Reader, Gives, IsReader, Wanting, made}
 use Rattle.dac_first_fault.proofs.Alike.{alike}
@@ -76,13 +77,6 @@ section_rest_reader : (is : Bool) → IsReader (section_rest_at is)
 unfolding section_rest_at
 section_rest_reader true us seen = closed_reader kernel_at kernel_reader us seen
 section_rest_reader false us seen = passing_reader Section.Other us seen
-
-text_is : (w : Word) → is_text w ≡ true → w ≡ Text
-text_is Text e = refl
-text_is (Punctuation symbol) e = absurd cc
-text_is (Name name) e = absurd cc
-text_is (Number negative digits) e = absurd cc
-text_is End e = absurd cc
 
 module _ (before : List Section) where
   abbrev pair : Located → State → Result (Section × State) ConfigFault

@@ -1,14 +1,14 @@
 -- Readers of single tokens, and the readings after them.
-use Rattle.std.proofs.Common.{◌≡◌, Bool, true, false, cond, eqb, List, [], ◌∷◌, Result, Ok, Err, refl, sym, ap, subst, ◌∙◌, arith}
+use Rattle.std.proofs.Common.{◌≡◌, Bool, true, false, cond, List, [], ◌∷◌, Result, Ok, Err, refl, sym, ap, subst, ◌∙◌, arith}
 use Rattle.dac_tokens.specs.declared.fault.ConfigFault.{ConfigFault}
 use Rattle.dac_tokens.specs.declared.fault.FaultKind.{FaultKind}
 use Rattle.dac_tokens.specs.declared.fault.FaultKind.TheVariants.{BadShape}
 use Rattle.dac_tokens.specs.declared.token.Symbol.{Symbol}
-use Rattle.dac_tokens.specs.declared.token.Symbol.TheVariants.{OpenList, CloseList, OpenTuple, CloseTuple, Comma, FullStop}
+use Rattle.dac_tokens.specs.declared.token.Symbol.TheVariants.{OpenTuple, CloseTuple, Comma}
 use Rattle.dac_tokens.specs.Gives.{◌>>=◌}
-use Rattle.dac_tokens.specs.Words.{Word, Punctuation, Name, Number, Text, End, Located}
+use Rattle.dac_tokens.specs.Words.{End, Located}
 use Rattle.dac_shapes.specs.Limits.{Seen}
-use Rattle.dac_shapes.specs.Shape.{State, fails, byte_of, is_symbol, token, symbol_at, pair_at, closed}
+use Rattle.dac_shapes.specs.Shape.{State, fails, is_symbol, token, symbol_at, pair_at, closed}
 use Rattle.dac_shapes.specs.laws.Splits.{at}
 use Rattle.dac_first_fault.specs.FirstFault.{IsLocatedAt, Itself, CanCause}
 use Rattle.dac_first_fault.proofs.Outcomes.{Took, Failed, Asked, further, Always, Plain, Reader, Gives, IsReader, Wanting, then}
@@ -74,22 +74,6 @@ module _ {K A : Type 0} (g : Located → Result K ConfigFault) (is : IsLook g) (
       first_taken (λ s. token s >>= λ q. g q.0 >>= λ k. next k q.1) t b seen (x k) seen (λ last rest. ap (λ r. r >>= λ k. next k (at last rest seen)) e ∙ is k (at last rest seen)))
 
 -- ---- one symbol
-
-same_byte : (x y : Symbol) → eqb (byte_of x) (byte_of y) ≡ true → y ≡ x
-same_byte OpenList OpenList e = refl
-same_byte CloseList CloseList e = refl
-same_byte OpenTuple OpenTuple e = refl
-same_byte CloseTuple CloseTuple e = refl
-same_byte Comma Comma e = refl
-same_byte FullStop FullStop e = refl
-same_byte _ _ e = absurd cc
-
-pub mark_is : (x : Symbol) (w : Word) → is_symbol x w ≡ true → w ≡ Punctuation x
-mark_is x (Punctuation y) e = ap Punctuation (same_byte x y e)
-mark_is x (Name name) e = absurd cc
-mark_is x (Number negative digits) e = absurd cc
-mark_is x Text e = absurd cc
-mark_is x End e = absurd cc
 
 pub symbol_yes : (x : Symbol) (t : Located) (last : Result Located ConfigFault) (rest : List Located) (seen : Seen) → is_symbol x t.word ≡ true → symbol_at x (at last (t ∷ rest) seen) ≡ Ok (at last rest seen)
 unfolding symbol_at

@@ -1,16 +1,16 @@
 -- Soundness of the parser for tokens, lists, pairs and terms: their words are in the grammar, and their names are
 -- allowed.
-use Rattle.std.proofs.Common.{◌≡◌, Bool, true, false, cond, eqb, List, [], ◌∷◌, ◌++◌, map, Result, Ok, Err, refl, sym, ap, subst, ◌∙◌, append_assoc, inl, inr, ℕ, zero, suc, ◌⊎◌, IfOk, All}
+use Rattle.std.proofs.Common.{◌≡◌, Bool, true, false, cond, List, [], ◌∷◌, ◌++◌, map, Result, Ok, Err, refl, sym, ap, subst, ◌∙◌, append_assoc, inl, inr, ℕ, zero, suc, ◌⊎◌, IfOk, All}
 use Rattle.std.proofs.lemmas.List.Elements.{All-nil, All-cons}
 use Rattle.dac_tokens.specs.declared.fault.ConfigFault.{ConfigFault}
 use Rattle.dac_tokens.specs.declared.token.Symbol.{Symbol}
-use Rattle.dac_tokens.specs.declared.token.Symbol.TheVariants.{OpenList, CloseList, OpenTuple, CloseTuple, Comma, FullStop}
+use Rattle.dac_tokens.specs.declared.token.Symbol.TheVariants.{OpenList, CloseList, OpenTuple, CloseTuple, Comma}
 use Rattle.dac_tokens.specs.declared.fault.FaultKind.TheVariants.{BadShape}
 use Rattle.dac_tokens.specs.Gives.{◌>>=◌}
 use Rattle.dac_tokens.specs.Words.{Word, Punctuation, End, Located, is_end, Name, Number, Text}
 use Rattle.dac_tokens.specs.Stream.{Stream, taken, taken_of}
-use Rattle.dac_shapes.specs.Shape.{State, fails, byte_of, is_symbol, token, symbol_at, more_at, comma_list, list_of, pair_at, closed, room, is_text, terms_at, terms_in, texts_at, term_by, term_at, passed_at}
-use Rattle.dac_shapes.specs.laws.Names.{chosen}
+use Rattle.dac_shapes.specs.Shape.{State, fails, is_symbol, token, symbol_at, more_at, comma_list, list_of, pair_at, closed, room, is_text, terms_at, terms_in, texts_at, term_by, term_at, passed_at}
+use Rattle.dac_shapes.specs.laws.Names.{chosen, mark_is, text_is}
 use Rattle.dac_shapes.specs.Limits.{Seen, AllMay, steps}
 use Rattle.dac_shapes.specs.Grammar.{Parted, PartedOrNone, IsListOf, between, AreBrackets, IsTerm, AreTerms, OfList, OfTuple, Atom, Integer, Strings, Empty, Between, One, More}
 
@@ -91,19 +91,6 @@ word_passes s t u w well e is more = record {
   well = same_last s t u well e;
   seen = (token_is s t u e).1;
 }
-
-same_byte : (x y : Symbol) → eqb (byte_of x) (byte_of y) ≡ true → y ≡ x
-same_byte OpenList OpenList e = refl
-same_byte CloseList CloseList e = refl
-same_byte OpenTuple OpenTuple e = refl
-same_byte CloseTuple CloseTuple e = refl
-same_byte Comma Comma e = refl
-same_byte FullStop FullStop e = refl
-same_byte _ _ e = absurd cc
-
-pub mark_is : (x : Symbol) (w : Word) → is_symbol x w ≡ true → w ≡ Punctuation x
-mark_is x (Punctuation y) e = ap Punctuation (same_byte x y e)
-mark_is x _ e = absurd cc
 
 pub symbol_passes : (x : Symbol) (s u : State) → EndsWell s → symbol_at x s ≡ Ok u → Passes s (Punctuation x ∷ []) u
 unfolding symbol_at
@@ -354,10 +341,6 @@ taken_before Is s b v t u well e k = record {
 
 abbrev AreTexts : List Word → Type 0
 AreTexts words = All (λ word. word ≡ Text) words
-
-text_is : (w : Word) → is_text w ≡ true → w ≡ Text
-text_is Text e = refl
-text_is _ e = absurd cc
 
 texts_found : (n : ℕ) (s : State) (t : Located) (u : State) → EndsWell s → texts_at n s ≡ Ok (t, u) → Jumps AreTexts s t u
 unfolding texts_at

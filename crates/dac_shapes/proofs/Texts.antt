@@ -17,16 +17,16 @@ use Rattle.dac_shapes.specs.declared.draft.SyncWait.TheVariants.{Ms}
 use Rattle.dac_shapes.specs.declared.param.ParamName.{ParamName}
 use Rattle.dac_shapes.specs.declared.param.ParamName.TheVariants as named
 use Rattle.dac_shapes.specs.Written.{App, Permission, Param, Distributed, Permissions, Mandatory, Optional, Timeout, Section, Kernel, name_of, spelled, Written, written}
-use Rattle.dac_shapes.specs.Limits.{Seen, AllMay, steps, is_among, has_param, with_node, NodeKeeps, with_nodes, NodesKeep, with_groups, GroupsKeep, listing, with_app, AppKeeps, with_permission, PermissionKeeps, with_param, ValueKeeps, ParamKeeps, has_kernel, with_section, SectionKeeps, nothing, Every}
+use Rattle.dac_shapes.specs.Limits.{Seen, AllMay, steps, is_among, has_param, with_node, NodeKeeps, with_nodes, NodesKeep, ListKeeps, listing, with_list, with_app, AppKeeps, with_permission, PermissionKeeps, with_param, ValueKeeps, ParamKeeps, has_kernel, with_section, SectionKeeps, nothing, Every}
 use Rattle.dac_shapes.specs.Shape.{State, fails, is_symbol, token, atom_of, short_name_of, node_of, names_at, item_at, groups_at, milliseconds_of, timeout_at, wait_of, app_name_of, app_value_at, app_at, flag_of, permission_value_at, permission_at, param_named, first_param, param_name_of, param_value_at, param_rest_at, param_at, names_kernel, kernel_at, section_rest_at, section_at, closed, list_of, room, end_at, file_at}
 use Rattle.dac_shapes.specs.Grammar.{between, IsListOf, IsNode, IsItem, IsNodeList, IsMs, IsFlag, IsPermission, strict, IsTimeout, IsApp, IsWait, IsParam, IsSection, IsFile, IsTextOf}
-use Rattle.dac_shapes.specs.laws.Names.{chosen, is_named, same_seen, param_is}
+use Rattle.dac_shapes.specs.laws.Names.{chosen, unless_first, zero_is, mark_is, is_named, same_seen, param_is, unknown_is}
 use Rattle.dac_shapes.specs.declared.draft.Draft.{Draft}
 use Rattle.dac_shapes.specs.Within.{nodes_in, AreWithinLimits}
 use Rattle.dac_shapes.specs.Views.{draft_of}
 use Rattle.dac_shapes.specs.laws.Splits.{ended, at, symbol_again}
 use Rattle.dac_shapes.specs.laws.AgainSections.{sections_again}
-use Rattle.dac_shapes.proofs.Found.{bind_ok, held, required, passed, ok_is, words_in, EndsWell, Moves, Moves-then, same_last, token_is, token_moves, word_passes, mark_is, symbol_passes, back, still_well, Reads, Gets, token_then, list_found, bracketed_found, pair_begun, pair_words, closed_found, pair_found, passed_found}
+use Rattle.dac_shapes.proofs.Found.{bind_ok, held, required, passed, ok_is, words_in, EndsWell, Moves, Moves-then, same_last, token_is, token_moves, word_passes, symbol_passes, back, still_well, Reads, Gets, token_then, list_found, bracketed_found, pair_begun, pair_words, closed_found, pair_found, passed_found}
 use Rattle.dac_shapes.proofs.Loops.{at_start}
 use Rattle.dac_shapes.proofs.Within.{within_from, may_from, seen_is}
 
@@ -44,11 +44,6 @@ short_name_is t name e =
     let p = passed (ltb 255 (length b.0)) _ (Ok b.0) name b.2 in
     let q = ok_is b.0 name p.1 in
     (atom_is t.word t.at b.0 b.1 ∙ ap Name q, omega (arith, ltb-false 255 (length b.0) p.0, ap length q))
-
--- a failed conjunction fails in its second part if the first holds
-unless_first : (a b : Bool) → (not a && b) ≡ false → a ≡ false → b ≡ false
-unless_first true b e f = absurd cc
-unless_first false b e f = e
 
 pub node_found : (repeats : Bool) (before : List (List ℕ)) (t : Located) (s : State) (name : List ℕ) (u : State) → EndsWell s → node_of repeats t s ≡ Ok (name, u) → Reads IsNode with_node (NodeKeeps Every repeats) t s name u
 unfolding node_of
@@ -104,14 +99,7 @@ item_found before t s group u well e =
           subst (λ (p : List (List ℕ) × State). Reads IsItem with_nodes (NodesKeep Every false) t s p.0 p.1) (ok_is (k.0.0 ∷ [], k.0.1) (group, u) k.2) (record { ws = r.ws; is = inl (k.0.0, r.is, refl); moves = r.moves; begun = r.begun; may = (r.may, tt); seen = r.seen })
     ]
 
--- a node list begins with no names listed
-abbrev pub with_list : Seen → List (List (List ℕ)) → Seen
-with_list seen groups = with_groups (listing seen) groups
-
-abbrev pub MayList : Seen → List (List (List ℕ)) → Type 0
-MayList seen groups = GroupsKeep Every (listing seen) groups
-
-pub groups_found : (t : Located) (s : State) (groups : List (List (List ℕ))) (u : State) → EndsWell s → groups_at t s ≡ Ok (groups, u) → Reads IsNodeList with_list MayList t s groups u
+pub groups_found : (t : Located) (s : State) (groups : List (List (List ℕ))) (u : State) → EndsWell s → groups_at t s ≡ Ok (groups, u) → Reads IsNodeList with_list (ListKeeps Every) t s groups u
 unfolding groups_at
 groups_found t s groups u well e =
     let fresh : State → State = λ v. record v { seen = listing v.seen } in
@@ -121,12 +109,12 @@ groups_found t s groups u well e =
     let p = passed _ _ _ _ k.2 in
     let l = list_found IsItem (λ _. item_at) CloseList with_nodes (λ _. NodesKeep Every false) item_found (room (fresh k.0.1)) [] k.0.0 (fresh k.0.1) groups u (same_last s k.0.0 k.0.1 well k.1) p.1 in
     let same : k.0.1.seen ≡ s.seen = (token_is s k.0.0 k.0.1 k.1).1 in
-    subst (λ (g : List (List (List ℕ))). Reads IsNodeList with_list MayList t s g u) (sym l.whole) (record {
+    subst (λ (g : List (List (List ℕ))). Reads IsNodeList with_list (ListKeeps Every) t s g u) (sym l.whole) (record {
       ws = between OpenList l.ws CloseList;
       is = (l.ws, refl, l.is);
       moves = opened_by t (Punctuation OpenList) s k.0.0 k.0.1 u (l.ws ++ Punctuation CloseList ∷ []) well w k.1 l.begun (record { words = l.moves.words; last = l.moves.last });
       begun = ap is_end w;
-      may = subst (λ (q : Seen). MayList q l.xs) same l.may;
+      may = subst (λ (q : Seen). ListKeeps Every q l.xs) same l.may;
       seen = l.seen ∙ ap (λ (q : Seen). with_list q l.xs) same;
     })
 
@@ -138,11 +126,6 @@ ms_is at negative digits n e =
     let p = passed (negative && not (eqb v 0)) _ (cond (ltb v 4294967296) (Ok v) (fails NumberTooLarge at)) n e in
     let h = held (ltb v 4294967296) v _ n p.1 in
     (negative, digits, refl, sym h.1, omega (arith, ltb-true v 4294967296 h.0, h.1), λ neg. sym h.1 ∙ zero_is negative (eqb v 0) v neg p.0 (λ f. eqb-true v 0 f))
-  where
-    zero_is : (b c : Bool) (v : ℕ) → b ≡ true → (b && not c) ≡ false → (c ≡ true → v ≡ 0) → v ≡ 0
-    zero_is true true v neg f z = z refl
-    zero_is true false v neg f z = absurd cc
-    zero_is false c v neg f z = absurd cc
 
 -- after the timeout, if written, the token t1 was read
 record Timed (t : Located) (s : State) (n : ℕ) (t1 : Located) (u : State) : Type 0 where
@@ -201,7 +184,7 @@ app_valued before name s app u well fine e =
       ws = moved.0 ++ list.ws;
       is = (moved.0 ++ list.ws, refl, (moved.0, list.ws, refl, moved.1, list.is));
       moves = Moves-then s (back b.0.1 b.0.2) c.0.1 moved.0 list.ws m list.moves;
-      may = record { short = λ _. fine.short; once = λ _. fine.once; few = λ _ _. fine.few; nodes = subst (λ (q : Seen). MayList q c.0.0) same list.may };
+      may = record { short = λ _. fine.short; once = λ _. fine.once; few = λ _ _. fine.few; nodes = subst (λ (q : Seen). ListKeeps Every q c.0.0) same list.may };
       seen = list.seen ∙ ap (λ (q : Seen). with_list q c.0.0) same;
     })
 
@@ -321,14 +304,6 @@ param_valued before named.Timeout s p u well once e =
       may = record { once = λ _. once_as before named.Timeout once; value = tt };
       seen = m.seen;
     })
-
--- a name other than those of the parameters that are read
-unknown_is : (name : List ℕ) → param_named name ≡ None → (known : ParamName) → name ≢ spelled known
-unknown_is name e known same = absurd (no_name known (sym (ap param_named same) ∙ e))
-  where
-    no_name : (p : ParamName) → param_named (spelled p) ≡ None → ⊥
-    no_name named.Distributed h = absurd cc
-    no_name _ h = absurd cc
 
 param_rested : (before : List Param) (k : Option ParamName) (name : List ℕ) (s : State) (p : Param) (u : State) → EndsWell s → FineParam before name k → param_rest_at k s ≡ Ok (p, u) → Gets (λ ws x. IsParam strict (pair_begun name ws) x) with_param (ParamKeeps Every before) s p u
 unfolding param_rest_at

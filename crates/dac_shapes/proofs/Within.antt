@@ -17,12 +17,9 @@ use Rattle.dac_shapes.specs.Limits.{Seen, AllMay, steps, is_among, with_name, wi
 use Rattle.dac_shapes.specs.Within.{joined, params_in, names_of_app, names_of_param, names_in, nodes_in, AreAppsWithin, IsValueWithin, AreWithinLimits, ArePermissionsWithin, IsWithinLimits}
 use Rattle.dac_shapes.specs.declared.param.ParamName.{ParamName}
 use Rattle.dac_shapes.specs.declared.param.ParamName.TheVariants as named
-use Rattle.dac_shapes.specs.Written.{App, Permission, Param, Distributed, Permissions, Mandatory, Optional, Section, Kernel, name_of, Timeout, Written, unsaid, put, put_all, put_section}
+use Rattle.dac_shapes.specs.Written.{App, Permission, Param, Distributed, Permissions, Mandatory, Optional, Section, Kernel, name_of, Timeout, Written, unsaid, put, put_all}
+use Rattle.dac_shapes.specs.laws.Params.{each_append, put_params, nodes_stay}
 use Rattle.dac_shapes.specs.Grammar.{Parted, IsListOf, IsNode, IsItem, strict, IsApp, IsParam, IsSection, IsTextOf}
-
-pub each_append : {A : Type 0} (P : A → Type 0) (xs ys : List A) → Each P xs → Each P ys → Each P (xs ++ ys)
-each_append P [] ys a b = b
-each_append P (x ∷ xs) ys a b = (a.0, each_append P xs ys a.1 b)
 
 pub each_left : {A : Type 0} (P : A → Type 0) (xs ys : List A) → Each P (xs ++ ys) → Each P xs
 each_left P [] ys a = tt
@@ -610,20 +607,6 @@ put_all_keeps nodes w (param ∷ params) within some named k =
     put_all_keeps nodes (put w param) params within.1 some.1 (each_right (IsOf nodes) (names_of_param param) (joined (map names_of_param params)) named)
     (put_keeps nodes w param within.0 some.0 (each_left (IsOf nodes) (names_of_param param) (joined (map names_of_param params)) named) k)
 
--- the draft of sections is the draft of their parameters
-said : (w : Written) (sections : List Section) → fold put_section w sections ≡ put_all w (params_in sections)
-said w [] = refl
-said w (Kernel params ∷ sections) = said (put_all w params) sections ∙ sym (fold-append put w params (params_in sections))
-said w (Section.Other ∷ sections) = said w sections
-
-nodes_stay : (w : Written) (params : List Param) → (put_all w params).nodes ≡ w.nodes
-nodes_stay w [] = refl
-nodes_stay w (param ∷ params) = nodes_stay (put w param) params ∙ by param
-  where
-    by : (p : Param) → (put w p).nodes ≡ w.nodes
-    by (Distributed apps) = refl
-    by _ = refl
-
 no_apps : AreAppsWithin []
 unfolding IsDistinct
 no_apps = record { few = omega arith; short = All-nil (λ app. length app.name ≤ 255); different = tt; once = All-nil (λ app. IsDistinct bytes_eq (names_of_app app)) }
@@ -659,4 +642,4 @@ put_within sections within some =
 
 pub text_within : (text : List ℕ) (w : Written) → IsTextOf text w → IsWithinLimits w
 text_within text w is =
-    subst IsWithinLimits (sym (is.says ∙ said (unsaid (nodes_in is.sections)) is.sections)) (put_within is.sections is.within (some_params is.sections (each_listed (IsSection strict) SectionHasMembers some_section is.file.0 is.sections is.file.2)))
+    subst IsWithinLimits (sym (is.says ∙ put_params (unsaid (nodes_in is.sections)) is.sections)) (put_within is.sections is.within (some_params is.sections (each_listed (IsSection strict) SectionHasMembers some_section is.file.0 is.sections is.file.2)))

@@ -87,9 +87,13 @@ with_groups seen groups = steps with_nodes seen groups
 abbrev pub listing : Seen → Seen
 listing seen = record seen { listed = [] }
 
+-- the names seen after a node list
+abbrev pub with_list : Seen → List (List (List ℕ)) → Seen
+with_list seen groups = with_groups (listing seen) groups
+
 -- the names seen after one more application
 abbrev pub with_app : Seen → App → Seen
-with_app seen app = with_groups (listing seen) app.groups
+with_app seen app = with_list seen app.groups
 
 -- the names seen after these applications
 abbrev pub with_apps : Seen → List App → Seen
@@ -130,12 +134,16 @@ module _ (Kept : FaultKind → Type 0) where
   abbrev pub GroupsKeep : Seen → List (List (List ℕ)) → Type 0
   GroupsKeep seen groups = AllMay with_nodes (λ _. NodesKeep false) [] seen groups
 
+  -- a node list in which no node occurs twice
+  abbrev pub ListKeeps : Seen → List (List (List ℕ)) → Type 0
+  ListKeeps seen groups = GroupsKeep (listing seen) groups
+
   -- An application's name has at most MAX_NAME bytes and is new; if it is new, fewer than MAX_APPS precede it.
   pub record AppKeeps (before : List App) (seen : Seen) (app : App) : Type 0 where
     pub short : Kept NameTooLong → length app.name ≤ MAX_NAME
     pub once : Kept TwiceApp → is_among app.name (map (λ a. a.name) before) ≡ false
     pub few : Kept TooManyApps → is_among app.name (map (λ a. a.name) before) ≡ false → length before < MAX_APPS
-    pub nodes : GroupsKeep (listing seen) app.groups
+    pub nodes : ListKeeps seen app.groups
 
   -- a permission's name has at most MAX_NAME bytes, whether or not an application has it
   abbrev pub PermissionKeeps : List Permission → Seen → Permission → Type 0

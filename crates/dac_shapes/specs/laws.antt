@@ -1,4 +1,5 @@
 pub mod Names
+pub mod Params
 pub mod TermCases
 pub mod Splits
 pub mod Loosely
