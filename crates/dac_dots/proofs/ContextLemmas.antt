@@ -9,6 +9,7 @@ use Rattle.std.proofs.lemmas.Cmp.{tied_itself}
 use Rattle.std.proofs.lemmas.List.{take_all}
 use Rattle.std.proofs.lemmas.List.Elements.{All-head, All-tail, All-from_recursion}
 use Rattle.std.proofs.lemmas.List.Folds.{list_any_more, list_any_at}
+use Rattle.std.proofs.Math.Bool.{or-false}
 use Rattle.dac_base.specs.declared.limits.TheConstants.{MAX_COUNTER}
 use Rattle.dac_origins.specs.Keys.{is_below_all, is_rising, IsRising, has_key}
 use Rattle.dac_origins.specs.laws.InOrder.{tie, less}
@@ -17,7 +18,7 @@ use Rattle.dac_origins.specs.laws.Dots.{dots_total, exact_dots, origins_total, e
 use Rattle.dac_origins.specs.declared.dot.Origin.{Origin}
 use Rattle.dac_origins.specs.declared.dot.Dot.{Dot}
 use Rattle.dac_dots.specs.laws.CounterLaws.{less as number_less, is_same}
-use Rattle.dac_dots.specs.laws.RowSets.{kept_are, kept_ends, some_counter, alone, IsAlone, rises_to}
+use Rattle.dac_dots.specs.laws.RowSets.{kept_are, kept_ends, some_counter, alone, IsAlone, rises_to, or_last}
 use Rattle.dac_dots.specs.Rows.{Row, dots_in, rows_of, has_counter, row_has, any_row, origins, rises_on, IsKept, HasSome, AreKept, IsLastOf, IsRowIn, IsWithinRow, EndBefore, CanFollow}
 use Rattle.dac_dots.proofs.PlaceLemmas.{contains_is, row_there, some_from, at_origin, length_origins}
 use Rattle.dac_dots.proofs.RowLemmas.{above_low}
@@ -71,23 +72,11 @@ pub union_more : (s : List Row) (t both more : Dots) (i : ℕ) (r : Row) → i <
 union_more s t both more i r p is so_far one q =
     one q
     ∙ (λ k. row_has q (is k) || so_far q k)
-    ∙ turn (row_has q (get_or s i r)) (set.contains t q) (any_row (take i s) q)
+    ∙ or_last (row_has q (get_or s i r)) (set.contains t q) (any_row (take i s) q)
     ∙ ap (λ b. set.contains t q || b) (sym (list_any_more (row_has q) s i r p))
-  where
-    turn : (a b c : Bool) → (a || (b || c)) ≡ (b || (c || a))
-    turn true true c = refl
-    turn true false true = refl
-    turn true false false = refl
-    turn false true c = refl
-    turn false false true = refl
-    turn false false false = refl
-
-pub or_none : (b : Bool) → b ≡ (b || false)
-or_none true = refl
-or_none false = refl
 
 pub union_start : (t both : Dots) → both ≡ t → (q : Dot) → set.contains both q ≡ (set.contains t q || false)
-union_start t both is q = ap (λ (s : Dots). set.contains s q) is ∙ or_none (set.contains t q)
+union_start t both is q = ap (λ (s : Dots). set.contains s q) is ∙ sym (or-false (set.contains t q))
 
 -- ---- the next dot
 
@@ -266,8 +255,7 @@ module _ (rows s : List Row) (dots : Dots) (view : dots_in rows ≡ dots) (kept 
       absurd (false≢true (sym (no_origin rows x (omega (arith, ap (λ (rows : List Row). length rows) same_rows))) ∙ ap (λ (rows : List Row). has_key origin_cmp (origins rows) x) (sym are) ∙ e))
 
 pub no_gap : (n : ℕ) (b : Bool) → b ≡ false → (1 ≤ n → b ≡ true) → n ≡ 0
-no_gap zero b e h = refl
-no_gap (suc n) b e h = absurd (false≢true (sym e ∙ h (omega arith)))
+no_gap n b e h = grind arith
 
 -- no number follows the greatest one
 pub rises_at_end : (u : ℕ) (ns : List ℕ) → (u + 1 < 2 ^ 64 → ⊥) → ((i : ℕ) → get_or ns i 0 < 2 ^ 64) → nat_eq (length ns) 0 ≡ rises_on (u + 1) ns
@@ -278,8 +266,7 @@ rises_at_end u (x ∷ ns) end fits =
     ne_eqb (length (x ∷ ns)) 0 (λ e. omega arith) ∙ sym (ap (λ b. b && rises_on x ns) (le-ltb (u + 1) x (omega arith)))
 
 pub no_counters : (o : Origin) (upto : ℕ) (further : List ℕ) → (upto ≡ 0) × (length further ≡ 0) → HasSome (record { origin = o; upto = upto; further = further }) → ⊥
-no_counters o upto further none (inl p) = let e = none.0 in omega arith
-no_counters o upto further none (inr p) = let e = none.1 in omega arith
+no_counters o upto further none p = grind arith
 
 pub some_counters : (o : Origin) (upto : ℕ) (further : List ℕ) (b : Bool) → b ≡ false → ((upto ≡ 0) × (length further ≡ 0) → b ≡ true) → HasSome (record { origin = o; upto = upto; further = further })
 some_counters o upto further b is says = elim (cases_lt 0 upto) [

@@ -5,6 +5,7 @@ use Rattle.std.specs.declared.cmp.Ordering.TheVariants.{Less}
 use Rattle.std.proofs.lemmas.Bool.{and_parts, and_from}
 use Rattle.std.proofs.lemmas.Bool.Decides.{nat_tests}
 use Rattle.std.proofs.lemmas.List.{take_all}
+use Rattle.std.proofs.Math.Bool.{or_comm}
 use Rattle.dac_origins.specs.Keys.{is_below_all, IsRising, has_key}
 use Rattle.dac_origins.specs.Dots.{dot, dot_cmp, origin_cmp}
 use Rattle.dac_origins.specs.laws.Dots.{dots_total}
@@ -17,7 +18,7 @@ use Rattle.dac_dots.specs.Rows.{Row, row_of, has_counter, row_has}
 use Rattle.dac_dots.specs.Spans.{any_span, are_apart, counters_in, span_has}
 use Rattle.dac_dots.specs.declared.spans.Span.{Span}
 use Rattle.dac_dots.proofs.RowLemmas.{seen_counter}
-use Rattle.dac_dots.proofs.SpanLemmas.{any_more, has_now}
+use Rattle.dac_dots.proofs.SpanLemmas.{any_more, has_now, further, before_next}
 
 -- ---- a dot above all in the list
 
@@ -40,9 +41,7 @@ rising_pushed ds last d h some is less = rising_at_end ds (length ds - 1) last d
 -- ---- the dots of a span, counter by counter
 
 one_put : (e t x old : Bool) → ((e && t) || ((e && x) || old)) ≡ ((e && (t || x)) || old)
-one_put false t x old = refl
-one_put true true x old = refl
-one_put true false x old = refl
+one_put e t x old = grind arith
 
 pub none_put : (o : Origin) (f : ℕ) (old : List Dot) (q : Dot) → has_key dot_cmp old q ≡ ((eq_by_cmp origin_cmp q.origin o && (nat_le f q.n && nat_lt q.n f)) || has_key dot_cmp old q)
 none_put o f old q = none (eq_by_cmp origin_cmp q.origin o) f q.n (has_key dot_cmp old q)
@@ -60,9 +59,6 @@ one_more o f l p old mid new so_far one q =
     one q ∙ (λ k. is_eq-then (origin_cmp q.origin o) (nat_cmp q.n l) k || so_far q k)
     ∙ one_put e (eq_by_cmp nat_cmp q.n l) (nat_le f q.n && nat_lt q.n l) (has_key dot_cmp old q)
     ∙ ap (λ b. (e && b) || has_key dot_cmp old q) (further f l q.n p)
-  where
-    further : (f l n : ℕ) → f ≤ l → (eq_by_cmp nat_cmp n l || (nat_le f n && nat_lt n l)) ≡ (nat_le f n && nat_lt n (l + 1))
-    further f l n p = grind (arith, nat_tests)
 
 pub all_put : (o : Origin) (f l k : ℕ) → f ≤ k → k ≡ l → (old mid new : List Dot)
     → ((q : Dot) → has_key dot_cmp mid q ≡ ((eq_by_cmp origin_cmp q.origin o && (nat_le f q.n && nat_lt q.n k)) || has_key dot_cmp old q))
@@ -72,9 +68,6 @@ all_put o f l k p is old mid new so_far one q =
     let e = eq_by_cmp origin_cmp q.origin o in
     one_more o f l (omega arith) old mid new (λ r. so_far r ∙ ap (λ (k : ℕ). (eq_by_cmp origin_cmp r.origin o && (nat_le f r.n && nat_lt r.n k)) || has_key dot_cmp old r) is) one q
     ∙ ap (λ b. (e && (nat_le f q.n && b)) || has_key dot_cmp old q) (before_next q.n l)
-  where
-    before_next : (n l : ℕ) → nat_lt n (l + 1) ≡ nat_le n l
-    before_next n l = grind (arith, nat_tests)
 
 -- ---- the dots of spans
 
@@ -94,13 +87,7 @@ span_put o spans i d p old mid new so_far one q =
     let here = span_has q.n (get_or spans i d) in
     let past = any_span (take i spans) q.n in
     one q ∙ ap (λ b. (e && here) || b) (so_far q) ∙ one_put e here past (has_key dot_cmp old q)
-    ∙ ap (λ b. (e && b) || has_key dot_cmp old q) (turn here past ∙ sym (any_more spans i d p q.n))
-  where
-    turn : (a b : Bool) → (a || b) ≡ (b || a)
-    turn true true = refl
-    turn true false = refl
-    turn false true = refl
-    turn false false = refl
+    ∙ ap (λ b. (e && b) || has_key dot_cmp old q) (or_comm here past ∙ sym (any_more spans i d p q.n))
 
 pub spans_put : (o : Origin) (spans : List Span) → are_apart 0 spans ≡ true → (now : List ℕ) → counters_in spans ≡ now → (i : ℕ) → length spans ≤ i → (old new : List Dot)
     → ((q : Dot) → has_key dot_cmp new q ≡ ((eq_by_cmp origin_cmp q.origin o && any_span (take i spans) q.n) || has_key dot_cmp old q))

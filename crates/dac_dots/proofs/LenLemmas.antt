@@ -1,5 +1,5 @@
 -- The number of dots in rows, and the list of them.
-use Rattle.std.proofs.Common.{◌≡◌, ℕ, zero, suc, ◌+◌, ◌<◌, ◌≤◌, inl, inr, Bool, true, false, cond, ◌||◌, ◌&&◌, nat_le, List, [], ◌∷◌, ◌++◌, length, take, get_or, map, refl, sym, ap, ◌∙◌, subst, arith, add-one, length-append}
+use Rattle.std.proofs.Common.{◌≡◌, ℕ, zero, suc, ◌+◌, ◌<◌, ◌≤◌, inl, inr, true, false, cond, ◌||◌, ◌&&◌, nat_le, List, [], ◌∷◌, ◌++◌, length, take, get_or, map, refl, sym, ap, ◌∙◌, subst, arith, add-one, length-append}
 use Rattle.std.specs.Ordering.{nat_cmp, eq_by_cmp, is_eq}
 use Rattle.std.specs.declared.cmp.Ordering.{Ordering}
 use Rattle.std.specs.Cmp.{IsTotalOrder}
@@ -13,6 +13,7 @@ use Rattle.std.proofs.lemmas.List.{take_all, length-map}
 use Rattle.std.proofs.lemmas.List.Concat.{flat_map-cons}
 use Rattle.std.proofs.lemmas.List.Folds.{list_any-append, list_any_more}
 use Rattle.std.proofs.lemmas.List.Sums.{sum_by-cons, sum_by_more_le}
+use Rattle.std.proofs.Math.Bool.{and-false, or_comm}
 use Rattle.dac_origins.specs.Keys.{is_below_all, is_rising, IsRising, has_key}
 use Rattle.dac_origins.specs.InOrder.{in_order}
 use Rattle.dac_origins.specs.laws.InOrder.{tie, in_order-one, below_absent}
@@ -78,11 +79,7 @@ apart_counters row is = apart-append nat_cmp (one_to row.upto) row.further (apar
 
 apart_dots : (o : Origin) (ns : List ℕ) → AreApart nat_cmp ns → AreApart dot_cmp (map (dot o) ns)
 apart_dots o [] h = tt
-apart_dots o (n ∷ ns) h = (has_dots o ns (dot o n) ∙ ap (λ b. eq_by_cmp origin_cmp o o && b) h.0 ∙ and_none (eq_by_cmp origin_cmp o o), apart_dots o ns h.1)
-  where
-    and_none : (a : Bool) → (a && false) ≡ false
-    and_none true = refl
-    and_none false = refl
+apart_dots o (n ∷ ns) h = (has_dots o ns (dot o n) ∙ ap (λ b. eq_by_cmp origin_cmp o o && b) h.0 ∙ and-false (eq_by_cmp origin_cmp o o), apart_dots o ns h.1)
 
 apart_rows : (rows : List Row) → AllByRecursion (λ row. IsKept row × HasSome row) rows → IsRising origin_cmp (origins rows) → AreApart dot_cmp (flat_map dots_in_row rows)
 unfolding dots_in_row
@@ -143,8 +140,7 @@ so_far_within rows s dots view kept same_rows i r n p is so_far =
 
 -- each row has a dot
 row_counts : (row : Row) → HasSome row → 1 ≤ row_len row
-row_counts row (inl more) = omega arith
-row_counts row (inr more) = omega arith
+row_counts row p = grind arith
 
 rows_count : (rows : List Row) → AllByRecursion (λ row. IsKept row × HasSome row) rows → length rows ≤ sum_by row_len rows
 rows_count [] each = omega arith
@@ -163,13 +159,7 @@ rows_within rows dots view kept = subst (λ n. length rows ≤ n) (len_is rows r
 pub dots_more : (s : List Row) (i : ℕ) (r : Row) (mid new : List Dot) → i < length s → r ≡ get_or s i r → ((q : Dot) → has_key dot_cmp mid q ≡ any_row (take i s) q) → ((q : Dot) → has_key dot_cmp new q ≡ (row_has q r || has_key dot_cmp mid q))
     → (q : Dot) → has_key dot_cmp new q ≡ any_row (take (i + 1) s) q
 dots_more s i r mid new p is so_far one q =
-    one q ∙ (λ k. row_has q (is k) || so_far q k) ∙ turn (row_has q (get_or s i r)) (any_row (take i s) q) ∙ sym (list_any_more (row_has q) s i r p)
-  where
-    turn : (a b : Bool) → (a || b) ≡ (b || a)
-    turn true true = refl
-    turn true false = refl
-    turn false true = refl
-    turn false false = refl
+    one q ∙ (λ k. row_has q (is k) || so_far q k) ∙ or_comm (row_has q (get_or s i r)) (any_row (take i s) q) ∙ sym (list_any_more (row_has q) s i r p)
 
 pub dots_are : (rows s : List Row) (dots : Dots) → dots_in rows ≡ dots → s ≡ rows → (i : ℕ) (ds : List Dot) → length s ≤ i → IsRising dot_cmp ds → ((q : Dot) → has_key dot_cmp ds q ≡ any_row (take i s) q) → ds ≡ in_order dots
 dots_are rows s dots view same_rows i ds end rising so_far =

@@ -2,6 +2,7 @@
 use Rattle.std.proofs.Common.{◌≡◌, false, ◌||◌, [], refl, sym, ap, ◌∙◌}
 use Rattle.std.specs.FinSet as set
 use Rattle.std.proofs.lemmas.Bool.{false≢true}
+use Rattle.std.proofs.Math.Bool.{or-false}
 use Rattle.dac_origins.specs.Dots.{Dots, dot_cmp, IsSubset}
 use Rattle.dac_origins.specs.laws.Dots.{dots_total, exact_dots}
 use Rattle.dac_origins.specs.declared.dot.Dot.{Dot}
@@ -10,7 +11,7 @@ use Rattle.dac_dots.specs.declared.context.Kept.{Kept}
 use Rattle.dac_dots.specs.declared.context.Kept.TheVariants.{Nothing}
 use Rattle.dac_dots.specs.Sharing.{dots_kept}
 use Rattle.dac_dots.proofs.PlaceLemmas.{none_in}
-use Rattle.dac_dots.proofs.ContextLemmas.{rows_are, or_none}
+use Rattle.dac_dots.proofs.ContextLemmas.{rows_are}
 
 pub no_dots : (kept : Kept) (dots : Dots) → dots_kept kept ≡ dots → kept ≡ Nothing → dots ≡ set.empty
 no_dots kept dots is none = sym is ∙ ap dots_kept none
@@ -31,7 +32,7 @@ module _ (dots : Dots) (none : dots ≡ set.empty) where
 
   pub adds_nothing_second : (other : Dots) → set.union other dots ≡ other
   adds_nothing_second other = set.same_set dots_total exact_dots (set.union other dots) other (λ q.
-      set.contains-union dots_total other dots q ∙ ap (λ b. set.contains other q || b) (lacks_each q) ∙ sym (or_none (set.contains other q)))
+      set.contains-union dots_total other dots q ∙ ap (λ b. set.contains other q || b) (lacks_each q) ∙ or-false (set.contains other q))
 
   pub has_no_rows : rows_of dots ≡ []
   has_no_rows = rows_are [] dots (none_in ∙ sym none) (record { each = tt; rising = refl })

@@ -7,6 +7,7 @@ use Rattle.std.specs.Arc.{arc_value}
 use Rattle.std.specs.declared.sync.Arc.{Arc}
 use Rattle.std.specs.List.{All, AllWithin, AllByRecursion, sum_by}
 use Rattle.std.specs.List.Sorted.{IsPartitionedBy}
+use Rattle.std.specs.Cmp.{both_ways}
 use Rattle.std.proofs.lemmas.Bool.{and_parts, and_from, or_cases, or_left, or_right, false≢true, true≢false, cases_lt}
 use Rattle.std.proofs.lemmas.Cmp.{tied_itself}
 use Rattle.std.proofs.lemmas.List.{take_all, take_more}
@@ -14,13 +15,15 @@ use Rattle.std.proofs.lemmas.List.Concat.{flat_map-append, flat_map-cons, length
 use Rattle.std.proofs.lemmas.List.Elements.{All-nil, All-cons, All-push, All-head, All-tail}
 use Rattle.std.proofs.lemmas.List.Folds.{list_any-append, list_all-append}
 use Rattle.std.proofs.lemmas.List.Sums.{sum_by-append, sum_by-cons, sum_by_more, sum_by_more_le}
+use Rattle.std.proofs.Math.Bool.{or-false, or_assoc, or_comm}
+use Rattle.std.proofs.Math.Nat.{suc-add}
 use Rattle.dac_origins.specs.Keys.{is_below_all, is_rising, IsRising, has_key}
 use Rattle.dac_origins.specs.laws.InOrder.{tie, less, below_more}
 use Rattle.dac_origins.specs.Dots.{Dots, dot, dot_cmp, origin_cmp, IsSubset, IsNext, IsUsedUp, IsVector}
 use Rattle.dac_origins.specs.laws.Dots.{dots_total, exact_dots, origins_total, exact_origins}
 use Rattle.dac_origins.specs.declared.dot.Origin.{Origin}
 use Rattle.dac_origins.specs.declared.dot.Dot.{Dot}
-use Rattle.dac_dots.specs.laws.RowSets.{absent, any_origin, both_ways, origin_has, some_counter, contains-dots_in, dots_back}
+use Rattle.dac_dots.specs.laws.RowSets.{absent, any_origin, origin_has, some_counter, contains-dots_in, dots_back}
 use Rattle.dac_dots.specs.Rows.{Row, dots_in, rows_of, has_counter, row_has, any_row, origins, AreKept, EndBefore, HasSome, IsKept, IsOne, IsRowIn, IsRowOf}
 use Rattle.dac_dots.specs.Parts.{AreParts, HaveRows, IsPartFor, IsPlaceIn, all_rows, end_before, rows_in}
 use Rattle.dac_dots.proofs.PlaceLemmas.{contains_is, one_has, some_from}
@@ -92,6 +95,14 @@ ends_earlier o (x ∷ xs) ys h some e =
 
 -- ---- the part for an origin
 
+left_below : (z : Origin) (xs ys : List Row) → is_below_all origin_cmp z (origins (xs ++ ys)) ≡ true → is_below_all origin_cmp z (origins xs) ≡ true
+left_below z [] ys h = refl
+left_below z (x ∷ xs) ys h = let parts = and_parts (is_lt (origin_cmp z x.origin)) (is_below_all origin_cmp z (origins (xs ++ ys))) h in and_from _ _ parts.0 (left_below z xs ys parts.1)
+
+left_rising : (xs ys : List Row) → IsRising origin_cmp (origins (xs ++ ys)) → IsRising origin_cmp (origins xs)
+left_rising [] ys h = refl
+left_rising (x ∷ xs) ys h = let parts = and_parts (is_below_all origin_cmp x.origin (origins (xs ++ ys))) (is_rising origin_cmp (origins (xs ++ ys))) h in and_from _ _ (left_below x.origin xs ys parts.0) (left_rising xs ys parts.1)
+
 module _ {Z : Type 0} where
   next_part : (p : Arc Dots Z) (ps : List (Arc Dots Z)) → all_rows (p ∷ ps) ≡ rows_in p ++ all_rows ps
   next_part p ps = flat_map-cons rows_in p ps
@@ -116,22 +127,14 @@ module _ {Z : Type 0} where
       ] p e in
       ends_earlier o xs (rows_in x) (rising_left xs (rows_in x) (all_rows ps) all) (All-head (λ (part : Arc Dots Z). 0 < length (rows_in part)) x ps full) own
     where
-      below_left : (z : Origin) (xs ys : List Row) → is_below_all origin_cmp z (origins (xs ++ ys)) ≡ true → is_below_all origin_cmp z (origins xs) ≡ true
-      below_left z [] ys h = refl
-      below_left z (x ∷ xs) ys h = let parts = and_parts (is_lt (origin_cmp z x.origin)) (is_below_all origin_cmp z (origins (xs ++ ys))) h in and_from _ _ parts.0 (below_left z xs ys parts.1)
-
-      left : (xs ys : List Row) → IsRising origin_cmp (origins (xs ++ ys)) → IsRising origin_cmp (origins xs)
-      left [] ys h = refl
-      left (x ∷ xs) ys h = let parts = and_parts (is_below_all origin_cmp x.origin (origins (xs ++ ys))) (is_rising origin_cmp (origins (xs ++ ys))) h in and_from _ _ (below_left x.origin xs ys parts.0) (left xs ys parts.1)
-
       rising_left : (xs ys zs : List Row) → IsRising origin_cmp (origins (xs ++ (ys ++ zs))) → IsRising origin_cmp (origins (xs ++ ys))
-      rising_left [] ys zs h = left ys zs h
+      rising_left [] ys zs h = left_rising ys zs h
       rising_left (x ∷ xs) ys zs h =
           let parts = and_parts (is_below_all origin_cmp x.origin (origins (xs ++ (ys ++ zs)))) (is_rising origin_cmp (origins (xs ++ (ys ++ zs)))) h in
           and_from _ _ (below_both x.origin xs ys zs parts.0) (rising_left xs ys zs parts.1)
         where
           below_both : (z : Origin) (xs ys zs : List Row) → is_below_all origin_cmp z (origins (xs ++ (ys ++ zs))) ≡ true → is_below_all origin_cmp z (origins (xs ++ ys)) ≡ true
-          below_both z [] ys zs h = below_left z ys zs h
+          below_both z [] ys zs h = left_below z ys zs h
           below_both z (x ∷ xs) ys zs h = let parts = and_parts (is_lt (origin_cmp z x.origin)) (is_below_all origin_cmp z (origins (xs ++ (ys ++ zs)))) h in and_from _ _ parts.0 (below_both z xs ys zs parts.1)
 
   parted_from : (o : Origin) (ps : List (Arc Dots Z)) → IsRising origin_cmp (origins (all_rows ps)) → All (λ (part : Arc Dots Z). 0 < length (rows_in part)) ps → IsPartitionedBy (λ (part : Arc Dots Z). end_before o (rows_in part)) ps
@@ -152,11 +155,7 @@ module _ {Z : Type 0} where
   at_part_from o n (x ∷ ps) zero d h p before after =
       some_part x ps (dot o n)
       ∙ ap (λ b. any_row (rows_in x) (dot o n) || b) (absent o n (all_rows ps) (above_after o (rows_in x) (all_rows ps) (rising_next x ps h) after))
-      ∙ or_none (any_row (rows_in x) (dot o n))
-    where
-      or_none : (b : Bool) → (b || false) ≡ b
-      or_none true = refl
-      or_none false = refl
+      ∙ or-false (any_row (rows_in x) (dot o n))
   at_part_from o n (x ∷ ps) (suc i) d h p before after =
       some_part x ps (dot o n)
       ∙ ap (λ b. b || any_row (all_rows ps) (dot o n)) (absent_before o n (rows_in x) (before 0 x (omega arith) (omega arith)))
@@ -230,10 +229,6 @@ before_member o (x ∷ xs) ys h e =
     let parts = and_parts (is_below_all origin_cmp x.origin (origins (xs ++ ys))) (is_rising origin_cmp (origins (xs ++ ys))) h in
     and_from _ _ (ap is_lt (below_one x.origin o ys (below_right x.origin xs ys parts.0) e)) (before_member o xs ys parts.1 e)
 
-or_false : (b : Bool) → (b || false) ≡ b
-or_false true = refl
-or_false false = refl
-
 module _ {Z : Type 0} where
   -- a part with a dot has all dots of its origin
   alone_part : (o : Origin) (n m : ℕ) (ps : List (Arc Dots Z)) (i : ℕ) (part : Arc Dots Z) → IsRising origin_cmp (origins (all_rows ps)) → i < length ps → part ≡ get_or ps i part → set.contains (arc_value part) (dot o n) ≡ true → any_row (all_rows ps) (dot o m) ≡ set.contains (arc_value part) (dot o m)
@@ -242,7 +237,7 @@ module _ {Z : Type 0} where
       let here : any_row (rows_in x) (dot o n) ≡ true = ap (λ (y : Arc Dots Z). any_row (rows_in y) (dot o n)) (sym is) ∙ any_of part (dot o n) ∙ e in
       some_part x ps (dot o m)
       ∙ ap (λ b. any_row (rows_in x) (dot o m) || b) (absent o m (all_rows ps) (below_member o (rows_in x) (all_rows ps) (rising_next x ps h) (any_origin (rows_in x) (dot o n) here)))
-      ∙ or_false (any_row (rows_in x) (dot o m))
+      ∙ or-false (any_row (rows_in x) (dot o m))
       ∙ ap (λ (y : Arc Dots Z). any_row (rows_in y) (dot o m)) (sym is)
       ∙ any_of part (dot o m)
   alone_part o n m (x ∷ ps) (suc i) part h p is e =
@@ -376,16 +371,12 @@ sum_fits a l x p q r = omega arith
 
 -- ---- the row at an index
 
-one_plus : (a i : ℕ) → suc a + i ≡ suc (a + i)
-one_plus a i = omega arith
-
 none_before : (n : ℕ) → 0 + n ≡ n
 none_before n = omega arith
 
 -- a part's row at its index is the row at an index of the whole
 pub row_found : {A : Type 0} (whole rows : List Row) (i left : ℕ) (r : Option A) (P : A → Row) → slice_get whole i ≡ slice_get rows left → left < length rows → MatchOption r (length rows ≤ left) (λ a. slice_get rows left ≡ Some (P a)) → MatchOption r (length whole ≤ i) (λ a. slice_get whole i ≡ Some (P a))
-row_found whole rows i left None P same short h = absurd (omega (arith, h, short))
-row_found whole rows i left (Some a) P same short h = same ∙ h
+row_found whole rows i left r P same short h = grind arith
 
 module _ {Z : Type 0} where
   -- the row at an index of a part, as a row of all parts
@@ -411,7 +402,7 @@ module _ {Z : Type 0} where
 
       get_right : (xs ys : List Row) (i : ℕ) → slice_get (xs ++ ys) (length xs + i) ≡ slice_get ys i
       get_right [] ys i = ap (λ n. slice_get ys n) (none_before i)
-      get_right (x ∷ xs) ys i = ap (λ n. slice_get (x ∷ (xs ++ ys)) n) (one_plus (length xs) i) ∙ get_right xs ys i
+      get_right (x ∷ xs) ys i = ap (λ n. slice_get (x ∷ (xs ++ ys)) n) (suc-add (length xs) i) ∙ get_right xs ys i
 
 -- ---- an origin above all
 
@@ -457,14 +448,6 @@ module _ {Z : Type 0} (ps s : List (Arc Dots Z)) (same : s ≡ ps) where
       omega (arith, all, rows_counted s, rows, is)
 
 -- ---- splitting rows that satisfy the invariant
-
-left_below : (z : Origin) (xs ys : List Row) → is_below_all origin_cmp z (origins (xs ++ ys)) ≡ true → is_below_all origin_cmp z (origins xs) ≡ true
-left_below z [] ys h = refl
-left_below z (x ∷ xs) ys h = let parts = and_parts (is_lt (origin_cmp z x.origin)) (is_below_all origin_cmp z (origins (xs ++ ys))) h in and_from _ _ parts.0 (left_below z xs ys parts.1)
-
-left_rising : (xs ys : List Row) → IsRising origin_cmp (origins (xs ++ ys)) → IsRising origin_cmp (origins xs)
-left_rising [] ys h = refl
-left_rising (x ∷ xs) ys h = let parts = and_parts (is_below_all origin_cmp x.origin (origins (xs ++ ys))) (is_rising origin_cmp (origins (xs ++ ys))) h in and_from _ _ (left_below x.origin xs ys parts.0) (left_rising xs ys parts.1)
 
 left_each : (xs ys : List Row) → AllByRecursion (λ row. IsKept row × HasSome row) (xs ++ ys) → AllByRecursion (λ row. IsKept row × HasSome row) xs
 left_each [] ys h = tt
@@ -579,10 +562,7 @@ get_mid [] ys x d = refl
 get_mid (y ∷ xs) ys x d = get_mid xs ys x d
 
 middle : (a b c d : Bool) → (a || ((b || c) || d)) ≡ (b || (a || (c || d)))
-middle true true c d = refl
-middle true false c d = refl
-middle false true c d = refl
-middle false false c d = refl
+middle a b c d = grind arith
 
 -- a set that contains a row's dots isn't empty
 pub some_of_row : (t : Dots) (row : Row) → HasSome row → ((n : ℕ) → has_counter row n ≡ true → set.contains t (dot row.origin n) ≡ true) → 0 < length (rows_of t)
@@ -692,10 +672,10 @@ module _ {Z : Type 0} where
       no_rows (x ∷ l) e = absurd (omega arith)
 
 pub only_row : (s : Dots) (b c : Bool) (q : Dot) → c ≡ b → set.contains s q ≡ false → c ≡ (b || set.contains s q)
-only_row s b c q is none = is ∙ sym (ap (λ x. b || x) none ∙ or_false b)
+only_row s b c q is none = is ∙ sym (ap (λ x. b || x) none ∙ or-false b)
 
 pub row_only : (s t : Dots) (row : Row) → s ≡ set.empty → (q : Dot) → set.contains t q ≡ (row_has q row || set.contains s q) → set.contains t q ≡ row_has q row
-row_only s t row none q is = is ∙ ap (λ b. row_has q row || b) (ap (λ (d : Dots). set.contains d q) none ∙ set.contains-empty dot_cmp q) ∙ or_false (row_has q row)
+row_only s t row none q is = is ∙ ap (λ b. row_has q row || b) (ap (λ (d : Dots). set.contains d q) none ∙ set.contains-empty dot_cmp q) ∙ or-false (row_has q row)
 
 pub none_cases : {A : Type 0} (r : Option A) (P : Type 0) (Q : A → Type 0) → ((x : A) → r ≡ Some x → ⊥) → MatchOption r P Q → P
 none_cases None P Q not h = h
@@ -715,17 +695,13 @@ row_there_already s row there q = elim (row_has q row) as (λ b. row_has q row �
 
 -- ---- adding the dots of each part
 
-or_thrice : (a b c : Bool) → ((a || b) || c) ≡ (a || (b || c))
-or_thrice true b c = refl
-or_thrice false b c = refl
-
 module _ {Z : Type 0} where
   pub parts_more : (s : List (Arc Dots Z)) (t both more : Dots) (i : ℕ) (part : Arc Dots Z) → i < length s → part ≡ get_or s i part → ((q : Dot) → set.contains both q ≡ (set.contains t q || any_row (all_rows (take i s)) q)) → more ≡ set.union both (arc_value part)
       → (q : Dot) → set.contains more q ≡ (set.contains t q || any_row (all_rows (take (i + 1) s)) q)
   parts_more s t both more i part p at so_far is q =
       ap (λ (d : Dots). set.contains d q) is ∙ set.contains-union dots_total both (arc_value part) q
       ∙ (λ k. so_far q k || sym (any_of part q) k)
-      ∙ or_thrice (set.contains t q) (any_row (all_rows (take i s)) q) (any_row (rows_in part) q)
+      ∙ or_assoc (set.contains t q) (any_row (all_rows (take i s)) q) (any_row (rows_in part) q)
       ∙ ap (λ b. set.contains t q || b) (sym (
       ap (λ (l : List Row). any_row l q) (rows_pushed (take i s) (take (i + 1) s) (get_or s i part) (rows_in part) (take_more s i part p) (ap rows_in (sym at)))
       ∙ list_any-append (row_has q) (all_rows (take i s)) (rows_in part)))
@@ -743,10 +719,4 @@ pub dot_more : (s more : Dots) (d : Dot) (row : Row) → IsOne d row → ((q : D
 dot_more s more d row one is = set.same_set dots_total exact_dots more (set.insert s d) (λ q. is q ∙ ap (λ b. b || set.contains s q) (one_has d q row one) ∙ sym (set.contains-insert dots_total s d q))
 
 pub union_turned : (a b : Dots) → set.union a b ≡ set.union b a
-union_turned a b = set.same_set dots_total exact_dots (set.union a b) (set.union b a) (λ q. set.contains-union dots_total a b q ∙ turn (set.contains a q) (set.contains b q) ∙ sym (set.contains-union dots_total b a q))
-  where
-    turn : (a b : Bool) → (a || b) ≡ (b || a)
-    turn true true = refl
-    turn true false = refl
-    turn false true = refl
-    turn false false = refl
+union_turned a b = set.same_set dots_total exact_dots (set.union a b) (set.union b a) (λ q. set.contains-union dots_total a b q ∙ or_comm (set.contains a q) (set.contains b q) ∙ sym (set.contains-union dots_total b a q))

@@ -4,6 +4,7 @@ use Rattle.std.specs.Ordering.{nat_cmp, eq_by_cmp}
 use Rattle.std.specs.List.{slice_get}
 use Rattle.std.proofs.lemmas.Bool.{and_from, ltb-true, lt-ltb, le-ltb}
 use Rattle.std.proofs.lemmas.List.Folds.{list_any-append}
+use Rattle.std.proofs.Math.Bool.{or_comm, and-false, and-true}
 use Rattle.dac_origins.specs.Keys.{is_below_all, IsRising, has_key}
 use Rattle.dac_dots.specs.Rows.{further_of, reach_of}
 use Rattle.dac_dots.specs.Spans.{from_on, counters_of_span, counters_in, span_has, any_above, are_apart, past, rest_of}
@@ -117,23 +118,9 @@ has_past u (span ∷ spans) n =
 abbrev pub zero_if : Bool → List ℕ
 zero_if has = cond has (0 ∷ []) []
 
-or_turned : (a b : Bool) → (a || b) ≡ (b || a)
-or_turned true true = refl
-or_turned true false = refl
-or_turned false true = refl
-or_turned false false = refl
-
 has_zero : (has : Bool) (n : ℕ) → has_key nat_cmp (zero_if has) n ≡ (nat_eq n 0 && has)
-has_zero true n = zero_alone n ∙ plain (nat_eq n 0)
-  where
-    plain : (b : Bool) → b ≡ (b && true)
-    plain true = refl
-    plain false = refl
-has_zero false n = none (nat_eq n 0)
-  where
-    none : (b : Bool) → false ≡ (b && false)
-    none true = refl
-    none false = refl
+has_zero true n = zero_alone n ∙ sym (and-true (nat_eq n 0))
+has_zero false n = sym (and-false (nat_eq n 0))
 
 rising_all : (u : ℕ) (spans : List Span) (has : Bool) → are_apart 0 spans ≡ true → IsRising nat_cmp (zero_if has ++ past u spans)
 rising_all u spans true h = and_from _ _ (below_past 0 u spans (omega arith)) (rising_past 0 u spans h)
@@ -146,7 +133,7 @@ further_parts spans h now view =
     further_is spans h now view (zero_if has ++ past u spans) (rising_all u spans has h) (λ n.
     list_any-append (eq_by_cmp nat_cmp n) (zero_if has) (past u spans)
     ∙ (λ i. has_zero has n i || has_past u spans n i)
-    ∙ or_turned (nat_eq n 0 && has) (any_above u spans n))
+    ∙ or_comm (nat_eq n 0 && has) (any_above u spans n))
 
 -- by cases on 0 in the set
 pub first_is_zero : (spans : List Span) → are_apart 0 spans ≡ true → (now : List ℕ) → counters_in spans ≡ now → has_key nat_cmp now 0 ≡ true → slice_get (further_of (reach_of now) now) 0 ≡ Some 0

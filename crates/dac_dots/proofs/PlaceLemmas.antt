@@ -11,6 +11,7 @@ use Rattle.std.proofs.lemmas.List.{length-map}
 use Rattle.std.proofs.lemmas.List.Elements.{All-from_recursion}
 use Rattle.std.proofs.lemmas.List.Folds.{list_any-append, list_any_none, list_any_at}
 use Rattle.std.proofs.lemmas.List.Sorted.{searchable_from_sorted}
+use Rattle.std.proofs.Math.Bool.{or_assoc}
 use Rattle.dac_origins.specs.Keys.{IsRising, has_key}
 use Rattle.dac_origins.specs.laws.InOrder.{or_swap}
 use Rattle.dac_origins.specs.Dots.{Dots, dot, dot_cmp, origin_cmp}
@@ -68,10 +69,6 @@ row_there rows i d n p e =
     list_any_at (row_has (dot row.origin n)) rows i d p (and_from _ _ (ap is_eq (tied_itself origins_total row.origin)) e)
 
 -- ---- replacing a row
-
-pub or_assoc : (a b c : Bool) → ((a || b) || c) ≡ (a || (b || c))
-or_assoc true b c = refl
-or_assoc false b c = refl
 
 pub any_set : (t : Bool) (q : Dot) (rows : List Row) (i : ℕ) (row d : Row) → i < length rows → row_has q row ≡ (t || row_has q (get_or rows i d)) → any_row (put_at rows i row) q ≡ (t || any_row rows q)
 any_set t q [] i row d p h = absurd (omega arith)

@@ -7,11 +7,12 @@ use Rattle.std.proofs.lemmas.Cmp.{nat_cmp_total}
 use Rattle.std.proofs.lemmas.Map.Lookups.{exact_unsigned}
 use Rattle.std.proofs.lemmas.List.{take_all}
 use Rattle.std.proofs.lemmas.List.Folds.{list_any_more}
+use Rattle.std.proofs.Math.Bool.{or-false}
 use Rattle.dac_origins.specs.Keys.{is_below_all, is_rising, IsRising, has_key}
 use Rattle.dac_origins.specs.laws.InOrder.{same_rising, below_absent}
-use Rattle.dac_dots.specs.laws.CounterLaws.{grows, on_the_way, ends_there, has_key-filter, rising_filter, same, is_same, less as number_less}
+use Rattle.dac_dots.specs.laws.CounterLaws.{grows, on_the_way, ends_there, has_key-filter, rising_filter, same, less as number_less, is_same}
 use Rattle.dac_dots.specs.laws.RowLaws.{splits}
-use Rattle.dac_dots.specs.laws.RowSets.{some_counter}
+use Rattle.dac_dots.specs.laws.RowSets.{some_counter, or_turn}
 use Rattle.dac_dots.specs.Rows.{Row, row_of, reach_of, reach_from, further_of, has_counter, HasAlso, HasBoth, HasMore, HasSome, IsGreatest, IsKept, IsLastOf, IsOne, IsWithinRow}
 use Rattle.dac_origins.specs.declared.dot.Dot.{Dot}
 use Rattle.dac_origins.specs.declared.dot.Origin.{Origin}
@@ -119,13 +120,9 @@ module _ (o : Origin) (ns : List ℕ) where
 pub one_row : (d : Dot) (new : List ℕ) → IsRising nat_cmp new → ((n : ℕ) → has_key nat_cmp new n ≡ (eq_by_cmp nat_cmp n d.n || has_key nat_cmp [] n)) → IsOne d (row_of d.origin new)
 one_row d new rising is = record {
   origin = refl;
-  exact = λ n. settled_has d.origin 0 new n ∙ no_range n (has_key nat_cmp new n) ∙ is n ∙ or_none (eq_by_cmp nat_cmp n d.n);
+  exact = λ n. settled_has d.origin 0 new n ∙ no_range n (has_key nat_cmp new n) ∙ is n ∙ or-false (eq_by_cmp nat_cmp n d.n);
   kept = settled_kept d.origin 0 new rising;
 }
-  where
-    or_none : (b : Bool) → (b || false) ≡ b
-    or_none true = refl
-    or_none false = refl
 
 -- ---- the row of 1 to upto and counters that ascend from above upto + 1
 
@@ -168,19 +165,13 @@ module _ (o : Origin) (upto : ℕ) (further counters : List ℕ) (can : IsRising
   row_of_parts =
       ap (λ u. record { origin = o; upto = u; further = further_of u counters }) goes_to ∙ ap (λ ns. record { origin = o; upto = upto; further = ns }) rest_is
 
-one_of_these : (a b c : Bool) → (a || (b || c)) ≡ ((b || a) || c)
-one_of_these true true c = refl
-one_of_these true false c = refl
-one_of_these false true c = refl
-one_of_these false false c = refl
-
 -- one more further counter is inserted
 pub parts_more : (further : List ℕ) (upto i : ℕ) (old new : List ℕ) → i < length further → ((n : ℕ) → has_key nat_cmp old n ≡ (has_key nat_cmp (take i further) n || (nat_le 1 n && nat_le n upto))) → ((n : ℕ) → has_key nat_cmp new n ≡ (eq_by_cmp nat_cmp n (get_or further i 0) || has_key nat_cmp old n))
     → (n : ℕ) → has_key nat_cmp new n ≡ (has_key nat_cmp (take (i + 1) further) n || (nat_le 1 n && nat_le n upto))
 parts_more further upto i old new p so_far one n =
     let inside = nat_le 1 n && nat_le n upto in
     let here = eq_by_cmp nat_cmp n (get_or further i 0) in
-    one n ∙ ap (λ b. here || b) (so_far n) ∙ one_of_these here (has_key nat_cmp (take i further) n) inside ∙ ap (λ b. b || inside) (sym (list_any_more (eq_by_cmp nat_cmp n) further i 0 p))
+    one n ∙ ap (λ b. here || b) (so_far n) ∙ or_turn here (has_key nat_cmp (take i further) n) inside ∙ ap (λ b. b || inside) (sym (list_any_more (eq_by_cmp nat_cmp n) further i 0 p))
 
 -- all further counters are inserted
 pub parts_done : (o : Origin) (upto : ℕ) (further counters : List ℕ) (i : ℕ) → length further ≤ i → IsRising nat_cmp ((upto + 1) ∷ further) → IsRising nat_cmp counters → ((n : ℕ) → has_key nat_cmp counters n ≡ (has_key nat_cmp (take i further) n || (nat_le 1 n && nat_le n upto)))

@@ -11,12 +11,13 @@ use Rattle.std.proofs.lemmas.List.Folds.{list_any-append, list_any_none, list_an
 use Rattle.dac_origins.specs.Keys.{is_below_all, is_rising, IsRising, has_key}
 use Rattle.std.proofs.lemmas.Cmp.{nat_cmp_total}
 use Rattle.std.proofs.lemmas.Map.Lookups.{exact_unsigned}
+use Rattle.std.proofs.Math.Bool.{or-false, and-false, or_assoc, and-true}
 use Rattle.dac_origins.specs.laws.InOrder.{or_swap, same_rising}
 use Rattle.dac_dots.specs.laws.CounterLaws.{is_less, on_the_way, ends_there, rising_filter, has_key-filter}
 use Rattle.dac_dots.specs.Rows.{IsGreatest, further_of, reach_of}
 use Rattle.dac_dots.specs.Spans.{from_on, counters_of_span, counters_in, span_has, any_span, any_above, are_apart, AreSpans, HaveEnded, IsPlaceFor, hull, absorbed}
 use Rattle.dac_dots.specs.declared.spans.Span.{Span}
-use Rattle.dac_dots.proofs.PlaceLemmas.{or_assoc}
+use Rattle.dac_dots.specs.laws.RowSets.{or_turn, or_last}
 
 -- ---- the counters of spans
 
@@ -108,6 +109,9 @@ rising_counters low spans h = rising_spans low spans h
 
 -- ---- indices of spans with gaps between them
 
+out_before : (n f l : ℕ) → n < f → (nat_le f n && nat_le n l) ≡ false
+out_before n f l p = grind (arith, nat_tests)
+
 -- no span that begins after the counter contains it
 pub none_below : (n low : ℕ) (spans : List Span) → n < low → are_apart low spans ≡ true → any_span spans n ≡ false
 none_below n low [] p h = refl
@@ -115,11 +119,8 @@ none_below n low (span ∷ spans) p h =
     let is = apart_first low span spans h in
     let q = is.0 in
     let r = is.1.0 in
-    let out : span_has n span ≡ false = before n span.first span.last (omega arith) in
+    let out : span_has n span ≡ false = out_before n span.first span.last (omega arith) in
     ap (λ b. b || any_span spans n) out ∙ none_below n (span.last + 2) spans (omega arith) is.1.1
-  where
-    before : (n f l : ℕ) → n < f → (nat_le f n && nat_le n l) ≡ false
-    before n f l p = grind (arith, nat_tests)
 
 -- no span is empty, and each begins at low or later
 pub apart_at : (low : ℕ) (spans : List Span) → are_apart low spans ≡ true → (i : ℕ) (d : Span) → i < length spans → (low ≤ (get_or spans i d).first) × ((get_or spans i d).first ≤ (get_or spans i d).last)
@@ -249,9 +250,6 @@ begins_later low (span ∷ spans) h (suc i) (suc j) d p q = begins_later (span.l
 out_after : (n f l : ℕ) → l < n → (nat_le f n && nat_le n l) ≡ false
 out_after n f l p = grind (arith, nat_tests)
 
-out_before : (n f l : ℕ) → n < f → (nat_le f n && nat_le n l) ≡ false
-out_before n f l p = grind (arith, nat_tests)
-
 -- if the first span doesn't end before a counter, none does
 pub none_ended : (spans : List Span) → are_apart 0 spans ≡ true → (first : Span) → 0 < length spans → first ≡ get_or spans 0 first → (n : ℕ) → n ≤ first.last → HaveEnded spans 0 n
 none_ended spans h first some is n low = (
@@ -295,15 +293,16 @@ none_between spans place n low high = list_any_none (span_has n) spans (λ j d p
 ])
 
 -- a span's counters are in a set exactly if one span of the set, which the search finds, contains it
+module _ (spans : List Span) (h : are_apart 0 spans ≡ true) (now : List ℕ) (view : counters_in spans ≡ now) where
+  pub has_now : (n : ℕ) → has_key nat_cmp now n ≡ any_span spans n
+  has_now n = ap (λ ns. has_key nat_cmp ns n) (sym view) ∙ has_counters spans n
+
 module _ (spans : List Span) (h : are_apart 0 spans ≡ true) (now : List ℕ) (view : counters_in spans ≡ now) (span : Span) (valid : span.first ≤ span.last) where
   abbrev HasAll : Type 0
   HasAll = (n : ℕ) → span_has n span ≡ true → has_key nat_cmp now n ≡ true
 
-  pub now_has : (n : ℕ) → has_key nat_cmp now n ≡ any_span spans n
-  now_has n = ap (λ ns. has_key nat_cmp ns n) (sym view) ∙ has_counters spans n
-
   lacks : (n : ℕ) → span.first ≤ n → n ≤ span.last → any_span spans n ≡ false → HasAll → ⊥
-  lacks n p q out all = false≢true (sym out ∙ sym (now_has n) ∙ all n (and_from _ _ (le-leb span.first n p) (le-leb n span.last q)))
+  lacks n p q out all = false≢true (sym out ∙ sym (has_now spans h now view n) ∙ all n (and_from _ _ (le-leb span.first n p) (le-leb n span.last q)))
 
   module _ (place : ℕ) (point : HaveEnded spans place span.first) where
     before : AllWithin (λ (r : Span). r.last < span.first) spans 0 place
@@ -343,7 +342,7 @@ module _ (spans : List Span) (h : are_apart 0 spans ≡ true) (now : List ℕ) (
           let parts = and_parts _ _ e in
           let p : span.first ≤ n = leb-true _ _ parts.0 in
           let q : n ≤ span.last = leb-true _ _ parts.1 in
-          now_has n ∙ list_any_at (span_has n) spans place found within (subst (λ (r : Span). span_has n r ≡ true) is (and_from _ _ (le-leb found.first n (omega arith)) (le-leb n found.last (omega arith))))
+          has_now spans h now view n ∙ list_any_at (span_has n) spans place found within (subst (λ (r : Span). span_has n r ≡ true) is (and_from _ _ (le-leb found.first n (omega arith)) (le-leb n found.last (omega arith))))
 
 -- ---- a span that touches no other
 
@@ -397,10 +396,7 @@ pub second_put : (a b : Span) (n : ℕ) → any_span (a ∷ b ∷ []) n ≡ (spa
 second_put a b n = turn (span_has n a) (span_has n b)
   where
     turn : (a b : Bool) → (a || (b || false)) ≡ (b || (a || false))
-    turn true true = refl
-    turn true false = refl
-    turn false true = refl
-    turn false false = refl
+    turn a b = grind arith
 
 pub hull_valid : (a b : Span) → a.first ≤ a.last → b.first ≤ b.last → (hull a b).first ≤ (hull a b).last
 hull_valid a b v w = omega arith
@@ -447,16 +443,13 @@ reaches ns rising u all end = elim (cases_order u (reach_of ns)) [
 ]
 
 module _ (spans : List Span) (h : are_apart 0 spans ≡ true) (now : List ℕ) (view : counters_in spans ≡ now) where
-  pub has_now : (n : ℕ) → has_key nat_cmp now n ≡ any_span spans n
-  has_now n = ap (λ ns. has_key nat_cmp ns n) (sym view) ∙ has_counters spans n
-
   pub rising_now : IsRising nat_cmp now
   rising_now = subst (IsRising nat_cmp) view (rising_counters 0 spans h)
 
   pub upto_first : (first : Span) → 0 < length spans → first ≡ get_or spans 0 first → first.first ≤ 1 → first.last ≡ reach_of now
   upto_first first some is low = reaches now rising_now first.last
-      (λ n p q. has_now n ∙ list_any_at (span_has n) spans 0 first some (subst (λ (r : Span). span_has n r ≡ true) is (and_from _ _ (le-leb first.first n (omega arith)) (le-leb n first.last q))))
-      (has_now (first.last + 1) ∙ past spans h some is)
+      (λ n p q. has_now spans h now view n ∙ list_any_at (span_has n) spans 0 first some (subst (λ (r : Span). span_has n r ≡ true) is (and_from _ _ (le-leb first.first n (omega arith)) (le-leb n first.last q))))
+      (has_now spans h now view (first.last + 1) ∙ past spans h some is)
     where
       past : (l : List Span) → are_apart 0 l ≡ true → 0 < length l → first ≡ get_or l 0 first → any_span l (first.last + 1) ≡ false
       past [] h p is = absurd (omega arith)
@@ -465,7 +458,7 @@ module _ (spans : List Span) (h : are_apart 0 spans ≡ true) (now : List ℕ) (
           ap (λ b. b || any_span l (first.last + 1)) (out_after (first.last + 1) x.first x.last (omega arith)) ∙ none_below (first.last + 1) (x.last + 2) l (omega arith) (apart_first 0 x l h).1.1
 
   pub upto_later : (first : Span) → 0 < length spans → first ≡ get_or spans 0 first → 1 < first.first → 0 ≡ reach_of now
-  upto_later first some is high = reaches now rising_now 0 (λ n p q. absurd (omega arith)) (has_now 1 ∙ past spans h is)
+  upto_later first some is high = reaches now rising_now 0 (λ n p q. absurd (omega arith)) (has_now spans h now view 1 ∙ past spans h is)
     where
       past : (l : List Span) → are_apart 0 l ≡ true → first ≡ get_or l 0 first → any_span l 1 ≡ false
       past [] h is = refl
@@ -475,7 +468,7 @@ module _ (spans : List Span) (h : are_apart 0 spans ≡ true) (now : List ℕ) (
           ap (λ b. b || any_span l 1) (out_before 1 x.first x.last (omega arith)) ∙ none_below 1 (x.last + 2) l (omega arith) (apart_first 0 x l h).1.1
 
   pub upto_none : length spans ≤ 0 → 0 ≡ reach_of now
-  upto_none none = reaches now rising_now 0 (λ n p q. absurd (omega arith)) (has_now 1 ∙ past spans none)
+  upto_none none = reaches now rising_now 0 (λ n p q. absurd (omega arith)) (has_now spans h now view 1 ∙ past spans none)
     where
       past : (l : List Span) → length l ≤ 0 → any_span l 1 ≡ false
       past [] p = refl
@@ -513,12 +506,6 @@ valid_drop (span ∷ spans) all (suc i) = valid_drop spans all.1 i
 
 -- ---- one more span
 
-or_turn : (a b c : Bool) → (a || (b || c)) ≡ ((b || a) || c)
-or_turn true true c = refl
-or_turn true false c = refl
-or_turn false true c = refl
-or_turn false false c = refl
-
 -- ---- the counters of a span, one by one
 
 pub none_listed : (f : ℕ) (old : List ℕ) (n : ℕ) → has_key nat_cmp old n ≡ ((nat_le f n && nat_lt n f) || has_key nat_cmp old n)
@@ -527,23 +514,23 @@ none_listed f old n = ap (λ b. b || has_key nat_cmp old n) (none f n)
     none : (f n : ℕ) → false ≡ (nat_le f n && nat_lt n f)
     none f n = grind (arith, nat_tests)
 
+pub further : (f l n : ℕ) → f ≤ l → (eq_by_cmp nat_cmp n l || (nat_le f n && nat_lt n l)) ≡ (nat_le f n && nat_lt n (l + 1))
+further f l n p = grind (arith, nat_tests)
+
+pub before_next : (n l : ℕ) → nat_lt n (l + 1) ≡ nat_le n l
+before_next n l = grind (arith, nat_tests)
+
 pub one_listed : (f l : ℕ) → f ≤ l → (old mid new : List ℕ) → ((n : ℕ) → has_key nat_cmp mid n ≡ ((nat_le f n && nat_lt n l) || has_key nat_cmp old n)) → ((n : ℕ) → has_key nat_cmp new n ≡ (eq_by_cmp nat_cmp n l || has_key nat_cmp mid n))
     → (n : ℕ) → has_key nat_cmp new n ≡ ((nat_le f n && nat_lt n (l + 1)) || has_key nat_cmp old n)
 one_listed f l p old mid new so_far one n =
     one n ∙ ap (λ b. eq_by_cmp nat_cmp n l || b) (so_far n) ∙ sym (or_assoc (eq_by_cmp nat_cmp n l) (nat_le f n && nat_lt n l) (has_key nat_cmp old n))
-    ∙ ap (λ b. b || has_key nat_cmp old n) (more f l n p)
-  where
-    more : (f l n : ℕ) → f ≤ l → (eq_by_cmp nat_cmp n l || (nat_le f n && nat_lt n l)) ≡ (nat_le f n && nat_lt n (l + 1))
-    more f l n p = grind (arith, nat_tests)
+    ∙ ap (λ b. b || has_key nat_cmp old n) (further f l n p)
 
 pub all_listed : (f l k : ℕ) → f ≤ k → k ≡ l → (old mid new : List ℕ) → ((n : ℕ) → has_key nat_cmp mid n ≡ ((nat_le f n && nat_lt n k) || has_key nat_cmp old n)) → ((n : ℕ) → has_key nat_cmp new n ≡ (eq_by_cmp nat_cmp n l || has_key nat_cmp mid n))
     → (n : ℕ) → has_key nat_cmp new n ≡ ((nat_le f n && nat_le n l) || has_key nat_cmp old n)
 all_listed f l k p e old mid new so_far one n =
     one_listed f l (omega arith) old mid new (λ m. so_far m ∙ ap (λ (k : ℕ). (nat_le f m && nat_lt m k) || has_key nat_cmp old m) e) one n
     ∙ ap (λ b. (nat_le f n && b) || has_key nat_cmp old n) (before_next n l)
-  where
-    before_next : (n l : ℕ) → nat_lt n (l + 1) ≡ nat_le n l
-    before_next n l = grind (arith, nat_tests)
 
 pub any_more : (spans : List Span) (i : ℕ) (d : Span) → i < length spans → (n : ℕ) → any_span (take (i + 1) spans) n ≡ (any_span (take i spans) n || span_has n (get_or spans i d))
 any_more spans i d p n = list_any_more (span_has n) spans i d p
@@ -603,14 +590,7 @@ any_parts : (spans : List Span) (i n : ℕ) → any_span spans n ≡ (any_span (
 any_parts spans i n = ap (λ l. any_span l n) (sym (take-append-drop i spans)) ∙ list_any-append (span_has n) (take i spans) (drop i spans)
 
 regroup : (dy dx ty tx : Bool) → (dy || (dx || (ty || tx))) ≡ ((ty || dy) || (tx || dx))
-regroup true dx true tx = refl
-regroup true dx false tx = refl
-regroup false true true tx = refl
-regroup false true false true = refl
-regroup false true false false = refl
-regroup false false true tx = refl
-regroup false false false true = refl
-regroup false false false false = refl
+regroup dy dx ty tx = grind arith
 
 -- a span of the first list is inserted
 pub merged_first : (xs ys : List Span) (i j : ℕ) (d : Span) → i < length xs → (mid new : List ℕ) → ((n : ℕ) → has_key nat_cmp mid n ≡ (any_span (take j ys) n || any_span (take i xs) n)) → ((n : ℕ) → has_key nat_cmp new n ≡ (span_has n (get_or xs i d) || has_key nat_cmp mid n))
@@ -618,14 +598,6 @@ pub merged_first : (xs ys : List Span) (i j : ℕ) (d : Span) → i < length xs 
 merged_first xs ys i j d p mid new so_far one n =
     one n ∙ ap (λ b. span_has n (get_or xs i d) || b) (so_far n) ∙ or_last (span_has n (get_or xs i d)) (any_span (take j ys) n) (any_span (take i xs) n)
     ∙ ap (λ b. any_span (take j ys) n || b) (sym (any_more xs i d p n))
-  where
-    or_last : (a b c : Bool) → (a || (b || c)) ≡ (b || (c || a))
-    or_last true true c = refl
-    or_last true false true = refl
-    or_last true false false = refl
-    or_last false true c = refl
-    or_last false false true = refl
-    or_last false false false = refl
 
 -- a span of the second list is inserted
 pub merged_second : (xs ys : List Span) (i j : ℕ) (d : Span) → j < length ys → (mid new : List ℕ) → ((n : ℕ) → has_key nat_cmp mid n ≡ (any_span (take j ys) n || any_span (take i xs) n)) → ((n : ℕ) → has_key nat_cmp new n ≡ (span_has n (get_or ys j d) || has_key nat_cmp mid n))
@@ -665,12 +637,8 @@ past_more upto spans i d p above old mid new so_far one n =
     one n ∙ ap (λ b. span_has n (get_or spans i d) || b) (so_far n) ∙ or_turn (span_has n (get_or spans i d)) (any_above upto (take i spans) n) (has_key nat_cmp old n)
     ∙ ap (λ b. b || has_key nat_cmp old n) (ap (λ t. any_above upto (take i spans) n || (t && span_has n (get_or spans i d))) (sym above) ∙ sym (past_one upto spans i d p n))
 
-or_false : (b : Bool) → (b || false) ≡ b
-or_false true = refl
-or_false false = refl
-
 pub past_same : (upto : ℕ) (spans : List Span) (i : ℕ) (d : Span) → i < length spans → nat_lt upto (get_or spans i d).first ≡ false → (n : ℕ) → any_above upto (take (i + 1) spans) n ≡ any_above upto (take i spans) n
-past_same upto spans i d p below n = past_one upto spans i d p n ∙ ap (λ t. any_above upto (take i spans) n || (t && span_has n (get_or spans i d))) below ∙ or_false (any_above upto (take i spans) n)
+past_same upto spans i d p below n = past_one upto spans i d p n ∙ ap (λ t. any_above upto (take i spans) n || (t && span_has n (get_or spans i d))) below ∙ or-false (any_above upto (take i spans) n)
 
 -- ---- the further counters
 
@@ -687,12 +655,8 @@ module _ (spans : List Span) (h : are_apart 0 spans ≡ true) (now : List ℕ) (
             let none : span_has n span ≡ false = false_from_ne_true (span_has n span) (λ e.
             let high : n ≤ span.last = leb-true n span.last (and_parts (nat_le span.first n) (nat_le n span.last) e).1 in
             false≢true (sym end ∙ there (u + 1) (or_left _ _ (and_from _ _ (le-leb span.first (u + 1) (omega arith)) (le-leb (u + 1) span.last (omega arith)))))) in
-            ap (λ t. nat_lt u span.first && t) none ∙ no_more (nat_lt u span.first) ∙ sym none
+            ap (λ t. nat_lt u span.first && t) none ∙ and-false (nat_lt u span.first) ∙ sym none
       ]
-        where
-          no_more : (b : Bool) → (b && false) ≡ false
-          no_more true = refl
-          no_more false = refl
 
   none_past : (u : ℕ) (l : List Span) (n : ℕ) → n ≤ u → any_above u l n ≡ false
   none_past u [] n p = refl
@@ -706,7 +670,7 @@ module _ (spans : List Span) (h : are_apart 0 spans ≡ true) (now : List ℕ) (
     | inl past ↦
         let other : nat_eq n 0 ≡ false = not_zero n (reach_of now) past in
         (λ i. begins_within (reach_of now) (ends_there 0 now (rising_now spans h now view)) spans (λ m e. has_now spans h now view m ∙ e) n past i || (other i && has_key nat_cmp now 0))
-        ∙ or_false (any_span spans n) ∙ sym (has_now spans h now view n)
+        ∙ or-false (any_span spans n) ∙ sym (has_now spans h now view n)
         ∙ ap (λ t. (t || nat_eq n 0) && has_key nat_cmp now n) (sym (lt-ltb (reach_of now) n past))
     | inr within ↦
         ap (λ b. b || (nat_eq n 0 && has_key nat_cmp now 0)) (none_past (reach_of now) spans n within)
@@ -732,16 +696,8 @@ module _ (spans : List Span) (h : are_apart 0 spans ≡ true) (now : List ℕ) (
 pub zero_alone : (n : ℕ) → (eq_by_cmp nat_cmp n 0 || false) ≡ nat_eq n 0
 zero_alone n = grind (arith, nat_tests)
 
-no_more_zero : (b : Bool) → false ≡ (b && false)
-no_more_zero true = refl
-no_more_zero false = refl
-
-and_true : (b : Bool) → b ≡ (b && true)
-and_true true = refl
-and_true false = refl
-
 pub zero_there : (now ns : List ℕ) → has_key nat_cmp now 0 ≡ true → ((n : ℕ) → has_key nat_cmp ns n ≡ (eq_by_cmp nat_cmp n 0 || has_key nat_cmp [] n)) → (n : ℕ) → has_key nat_cmp ns n ≡ (nat_eq n 0 && has_key nat_cmp now 0)
-zero_there now ns e all n = all n ∙ zero_alone n ∙ and_true (nat_eq n 0) ∙ ap (λ b. nat_eq n 0 && b) (sym e)
+zero_there now ns e all n = all n ∙ zero_alone n ∙ sym (and-true (nat_eq n 0)) ∙ ap (λ b. nat_eq n 0 && b) (sym e)
 
 pub zero_missing : (now ns : List ℕ) → has_key nat_cmp now 0 ≡ false → ns ≡ [] → (n : ℕ) → has_key nat_cmp ns n ≡ (nat_eq n 0 && has_key nat_cmp now 0)
-zero_missing now ns e none n = ap (λ l. has_key nat_cmp l n) none ∙ no_more_zero (nat_eq n 0) ∙ ap (λ b. nat_eq n 0 && b) (sym e)
+zero_missing now ns e none n = ap (λ l. has_key nat_cmp l n) none ∙ sym (and-false (nat_eq n 0)) ∙ ap (λ b. nat_eq n 0 && b) (sym e)

@@ -1,5 +1,5 @@
 -- One step of the merge of two maps: the entries taken, their combination, and the remaining entries.
-use Rattle.std.proofs.Common.{◌≡◌, ℕ, ◌+◌, ◌-◌, ◌<◌, ◌≤◌, ◌⊎◌, inl, inr, List, [], ◌∷◌, ◌++◌, length, drop, Option, None, Some, Result, Ok, Err, OnOk, IsOkAnd, IfOk, refl, sym, ap, subst, ◌∙◌, arith, add-one, drop-cons, append_assoc, append-nil}
+use Rattle.std.proofs.Common.{◌≡◌, ℕ, ◌+◌, ◌-◌, ◌<◌, ◌≤◌, ◌⊎◌, inl, inr, List, [], ◌∷◌, ◌++◌, length, drop, Option, None, Some, Result, OnOk, IsOkAnd, IfOk, refl, sym, ap, subst, ◌∙◌, arith, add-one, drop-cons, append_assoc, append-nil}
 use Rattle.std.specs.Borrow.{Bor}
 use Rattle.std.specs.Int.{from_bool}
 use Rattle.std.specs.Option.{is_some, option_copied}
@@ -27,8 +27,7 @@ abbrev taken : {E : Type 0} → Option E → ℕ
 taken o = from_bool (is_some o)
 
 taken_copied : {E : Type 0} (r : Option (Bor E)) → from_bool (is_some r) ≡ taken (option_copied r)
-taken_copied None = refl
-taken_copied (Some e) = refl
+taken_copied r = grind arith
 
 stays : {E : Type 0} (xs : List E) (i : ℕ) → drop i xs ≡ drop (i + 0) xs
 stays xs i = ap (λ n. drop n xs) (same i)
@@ -40,8 +39,7 @@ pub fewer_left : (l m i j n k : ℕ) → i + n ≤ l → j + k ≤ m → 1 ≤ n
 fewer_left l m i j n k p q r = omega arith
 
 keep_before : {K X : Type 0} (k : K) (v : Option X) (es : List (K × X)) → keep k v [] ++ es ≡ keep k v es
-keep_before k None es = refl
-keep_before k (Some v) es = refl
+keep_before k v es = grind arith
 
 -- the entries with the lowest key, from the comparison of two keys
 pub lowest_so : {K X : Type 0} (R : K → K → Ordering) (x y : K × X) (r : Ordering) → r ≡ R x.0 y.0 → by_order r (Some x, None) (Some x, Some y) (None, Some y) ≡ lowest_of R (Some x) (Some y)
@@ -49,9 +47,7 @@ lowest_so R x y r e = ap (λ r. by_order r (Some x, None) (Some x, Some y) (None
 
 -- a property of the value of a successful call, if that value is known
 pub where_made : {U V E F : Type 0} (r : Result U F) (made : Result V E) (P : V → Type 0) (v : V) → OnOk r (IsOkAnd made P) → IfOk made (λ u. u ≡ v) → OnOk r (P v)
-where_made (Ok u) (Ok w) P v h e = subst P e h
-where_made (Ok u) (Err w) P v h e = absurd h
-where_made (Err u) made P v h e = tt
+where_made r made P v h e = grind arith
 
 module _ {K X : Type 0} (R : K → K → Ordering) (f : Combine K X) where
   -- the merge of the entries from these indices on
@@ -143,10 +139,7 @@ module _ {K X : Type 0} (R : K → K → Ordering) (f : Combine K X) where
       subst (λ k. IsStep xs ys i j n k (option_copied a) (option_copied b)) (sym (t ∙ taken_copied b)) one
 
   keep_lowest_before : (a b : Option (K × X)) (es : List (K × X)) → keep_lowest f a b [] ++ es ≡ keep_lowest f a b es
-  keep_lowest_before None None es = refl
-  keep_lowest_before None (Some y) es = keep_before y.0 (f y.0 None (Some y.1)) es
-  keep_lowest_before (Some x) None es = keep_before x.0 (f x.0 (Some x.1) None) es
-  keep_lowest_before (Some x) (Some y) es = keep_before x.0 (f x.0 (Some x.1) (Some y.1)) es
+  keep_lowest_before a b es = grind (arith, keep_before)
 
   -- after a step, the merged entries followed by the merge of the rest are unchanged
   pub merged_more : (xs ys : List (K × X)) (i j n m : ℕ) (a b : Option (K × X)) → IsStep xs ys i j n m a b

@@ -16,8 +16,7 @@ use Rattle.dac_origins.specs.laws.KeyLaws.{has_at, greater, smaller, below_at, n
 use Rattle.dac_origins.specs.Keys.{is_below_all, IsRising, has_key}
 
 or_same : (a b : Bool) → (a ≡ true → b ≡ true) → b ≡ (a || b)
-or_same true b h = h refl
-or_same false b h = refl
+or_same a b h = grind arith
 
 module _ {K : Type 0} {R : K → K → Ordering} (o : IsTotalOrder R) where
   rises : (ks : List K) → IsRising R ks → (k : K) → IsNonDecreasingBy (λ y. ordering_index (R y k)) ks
@@ -66,12 +65,10 @@ module _ {K : Type 0} {R : K → K → Ordering} (o : IsTotalOrder R) where
   module _ (exact : CmpEqualImpliesEq R) where
     -- a: q is the removed key, b: q is among the others
     first_less : (a b : Bool) → (a ≡ true → b ≡ false) → b ≡ (not a && (a || b))
-    first_less true b h = h refl
-    first_less false b h = refl
+    first_less a b h = grind arith
 
     later_less : (a x b : Bool) → (a ≡ true → x ≡ false) → (x || (not a && b)) ≡ (not a && (x || b))
-    later_less true x b h = ap (λ y. y || false) (h refl)
-    later_less false x b h = refl
+    later_less a x b h = grind arith
 
     -- a key less than another differs from it
     not_tied : (q k x : K) → R x k ≡ Less → eq_by_cmp R q k ≡ true → eq_by_cmp R q x ≡ false

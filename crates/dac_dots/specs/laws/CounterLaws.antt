@@ -1,12 +1,13 @@
 -- The counters of an origin's dots: those before the first gap, and the further ones.
 use Rattle.std.proofs.Common.{◌≡◌, ℕ, ◌+◌, ◌<◌, ◌≤◌, inl, inr, Bool, true, false, cond, ◌||◌, ◌&&◌, nat_eq, List, [], ◌∷◌, refl, sym, ap, ◌∙◌, map, arith}
 use Rattle.std.specs.declared.cmp.Ordering.{Ordering}
-use Rattle.std.specs.declared.cmp.Ordering.TheVariants.{Less, Equal, Greater}
+use Rattle.std.specs.declared.cmp.Ordering.TheVariants.{Equal}
 use Rattle.std.specs.List.{filter}
 use Rattle.std.specs.Ordering.{nat_cmp, is_eq, is_lt, eq_by_cmp, ordering_then}
-use Rattle.std.proofs.lemmas.Bool.{and_parts, and_from, or_from, or_left, or_right, false≢true, true≢false, eqb-true, eqb-false, cases_order, cases_eq}
+use Rattle.std.proofs.lemmas.Bool.{and_parts, and_from, or_from, or_left, or_right, eqb-true, eqb-false, cases_order, cases_eq}
 use Rattle.std.proofs.lemmas.Bool.Decides.{nat_tests}
 use Rattle.std.proofs.lemmas.Cmp.{tied_itself}
+use Rattle.std.proofs.Math.Bool.{and-false}
 use Rattle.dac_origins.specs.Keys.{is_below_all, is_rising, IsRising, has_key}
 use Rattle.dac_origins.specs.Dots.{dot, dot_cmp, origin_cmp}
 use Rattle.dac_origins.specs.laws.Dots.{origins_total}
@@ -88,20 +89,11 @@ ends_there v (n ∷ ns) h =
 -- ---- filters
 
 kept : (px t pn h : Bool) → (t ≡ true → px ≡ pn) → cond px (t || (pn && h)) (pn && h) ≡ (pn && (t || h))
-kept true true true h e = refl
-kept true true false h e = absurd (true≢false (e refl))
-kept false true true h e = absurd (false≢true (e refl))
-kept false true false h e = refl
-kept true false pn h e = refl
-kept false false pn h e = refl
-
-and_none : (a : Bool) → false ≡ (a && false)
-and_none true = refl
-and_none false = refl
+kept px t pn h e = grind arith
 
 module _ (p : ℕ → Bool) where
   pub has_key-filter : (ns : List ℕ) (n : ℕ) → has_key nat_cmp (filter p ns) n ≡ (p n && has_key nat_cmp ns n)
-  has_key-filter [] n = and_none (p n)
+  has_key-filter [] n = sym (and-false (p n))
   has_key-filter (x ∷ ns) n =
       let t = eq_by_cmp nat_cmp n x in
       elim (p x) as (λ b. p x ≡ b → has_key nat_cmp (cond b (x ∷ filter p ns) (filter p ns)) n ≡ (p n && (eq_by_cmp nat_cmp n x || has_key nat_cmp ns n))) [
@@ -126,9 +118,7 @@ module _ (p : ℕ → Bool) where
 -- ---- the counters of an origin
 
 pub is_eq-then : (r s : Ordering) → is_eq (ordering_then r s) ≡ (is_eq r && is_eq s)
-is_eq-then Less s = refl
-is_eq-then Equal s = refl
-is_eq-then Greater s = refl
+is_eq-then r s = grind arith
 
 tied_origins : (a b : Origin) → eq_by_cmp origin_cmp a b ≡ (nat_eq b.node.0 a.node.0 && nat_eq b.inc a.inc)
 tied_origins a b = is_eq-then (nat_cmp a.node.0 b.node.0) (nat_cmp a.inc b.inc) ∙ (λ i. turned a.node.0 b.node.0 i && turned a.inc b.inc i)

@@ -5,14 +5,16 @@ use Rattle.std.specs.List.{flat_map, AllByRecursion}
 use Rattle.std.specs.declared.cmp.Ordering.TheVariants.{Greater}
 use Rattle.std.specs.Ordering.{nat_cmp, eq_by_cmp, is_eq, ordering_reverse}
 use Rattle.std.proofs.Common.{inl, inr, sym, ap, ◌∙◌, arith}
+use Rattle.std.specs.Cmp.{both_ways}
 use Rattle.std.proofs.lemmas.Bool.{and_parts, and_from, and_right, or_cases, or_from, or_left, or_right, false≢true, true≢false, leb-true, le-leb, lt-leb, ltb-true, cases_order, false_from_ne_true}
 use Rattle.std.proofs.lemmas.Bool.Decides.{nat_tests}
 use Rattle.std.proofs.lemmas.Cmp.{nat_cmp_total, tied_itself}
 use Rattle.std.proofs.lemmas.List.Concat.{flat_map-cons}
 use Rattle.std.proofs.lemmas.List.Folds.{list_any-append}
 use Rattle.std.proofs.lemmas.Map.Lookups.{exact_unsigned}
+use Rattle.std.proofs.Math.Bool.{or-false, and-false}
 use Rattle.dac_origins.specs.Keys.{is_below_all, is_rising, IsRising, has_key}
-use Rattle.dac_origins.specs.laws.InOrder.{tie, less, same_rising}
+use Rattle.dac_origins.specs.laws.InOrder.{tie, less, same_rising, rest_same}
 use Rattle.dac_origins.specs.Dots.{Dots, dot, dot_cmp, origin_cmp}
 use Rattle.dac_origins.specs.laws.Dots.{dots_total, exact_dots, origins_total, exact_origins}
 use Rattle.dac_origins.specs.declared.dot.Origin.{Origin}
@@ -39,20 +41,17 @@ has_one_to (suc u) n =
 
 -- ---- the dots that rows contain
 
-and_none : (a : Bool) → false ≡ (a && false)
-and_none true = refl
-and_none false = refl
+pub or_turn : (a b c : Bool) → (a || (b || c)) ≡ ((b || a) || c)
+or_turn a b c = grind arith
 
-or_none : (a : Bool) → (a || false) ≡ a
-or_none true = refl
-or_none false = refl
+pub or_last : (a b c : Bool) → (a || (b || c)) ≡ (b || (c || a))
+or_last a b c = grind arith
 
 pub distribute : (a t h : Bool) → ((a && t) || (a && h)) ≡ (a && (t || h))
-distribute true t h = refl
-distribute false t h = refl
+distribute a t h = grind arith
 
 pub has_dots : (o : Origin) (ns : List ℕ) (q : Dot) → has_key dot_cmp (map (dot o) ns) q ≡ (eq_by_cmp origin_cmp q.origin o && has_key nat_cmp ns q.n)
-has_dots o [] q = and_none (eq_by_cmp origin_cmp q.origin o)
+has_dots o [] q = sym (and-false (eq_by_cmp origin_cmp q.origin o))
 has_dots o (n ∷ ns) q =
     (λ i. is_eq-then (origin_cmp q.origin o) (nat_cmp q.n n) i || has_dots o ns q i)
     ∙ distribute (eq_by_cmp origin_cmp q.origin o) (eq_by_cmp nat_cmp q.n n) (has_key nat_cmp ns q.n)
@@ -104,7 +103,7 @@ alone (row ∷ rows) h =
     let parts = and_parts (is_below_all origin_cmp row.origin (origins rows)) (is_rising origin_cmp (origins rows)) h in
     let here = λ (n : ℕ). ap (λ r. (is_eq r && has_counter row n) || any_row rows (dot row.origin n)) (tied_itself origins_total row.origin)
     ∙ ap (λ b. has_counter row n || b) (absent row.origin n rows parts.0)
-    ∙ or_none (has_counter row n) in
+    ∙ or-false (has_counter row n) in
     (here, later row rows rows parts.0 (alone rows parts.1))
 
 -- ---- rows that satisfy the invariant describe their set
@@ -158,11 +157,6 @@ kept_tell rows is =
 
 -- ---- each set has one list of rows
 
-pub both_ways : (s t : Bool) → (s ≡ true → t ≡ true) → (t ≡ true → s ≡ true) → s ≡ t
-both_ways true t f g = sym (f refl)
-both_ways false true f g = g refl
-both_ways false false f g = refl
-
 module _ (dots : Dots) where
   pub origin_has : (rows : List Row) → AllByRecursion (IsRowOf dots) rows → (q : Origin) → has_key origin_cmp (origins rows) q ≡ true → (n : ℕ) × (set.contains dots (dot q n) ≡ true)
   origin_has [] each q e = absurd (false≢true e)
@@ -197,10 +191,6 @@ module _ (dots : Dots) where
       let low = leb-true 1 n parts.0 in
       let high = leb-true n x.upto parts.1 in
       elim (g.apart n e) [ inl none ↦ omega arith | inr past ↦ omega arith ])
-
-  rest_same : (a x y : Bool) → (a ≡ true → x ≡ false) → (a ≡ true → y ≡ false) → (a || x) ≡ (a || y) → x ≡ y
-  rest_same true x y p q e = p refl ∙ sym (q refl)
-  rest_same false x y p q e = e
 
   same_further : (x y : Row) → IsRowOf dots x → IsRowOf dots y → x.origin ≡ y.origin → x.upto ≡ y.upto → x.further ≡ y.further
   same_further x y g h same upto = same_rising nat_cmp_total exact_unsigned x.further y.further g.rising h.rising (λ n.

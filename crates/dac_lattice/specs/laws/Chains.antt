@@ -2,39 +2,28 @@
 use Rattle.std.specs.Prelude.{◌≡◌, ℕ, true, false, cond, refl}
 use Rattle.std.proofs.Common.{zero, suc, arith, sym, ap, subst}
 use Rattle.std.specs.declared.cmp.Ordering.{Ordering}
-use Rattle.std.specs.declared.cmp.Ordering.TheVariants.{Less, Equal, Greater}
+use Rattle.std.specs.declared.cmp.Ordering.TheVariants.{Less, Equal}
 use Rattle.std.specs.Ordering.{is_le, is_lt, is_gt, nat_cmp, ordering_reverse, ord_max}
 use Rattle.std.specs.Cmp.{IsTotalOrder, nat_cmp_is}
-use Rattle.std.proofs.lemmas.Bool.{true≢false, false≢true}
 use Rattle.std.proofs.lemmas.Cmp.{upto, tied_itself}
 use Rattle.std.proofs.lemmas.Map.Lookups.{CmpEqualImpliesEq}
 use Rattle.dac_lattice.specs.Lattices.{IsLattice}
 use Rattle.dac_lattice.specs.Chains.{IsAny, IsAtMost}
 
 not_greater : (o : Ordering) → is_le o ≡ true → is_gt o ≡ false
-not_greater Less e = refl
-not_greater Equal e = refl
-not_greater Greater e = absurd (false≢true e)
+not_greater o e = grind arith
 
 at_most : (o : Ordering) → is_gt o ≡ false → is_le o ≡ true
-at_most Less e = refl
-at_most Equal e = refl
-at_most Greater e = absurd (true≢false e)
+at_most o e = grind arith
 
 lower : (o : Ordering) → is_lt o ≡ true → is_le o ≡ true
-lower Less e = refl
-lower Equal e = refl
-lower Greater e = absurd (false≢true e)
+lower o e = grind arith
 
 turned : (o : Ordering) → is_lt o ≡ false → is_le (ordering_reverse o) ≡ true
-turned Less e = absurd (true≢false e)
-turned Equal e = refl
-turned Greater e = refl
+turned o e = grind arith
 
 tie : (o : Ordering) → is_le o ≡ true → is_le (ordering_reverse o) ≡ true → o ≡ Equal
-tie Less e f = absurd (false≢true f)
-tie Equal e f = refl
-tie Greater e f = absurd (false≢true e)
+tie o e f = grind arith
 
 module _ {T : Type 0} {cmp : T → T → Ordering} (o : IsTotalOrder cmp) (exact : CmpEqualImpliesEq cmp) where
   at_most_itself : (x : T) → IsAtMost cmp x x

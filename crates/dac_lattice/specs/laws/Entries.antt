@@ -1,6 +1,6 @@
 -- Laws of the definitions in `Entries`.
-use Rattle.std.specs.Prelude.{◌≡◌, Bool, true, false, cond, ◌&&◌, T, List, [], ◌∷◌, Option, None, Some, refl}
-use Rattle.std.proofs.Common.{sym, ap, subst, ◌∙◌}
+use Rattle.std.specs.Prelude.{◌≡◌, true, false, cond, T, List, [], ◌∷◌, Option, None, Some, refl}
+use Rattle.std.proofs.Common.{sym, ap, subst, ◌∙◌, arith}
 use Rattle.std.specs.declared.cmp.Ordering.{Ordering}
 use Rattle.std.specs.declared.cmp.Ordering.TheVariants.{Less, Equal, Greater}
 use Rattle.std.specs.Ordering.{is_lt, is_eq, eq_by_cmp, ordering_reverse}
@@ -8,34 +8,17 @@ use Rattle.std.specs.Cmp.{IsTotalOrder}
 use Rattle.std.proofs.lemmas.Map.Lookups.{CmpEqualImpliesEq}
 use Rattle.std.specs.FinMap.{find, is_sorted}
 use Rattle.std.specs.FinMap.Entries.{below_all, by_order}
+use Rattle.std.proofs.Math.Facts.{yes_and}
 use Rattle.dac_lattice.specs.Entries.{Combine, keep, merge_right, merge_entry, merge_entries}
-
-both : (a b : Bool) → T a → T b → T (a && b)
-both true b p q = q
-both false b p q = p
-
-first : (a b : Bool) → T (a && b) → T a
-first true b p = tt
-first false b p = p
-
-second : (a b : Bool) → T (a && b) → T b
-second true b p = p
-second false b p = absurd p
-
-less : (o : Ordering) → T (is_lt o) → o ≡ Less
-less Less p = refl
-less Equal p = absurd p
-less Greater p = absurd p
+use Rattle.dac_lattice.specs.laws.EntryLaws.{first, second, less}
 
 equal : (r : Ordering) → T (is_eq r) → r ≡ Equal
-equal Less p = absurd p
-equal Equal p = refl
-equal Greater p = absurd p
+equal r p = grind arith
 
 module _ {K X : Type 0} {R : K → K → Ordering} (o : IsTotalOrder R) (exact : CmpEqualImpliesEq R) where
-  below_more : (x y : K) (es : List (K × X)) → R x y ≡ Less → T (below_all R y es) → T (below_all R x es)
+  pub below_more : (x y : K) (es : List (K × X)) → R x y ≡ Less → T (below_all R y es) → T (below_all R x es)
   below_more x y [] p h = tt
-  below_more x y (e ∷ es) p h = both _ _ (subst (λ r. T (is_lt r)) (sym (o.trans x y e.0 p (less _ (first _ _ h)))) tt) (below_more x y es p (second _ _ h))
+  below_more x y (e ∷ es) p h = yes_and _ _ (subst (λ r. T (is_lt r)) (sym (o.trans x y e.0 p (less _ (first _ _ h)))) tt) (below_more x y es p (second _ _ h))
 
   -- a key less than all others isn't among them
   pub find_below : (q : K) (es : List (K × X)) → T (below_all R q es) → find R q es ≡ None
@@ -43,12 +26,10 @@ module _ {K X : Type 0} {R : K → K → Ordering} (o : IsTotalOrder R) (exact :
   find_below q (e ∷ es) h = ap (λ r. cond (is_eq r) (Some e.1) (find R q es)) (less _ (first _ _ h)) ∙ find_below q es (second _ _ h)
 
   below_keep : (x k : K) (v : Option X) (es : List (K × X)) → R x k ≡ Less → T (below_all R x es) → T (below_all R x (keep k v es))
-  below_keep x k None es p h = h
-  below_keep x k (Some v) es p h = both _ _ (subst (λ r. T (is_lt r)) (sym p) tt) h
+  below_keep x k v es p h = grind (arith, yes_and)
 
   sorted_keep : (k : K) (v : Option X) (es : List (K × X)) → T (below_all R k es) → T (is_sorted R es) → T (is_sorted R (keep k v es))
-  sorted_keep k None es b h = h
-  sorted_keep k (Some v) es b h = both _ _ b h
+  sorted_keep k v es b h = grind (arith, yes_and)
 
   find_keep : (q k : K) (v : Option X) (es : List (K × X)) → T (below_all R k es) → find R q (keep k v es) ≡ cond (eq_by_cmp R q k) v (find R q es)
   find_keep q k (Some v) es b = refl
@@ -95,11 +76,11 @@ module _ {K X : Type 0} {R : K → K → Ordering} (o : IsTotalOrder R) (exact :
         (keep x.0 (f x.0 (Some x.1) None) (merge_entries R f xs (y ∷ ys)))
         (keep x.0 (f x.0 (Some x.1) (Some y.1)) (merge_entries R f xs ys))
         (keep y.0 (f y.0 None (Some y.1)) (merge_entry R f x (merge_entries R f xs) ys))))) [
-          | Less ↦ λ p. sorted_keep x.0 _ _ (below_merge x.0 xs (y ∷ ys) u.above (both _ _ (subst (λ r. T (is_lt r)) (sym p) tt) (below_more x.0 y.0 ys p after_y))) (u.sorted (y ∷ ys) h)
+          | Less ↦ λ p. sorted_keep x.0 _ _ (below_merge x.0 xs (y ∷ ys) u.above (yes_and _ _ (subst (λ r. T (is_lt r)) (sym p) tt) (below_more x.0 y.0 ys p after_y))) (u.sorted (y ∷ ys) h)
           | Equal ↦ λ p. sorted_keep x.0 _ _ (below_merge x.0 xs ys u.above (subst (λ k. T (below_all R k ys)) (sym (exact _ _ p)) after_y)) (u.sorted ys (second _ _ h))
           | Greater ↦ λ p.
               let y_first : R y.0 x.0 ≡ Less = o.antisymm y.0 x.0 ∙ ap ordering_reverse p in
-              sorted_keep y.0 _ _ (below_merge y.0 (x ∷ xs) ys (both _ _ (subst (λ r. T (is_lt r)) (sym y_first) tt) (below_more y.0 x.0 xs y_first u.above)) after_y) (sorted_entry x xs u ys (second _ _ h))
+              sorted_keep y.0 _ _ (below_merge y.0 (x ∷ xs) ys (yes_and _ _ (subst (λ r. T (is_lt r)) (sym y_first) tt) (below_more y.0 x.0 xs y_first u.above)) after_y) (sorted_entry x xs u ys (second _ _ h))
         ] refl
 
     -- the merge is in order
@@ -137,7 +118,7 @@ module _ {K X : Type 0} {R : K → K → Ordering} (o : IsTotalOrder R) (exact :
           (keep x.0 (f x.0 (Some x.1) (Some y.1)) (merge_entries R f xs ys))
           (keep y.0 (f y.0 None (Some y.1)) (merge_entry R f x (merge_entries R f xs) ys))) ≡ f q (find R q (x ∷ xs)) (find R q (y ∷ ys))) [
             | Less ↦ λ p.
-                let x_below : T (below_all R x.0 (y ∷ ys)) = both _ _ (subst (λ r. T (is_lt r)) (sym p) tt) (below_more x.0 y.0 ys p after_y) in
+                let x_below : T (below_all R x.0 (y ∷ ys)) = yes_and _ _ (subst (λ r. T (is_lt r)) (sym p) tt) (below_more x.0 y.0 ys p after_y) in
                 find_keep q x.0 (f x.0 (Some x.1) None) (merge_entries R f xs (y ∷ ys)) (below_merge x.0 xs (y ∷ ys) u.above x_below)
                 ∙ elim (eq_by_cmp R q x.0) as (λ t. eq_by_cmp R q x.0 ≡ t → cond t (f x.0 (Some x.1) None) (find R q (merge_entries R f xs (y ∷ ys))) ≡ f q (cond t (Some x.1) (find R q xs)) (find R q (y ∷ ys))) [
                   | true ↦ λ t.
@@ -155,7 +136,7 @@ module _ {K X : Type 0} {R : K → K → Ordering} (o : IsTotalOrder R) (exact :
                 ∙ ap (λ k. f q (find R q (x ∷ xs)) (cond (eq_by_cmp R q k) (Some y.1) (find R q ys))) keys
             | Greater ↦ λ p.
                 let y_first : R y.0 x.0 ≡ Less = o.antisymm y.0 x.0 ∙ ap ordering_reverse p in
-                let y_below : T (below_all R y.0 (x ∷ xs)) = both _ _ (subst (λ r. T (is_lt r)) (sym y_first) tt) (below_more y.0 x.0 xs y_first u.above) in
+                let y_below : T (below_all R y.0 (x ∷ xs)) = yes_and _ _ (subst (λ r. T (is_lt r)) (sym y_first) tt) (below_more y.0 x.0 xs y_first u.above) in
                 find_keep q y.0 (f y.0 None (Some y.1)) (merge_entry R f x (merge_entries R f xs) ys) (below_merge y.0 (x ∷ xs) ys y_below after_y)
                 ∙ elim (eq_by_cmp R q y.0) as (λ t. eq_by_cmp R q y.0 ≡ t → cond t (f y.0 None (Some y.1)) (find R q (merge_entry R f x (merge_entries R f xs) ys)) ≡ f q (find R q (x ∷ xs)) (cond t (Some y.1) (find R q ys))) [
                   | true ↦ λ t.

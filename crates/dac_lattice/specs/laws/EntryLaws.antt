@@ -4,27 +4,24 @@ use Rattle.std.proofs.lemmas.List.{take_all}
 use Rattle.std.proofs.lemmas.List.Elements.{All-more}
 use Rattle.std.proofs.Common.{take, zero, suc, sym, ap, subst, ◌∙◌, arith, get_or}
 use Rattle.std.specs.declared.cmp.Ordering.{Ordering}
-use Rattle.std.specs.declared.cmp.Ordering.TheVariants.{Less, Equal, Greater}
+use Rattle.std.specs.declared.cmp.Ordering.TheVariants.{Less, Greater}
 use Rattle.std.specs.Ordering.{is_lt, is_eq, eq_by_cmp, ordering_reverse}
 use Rattle.std.specs.Cmp.{IsTotalOrder}
 use Rattle.std.proofs.lemmas.Cmp.{tied_itself}
 use Rattle.std.proofs.lemmas.Map.Lookups.{CmpEqualImpliesEq}
 use Rattle.std.specs.FinMap.{find, is_sorted}
 use Rattle.std.specs.FinMap.Entries.{below_all}
+use Rattle.dac_origins.specs.laws.InOrder.{tie}
 use Rattle.dac_lattice.specs.Search.{IsInOrder, AtEachKey, AtEachEntry}
 
 pub first : (a b : Bool) → T (a && b) → T a
-first true b p = tt
-first false b p = p
+first a b p = grind arith
 
 pub second : (a b : Bool) → T (a && b) → T b
-second true b p = p
-second false b p = absurd p
+second a b p = grind arith
 
 pub less : (o : Ordering) → T (is_lt o) → o ≡ Less
-less Less p = refl
-less Equal p = absurd p
-less Greater p = absurd p
+less o p = grind arith
 
 module _ {K : Type 0} {R : K → K → Ordering} (o : IsTotalOrder R) where
   pub greater : (x y : K) → R x y ≡ Less → R y x ≡ Greater
@@ -44,16 +41,11 @@ module _ {K X : Type 0} {R : K → K → Ordering} (o : IsTotalOrder R) (exact :
       ap (λ r. cond (is_eq r) (Some x.1) (find R (get_or xs i d).0 xs)) (greater o x.0 (get_or xs i d).0 (above_at x.0 xs i d (first _ _ h) (omega arith)))
       ∙ find_at xs i d (second _ _ h) (omega arith)
 
-tied_from : (r : Ordering) → is_eq r ≡ true → r ≡ Equal
-tied_from Less p = cc
-tied_from Equal p = refl
-tied_from Greater p = cc
-
 module _ {K X : Type 0} {R : K → K → Ordering} (o : IsTotalOrder R) (exact : CmpEqualImpliesEq R) (P : K → Option X → Type 0) where
   pub each_key : ((k : K) → P k None) → (xs : List (K × X)) → AtEachEntry P xs → AtEachKey R P xs
   each_key none [] all k = none k
   each_key none (x ∷ xs) all k = elim (eq_by_cmp R k x.0) as (λ t. eq_by_cmp R k x.0 ≡ t → P k (cond t (Some x.1) (find R k xs))) [
-    | true ↦ λ t. subst (λ q. P q (Some x.1)) (sym (exact k x.0 (tied_from (R k x.0) t))) (all 0 x (omega arith))
+    | true ↦ λ t. subst (λ q. P q (Some x.1)) (sym (exact k x.0 (tie (R k x.0) t))) (all 0 x (omega arith))
     | false ↦ λ t. each_key none xs (λ i d p. all (suc i) d (omega arith)) k
   ] refl
 

@@ -1,6 +1,6 @@
 -- Laws of the definitions in `Flags`.
-use Rattle.std.specs.Prelude.{◌≡◌, true, false, refl}
-use Rattle.std.proofs.Common.{sym, ap, ◌∙◌}
+use Rattle.std.specs.Prelude.{◌≡◌, refl}
+use Rattle.std.proofs.Common.{sym, ap, ◌∙◌, arith}
 use Rattle.std.specs.declared.cmp.Ordering.{Ordering}
 use Rattle.std.specs.declared.cmp.Ordering.TheVariants.{Less, Equal, Greater}
 use Rattle.std.specs.Ordering.{is_eq}
@@ -19,10 +19,7 @@ flags_total = on_total height nat_cmp_total
 
 -- an order in which Up is below Down is the order of flags
 pub same_flag_cmp : (cmp : Flag → Flag → Ordering) → cmp Up Up ≡ Equal → cmp Up Down ≡ Less → cmp Down Up ≡ Greater → cmp Down Down ≡ Equal → (x y : Flag) → cmp x y ≡ flag_cmp x y
-same_flag_cmp cmp p q r s Up Up = p
-same_flag_cmp cmp p q r s Up Down = q
-same_flag_cmp cmp p q r s Down Up = r
-same_flag_cmp cmp p q r s Down Down = s
+same_flag_cmp cmp p q r s x y = grind arith
 
 -- in an order in which Up is below Down, only equal flags tie
 pub exact_flags : (cmp : Flag → Flag → Ordering) → cmp Up Down ≡ Less → cmp Down Up ≡ Greater → CmpEqualImpliesEq cmp
@@ -44,10 +41,7 @@ below_through Down Up z u v w p q = absurd p
 below_through Down Down z u v w p q = q
 
 below_both : (x y : Flag) → IsAny x → IsAny y → IsFlagBelow x y → IsFlagBelow y x → x ≡ y
-below_both Up Up u v p q = refl
-below_both Up Down u v p q = absurd q
-below_both Down Up u v p q = absurd p
-below_both Down Down u v p q = refl
+below_both x y u v p q = grind arith
 
 below_left : (x y : Flag) → IsAny x → IsAny y → IsFlagBelow x (join_flags x y)
 below_left Up y u v = tt

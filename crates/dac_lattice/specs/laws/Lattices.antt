@@ -1,6 +1,6 @@
 -- Laws of the definitions in `Lattices`.
 use Rattle.std.specs.Prelude.{◌≡◌, Option, None, Some, refl}
-use Rattle.std.proofs.Common.{sym, ap, subst, ◌∙◌}
+use Rattle.std.proofs.Common.{sym, ap, subst, ◌∙◌, arith}
 use Rattle.dac_lattice.specs.Lattices.{IsOptionOf, IsLattice, IsOptionBelow, join_options}
 
 -- a type isomorphic to a lattice is a lattice
@@ -43,10 +43,7 @@ module _ {T : Type 0} {is_value : T → Type 0} {below : T → T → Type 0} {jo
   o_trans (Some x) (Some y) (Some z) u v w p q = laws.trans x y z u v w p q
 
   o_antisymm : (x y : Option T) → IsOptionOf is_value x → IsOptionOf is_value y → IsOptionBelow below x y → IsOptionBelow below y x → x ≡ y
-  o_antisymm None None u v p q = refl
-  o_antisymm None (Some y) u v p q = absurd q
-  o_antisymm (Some x) None u v p q = absurd p
-  o_antisymm (Some x) (Some y) u v p q = ap (λ z. Some z) (laws.antisymm x y u v p q)
+  o_antisymm x y u v p q = grind arith
 
   o_closed : (x y : Option T) → IsOptionOf is_value x → IsOptionOf is_value y → IsOptionOf is_value (join_options join x y)
   o_closed None y u v = v

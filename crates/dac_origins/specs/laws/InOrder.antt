@@ -1,43 +1,33 @@
 -- Laws of the definitions in `InOrder`.
 use Rattle.std.specs.Prelude.{◌≡◌, Bool, true, false, ◌||◌, List, [], ◌∷◌, refl}
-use Rattle.std.proofs.Common.{sym, ap, ◌∙◌}
+use Rattle.std.proofs.Common.{sym, ap, ◌∙◌, arith}
 use Rattle.std.specs.declared.cmp.Ordering.{Ordering}
 use Rattle.std.specs.declared.cmp.Ordering.TheVariants.{Less, Equal, Greater}
 use Rattle.std.specs.Ordering.{is_lt, is_eq, eq_by_cmp, ordering_reverse}
 use Rattle.std.specs.Cmp.{IsTotalOrder}
 use Rattle.std.specs.FinSet as set
 use Rattle.std.specs.FinMap.Entries.{by_order}
-use Rattle.std.proofs.lemmas.Bool.{and_parts, and_from, false≢true, true≢false}
+use Rattle.std.proofs.lemmas.Bool.{and_parts, and_from, true≢false}
 use Rattle.std.proofs.lemmas.Cmp.{tied_itself}
 use Rattle.std.proofs.lemmas.Map.Lookups.{CmpEqualImpliesEq}
+use Rattle.std.proofs.Math.Bool.{or_self_left}
 use Rattle.dac_origins.specs.Keys.{is_below_all, IsRising, has_key}
 use Rattle.dac_origins.specs.InOrder.{in_order, placed, sorted}
 
 -- ---- disjunctions, and lists without a key
 
-or_again : (a b : Bool) → (a || (a || b)) ≡ (a || b)
-or_again true b = refl
-or_again false b = refl
-
 pub or_swap : (a b c : Bool) → (a || (b || c)) ≡ (b || (a || c))
-or_swap true true c = refl
-or_swap true false c = refl
-or_swap false b c = refl
+or_swap a b c = grind arith
 
 -- two tests are equal if their disjunctions with a third are, and both fail whenever it holds
-rest_same : (a x y : Bool) → (a ≡ true → x ≡ false) → (a ≡ true → y ≡ false) → (a || x) ≡ (a || y) → x ≡ y
-rest_same true x y p q e = p refl ∙ sym (q refl)
-rest_same false x y p q e = e
+pub rest_same : (a x y : Bool) → (a ≡ true → x ≡ false) → (a ≡ true → y ≡ false) → (a || x) ≡ (a || y) → x ≡ y
+rest_same a x y p q e = grind arith
 
 pub less : (r : Ordering) → is_lt r ≡ true → r ≡ Less
-less Less p = refl
-less Equal p = absurd (false≢true p)
-less Greater p = absurd (false≢true p)
+less r p = grind arith
 
 pub tie : (r : Ordering) → is_eq r ≡ true → r ≡ Equal
-tie Less p = absurd (false≢true p)
-tie Equal p = refl
-tie Greater p = absurd (false≢true p)
+tie r p = grind arith
 
 module _ {K : Type 0} {R : K → K → Ordering} (o : IsTotalOrder R) where
   pub below_more : (x y : K) (ks : List K) → R x y ≡ Less → is_below_all R y ks ≡ true → is_below_all R x ks ≡ true
@@ -77,7 +67,7 @@ module _ {K : Type 0} {R : K → K → Ordering} (o : IsTotalOrder R) where
     has_key-placed k [] q = refl
     has_key-placed k (y ∷ ys) q = elim (R k y) as (λ r. R k y ≡ r → has_key R (by_order r (k ∷ y ∷ ys) (y ∷ ys) (y ∷ placed R k ys)) q ≡ (eq_by_cmp R q k || has_key R (y ∷ ys) q)) [
       | Less ↦ λ p. refl
-      | Equal ↦ λ p. sym (ap (λ x. eq_by_cmp R q x || (eq_by_cmp R q y || has_key R ys q)) (exact k y p) ∙ or_again (eq_by_cmp R q y) (has_key R ys q))
+      | Equal ↦ λ p. sym (ap (λ x. eq_by_cmp R q x || (eq_by_cmp R q y || has_key R ys q)) (exact k y p) ∙ or_self_left (eq_by_cmp R q y) (has_key R ys q))
       | Greater ↦ λ p. ap (λ b. eq_by_cmp R q y || b) (has_key-placed k ys q) ∙ or_swap (eq_by_cmp R q y) (eq_by_cmp R q k) (has_key R ys q)
     ] refl
 

@@ -1,13 +1,10 @@
-use Rattle.std.proofs.Common.{◌≡◌, ◌∷◌, [], ◌||◌, ◌∙◌, List, true, sym, subst, Result, Ok, Err, OnErr}
+use Rattle.std.proofs.Common.{◌≡◌, ◌∷◌, [], ◌||◌, ◌∙◌, List, true, sym, subst}
 use Rattle.std.proofs.lemmas.Result.{IfOk-weaker}
+use Rattle.dac_origins.specs.laws.Basics.{fails_so}
 use Rattle.dac_dots.specs.Spans.{any_span, are_apart, hull, span_has, spans_of}
 use Rattle.dac_dots.specs.declared.spans.Span.{Span}
 use Rattle.dac_dots.proofs.SpanLemmas.{one_apart, two_apart, none_earlier, second_put, hull_valid}
 use Rattle.dac_dots.proofs.spans.one_or_two.Goals as goal
-
-fails_so : {T E P : Type 0} (r : Result T E) → P → OnErr r P
-fails_so (Ok x) p = tt
-fails_so (Err e) p = p
 
 -- the required properties of the union with one more span
 abbrev HasMore : Span → Span → List Span → Type 0

@@ -1,4 +1,5 @@
-use Rattle.std.proofs.Common.{◌++◌, sym, ◌∙◌, ◌∷◌, inl, inr, arith, drop, Result, Ok, Err, OnErr}
+use Rattle.std.proofs.Common.{◌++◌, sym, ◌∙◌, ◌∷◌, inl, inr, arith, drop}
+use Rattle.dac_origins.specs.laws.Basics.{fails_so}
 use Rattle.dac_dots.proofs.SpanLemmas.{put_has, put_apart, put_alone}
 use Rattle.dac_dots.proofs.spans.put_among.Goals as goal
 
@@ -21,10 +22,6 @@ returns-in_err-insert-clause-apart c = elim c.absorb_touching-joined.ensures.roo
   | inl same ↦ rw (c.in_err-insert.ensures.items, same.0) c.requires.apart
   | inr room ↦ absurd (let full = c.in_err-insert.ensures.full in omega arith)
 ]
-
-fails_so : {T E P : Type 0} (r : Result T E) → P → OnErr r P
-fails_so (Ok x) p = tt
-fails_so (Err e) p = p
 
 pub returns-in_err-insert-clause-first : goal.returns-in_err-insert-clause-first
 returns-in_err-insert-clause-first c = fails_so c.from_residual.result (elim c.absorb_touching-joined.ensures.room [

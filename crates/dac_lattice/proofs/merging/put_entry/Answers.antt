@@ -1,4 +1,5 @@
-use Rattle.std.proofs.Common.{Result, Ok, Err, OnErr, ◌∙◌}
+use Rattle.std.proofs.Common.{◌∙◌}
+use Rattle.dac_origins.specs.laws.Basics.{fails_so}
 use Rattle.dac_lattice.proofs.Putting.{absent, put_between, put_there, in_order_put}
 use Rattle.dac_lattice.proofs.merging.put_entry.Goals as goal
 
@@ -25,10 +26,6 @@ returns-in_ok-insert-in-Err-clause-in_order g c =
     (c.in_ok-insert-in-Err.ensures.items
     ∙ put_between g.met.K.Ord.total g.met.K.MapKey.exact c.args.entries.now.items c.in-Err.place c.args.key c.args.value c.requires
     (rw c.deref.ensures.value at c.in-Err.ensures.bound) (rw c.deref.ensures.value at c.in-Err.ensures.position))
-
-fails_so : {T E P : Type 0} (r : Result T E) → P → OnErr r P
-fails_so (Ok x) p = tt
-fails_so (Err e) p = p
 
 pub returns-in_err-insert-in-Err-clause-first : goal.returns-in_err-insert-in-Err-clause-first
 returns-in_err-insert-in-Err-clause-first g c =

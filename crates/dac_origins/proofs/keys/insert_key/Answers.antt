@@ -1,4 +1,5 @@
-use Rattle.std.proofs.Common.{Result, Ok, Err, OnErr, sym}
+use Rattle.std.proofs.Common.{sym}
+use Rattle.dac_origins.specs.laws.Basics.{fails_so}
 use Rattle.dac_origins.proofs.KeyLemmas.{found, has_key-insert, has_key-again, rising_searched}
 use Rattle.dac_origins.proofs.keys.insert_key.Goals as goal
 
@@ -14,10 +15,6 @@ returns-in_default-clause-ok g c q =
     let facts = c.binary_search.ensures in
     let here = found g.met.K.Ord.total _ c.args.key _ (rw c.deref.ensures.value c.requires) facts.bound facts.position in
     has_key-again g.met.K.Ord.total g.met.K.MapKey.exact _ _ (rw (c.in_default.is, c.deref.ensures.value) at (sym here)) q
-
-fails_so : {T E P : Type 0} (r : Result T E) → P → OnErr r P
-fails_so (Ok x) p = tt
-fails_so (Err e) p = p
 
 pub returns-in_err-insert-clause-first : goal.returns-in_err-insert-clause-first
 returns-in_err-insert-clause-first g c =

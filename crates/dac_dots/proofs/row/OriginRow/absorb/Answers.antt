@@ -1,10 +1,6 @@
-use Rattle.std.proofs.Common.{Result, Ok, Err, OnErr}
+use Rattle.dac_origins.specs.laws.Basics.{fails_so}
 use Rattle.dac_dots.proofs.RowLemmas.{seen_counter, seen_more, seen_same, seen_both}
 use Rattle.dac_dots.proofs.row.OriginRow.absorb.Goals as goal
-
-fails_so : {T E P : Type 0} (r : Result T E) → P → OnErr r P
-fails_so (Ok x) p = tt
-fails_so (Err e) p = p
 
 pub returns-in_err-absorb-clause-err : goal.returns-in_err-absorb-clause-err
 returns-in_err-absorb-clause-err c =

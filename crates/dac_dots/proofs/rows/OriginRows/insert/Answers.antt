@@ -1,10 +1,7 @@
-use Rattle.std.proofs.Common.{Result, Ok, Err, OnErr, ◌∙◌}
+use Rattle.std.proofs.Common.{◌∙◌}
+use Rattle.dac_origins.specs.laws.Basics.{fails_so}
 use Rattle.dac_dots.proofs.PlaceLemmas.{found_has, none_has, put_kept, put_is, new_kept, new_is, one_some}
 use Rattle.dac_dots.proofs.rows.OriginRows.insert.Goals as goal
-
-fails_so : {T E P : Type 0} (r : Result T E) → P → OnErr r P
-fails_so (Ok x) p = tt
-fails_so (Err e) p = p
 
 pub invariant_of-self : goal.invariant_of-self
 invariant_of-self c =
