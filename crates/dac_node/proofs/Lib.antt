@@ -1,4 +1,4 @@
 pub mod Knows
 pub mod Effects
-pub mod Gates
+pub mod Ticks
 pub mod Tests

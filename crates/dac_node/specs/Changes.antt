@@ -10,9 +10,9 @@ use Rattle.dac_messages.specs.declared.reply.Reply.TheVariants.{Booted}
 use Rattle.dac_model_node.specs.NodeValue.{NodeValue, RunningValue}
 use Rattle.dac_model_node.specs.Transitions.{transition_of}
 use Rattle.dac_model_node.specs.Step.{up}
-use Rattle.dac_model_node.specs.Accepted.{AcceptedAs, IsNoting, booted}
+use Rattle.dac_model_node.specs.Accepted.{AcceptedAs, IsNoting, booted, running_by}
 use Rattle.dac_node.specs.declared.change.After.{After}
-use Rattle.dac_node.specs.After.{running_after, FitsIn, after_by, after_from_base}
+use Rattle.dac_node.specs.After.{running_after, adds_of, IsAt, FitsIn}
 
 -- the number of the last incarnation, the running value, and the reply, after an event
 pub record ChangeValue : Type 0 where
@@ -41,12 +41,14 @@ pub record BootsBy (t : Table) (me : NodeId) (number : ℕ) (now : ℕ) (change 
   pub after : running_after change.after None ≡ Some (booted t (record { node = me; inc = number + 1 }) now)
   pub reply : change.reply ≡ Booted (up (record { node = me; inc = number + 1 }))
 
--- The effect of an accepted event at a running node. The number by which it trims matters only above the base.
+-- the effect of an accepted event at a running node
 pub record Effect (t : Table) (number : ℕ) (r : RunningValue) (e : Event) (change : ChangeValue) : Type 0 where
   pub noted : List (Option Noted)
   pub noting : IsNoting t r noted e
   pub last : change.last ≡ number
-  pub after : after_from_base r change.after ≡ after_from_base r (after_by r noted (transition_of t r noted e))
+  pub running : running_after change.after (Some r) ≡ running_by r noted (transition_of t r noted e)
+  pub adds : adds_of change.after ≡ (transition_of t r noted e).adds
+  pub fits : IsAt r change.after
   pub reply : change.reply ≡ (transition_of t r noted e).reply
 
 -- the event is accepted, and this is its effect

@@ -1,4 +1,3 @@
-pub mod Knowing
 pub mod After
 pub mod Changes
 pub mod ByDots

@@ -1,6 +1,6 @@
 //! The effect of an accepted event, prepared before anything changes.
 
-ghost use Rattle.std.specs.Prelude.{◌≡◌, ◌<◌, ◌∷◌, [], IfOk, IfErr, MatchOption, None};
+ghost use Rattle.std.specs.Prelude.{◌≡◌, ◌<◌, ◌∷◌, [], not, IfOk, IfErr, MatchOption, None};
 ghost use Rattle.dac_base.specs.declared.limits.TheConstants.{MAX_INCARNATION};
 ghost use Rattle.dac_config.specs.Table.{Table};
 ghost use Rattle.dac_meaning.specs.Below.{is_below};
@@ -8,17 +8,15 @@ ghost use Rattle.dac_meaning.specs.Meaning.{meaning_of};
 ghost use Rattle.dac_messages.specs.Bodies.{content_of};
 ghost use Rattle.dac_model_node.specs.EventRefusals.{refusal_on, refusal_to_obey};
 
-use crate::advance::Advance;
-use crate::gain::Gain;
-use crate::knowledge::covers;
+use crate::below::covers;
+use crate::notes::NoteChange;
 use crate::running::Running;
-use crate::ticking::tick;
+use crate::ticking::{TickChange, tick};
 use dac_base::{NoMemory, NodeId};
 use dac_config::Config;
 use dac_events::Command;
 use dac_messages::{Event, Message, Reply};
 use dac_origins::Origin;
-use dac_peers::Peers;
 use dac_state::Op;
 use std::alloc::Global;
 use std::marker::Model;
@@ -30,12 +28,10 @@ pub(crate) enum After {
     Off,
     /// The node boots. The value is boxed to keep other changes small, because changes are moved.
     Boots(Box<Running, Global>),
-    /// The running node goes on with this knowledge and these deltas.
-    GoesOn(Advance),
-    /// The running node adds this delta.
-    Gains(Gain),
-    /// The running node keeps all except the peer table, and drops deltas below this number.
-    Keeps(Peers, u64),
+    /// The running node ticks.
+    Ticks(TickChange),
+    /// The running node notes another event.
+    Notes(NoteChange),
 }
 
 /// The running value after an event other than a crash, and the reply.
@@ -74,8 +70,7 @@ impl Model for Change {
 
 impl Change {
     ghost use Rattle.dac_node.specs.Changes.{BootsBy, Effect};
-    ghost use Rattle.dac_node.specs.Knowing.{hearing, knowledge_of};
-    ghost use Rattle.dac_node.specs.After.{after_from_base, from_base};
+    ghost use Rattle.dac_node.specs.After.{news, noting};
 
     /// Borrows the reply to the event. A crash has none to borrow; its reply is [`Reply::Crashed`].
     pub fn reply(&self) -> Option<&Reply>
@@ -202,9 +197,9 @@ impl Change {
         requires { refusal_to_obey config.now running.now command ≡ None }
         ensures { IfOk result (Effect config.now last running.now (Event.Command command)) }
     {
-        let (gain, operation) = running.command(config, command)?;
-        let alloc = running.knowledge.alloc;
-        let change = Change::new(alloc, last, After::Gains(gain), Reply::Issued(operation))?;
+        let (notes, operation) = running.command(config, command)?;
+        let reply = Reply::Issued(operation);
+        let change = Change::new(running.alloc, last, After::Notes(notes), reply)?;
         Ok(change)
     }
 
@@ -214,9 +209,9 @@ impl Change {
             (λ change. (t : Table) → Effect t last running.now (Event.Ship to) change) }
     {
         let message = running.message_to(to)?;
-        let peers = running.peers_shipped_to(to)?;
-        let alloc = running.knowledge.alloc;
-        let change = Change::new(alloc, last, After::Keeps(peers, 0), Reply::Shipped(message))?;
+        let notes = running.shipping(to)?;
+        let reply = Reply::Shipped(message);
+        let change = Change::new(running.alloc, last, After::Notes(notes), reply)?;
         Ok(change)
     }
 
@@ -232,9 +227,9 @@ impl Change {
         requires { is_known ≡ is_below (content_of message.now.body) running.now.state }
         ensures { IfOk result (Effect config.now last running.now (Event.Hear message.now)) }
     {
-        let (after, fresh) = running.after_message(config, message, is_known)?;
-        let alloc = running.knowledge.alloc;
-        let change = Change::new(alloc, last, after, Reply::Heard(fresh))?;
+        let notes = running.hearing(config, message, is_known)?;
+        let reply = Reply::Heard(!is_known);
+        let change = Change::new(running.alloc, last, After::Notes(notes), reply)?;
         Ok(change)
     }
 
@@ -248,13 +243,13 @@ impl Change {
         requires { is_known ≡ is_below (meaning_of (operation.now ∷ [])) running.now.state }
         ensures effect { IfOk result (λ change. (t : Table)
             → Effect t last running.now (Event.HearOp operation.now) change) }
-        ensures after { IfOk result (λ change. after_from_base running.now change.after
-            ≡ After.GoesOn (from_base running.now (hearing (knowledge_of running.now)
-            (meaning_of (operation.now ∷ [])) running.now.peers))) }
+        ensures after { IfOk result (λ change. change.after
+            ≡ After.Notes (noting running.now.peers
+            (news running.now.state (meaning_of (operation.now ∷ []))))) }
     {
-        let (after, fresh) = running.after_operation(operation, is_known)?;
-        let alloc = running.knowledge.alloc;
-        let change = Change::new(alloc, last, after, Reply::Heard(fresh))?;
+        let notes = running.hearing_op(operation, is_known)?;
+        let reply = Reply::Heard(!is_known);
+        let change = Change::new(running.alloc, last, After::Notes(notes), reply)?;
         Ok(change)
     }
 }

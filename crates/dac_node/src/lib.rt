@@ -38,11 +38,11 @@ pub use change::Change;
 pub use dac_events::Refusal;
 pub use node::Node;
 
-mod advance;
+mod below;
 mod change;
-mod gain;
-mod knowledge;
 mod node;
+mod notes;
+mod refusals;
 mod running;
 mod shipping;
 mod shown;

@@ -8,8 +8,8 @@ ghost use Rattle.dac_messages.specs.Bodies.{content_of};
 ghost use Rattle.dac_model_node.specs.EventRefusals.{refusal_off as refused_off};
 ghost use Rattle.dac_model_node.specs.Transitions.{moment_of};
 
+use crate::below::covers_by_dot;
 use crate::change::{After, Change, Outcome};
-use crate::knowledge::covers_by_dot;
 use crate::running::Running;
 use dac_base::{MAX_INCARNATION, NoMemory, NodeId};
 use dac_config::Config;
@@ -319,12 +319,14 @@ impl Node {
         match &outcome.after {
             After::Off => Ok(None),
             After::Boots(running) => copied(Some(running.state())),
-            After::GoesOn(next) => match &self.running {
-                None => Ok(None),
-                Some(_running) => copied(Some(next.state())),
+            After::Ticks(ticks) => match (&self.running, &ticks.state) {
+                (Some(_running), Some(state)) => copied(Some(state)),
+                _ => copied(self.state()),
             },
-            After::Gains(gain) => joined(self.state(), &gain.delta),
-            After::Keeps(_peers, _trim) => copied(self.state()),
+            After::Notes(notes) => match &notes.delta {
+                Some(delta) => joined(self.state(), delta),
+                None => copied(self.state()),
+            },
         }
     }
 
@@ -338,12 +340,7 @@ impl Node {
         match &outcome.after {
             After::Off => None,
             After::Boots(running) => Some(running.origin()),
-            After::GoesOn(next) => match &self.running {
-                None => None,
-                Some(_running) => Some(next.origin()),
-            },
-            After::Gains(_gain) => self.origin(),
-            After::Keeps(_peers, _trim) => self.origin(),
+            After::Ticks(_) | After::Notes(_) => self.origin(),
         }
     }
 
@@ -362,19 +359,14 @@ impl Node {
         match replace(&mut outcome.after, After::Off) {
             After::Off => self.go_off(),
             After::Boots(running) => self.come_up(running),
-            After::GoesOn(next) => {
+            After::Ticks(ticks) => {
                 if let Some(running) = &mut self.running {
-                    running.go_on(next)?;
+                    running.tick(ticks)?;
                 }
             }
-            After::Gains(gain) => {
+            After::Notes(notes) => {
                 if let Some(running) = &mut self.running {
-                    running.gain(gain)?;
-                }
-            }
-            After::Keeps(peers, trim) => {
-                if let Some(running) = &mut self.running {
-                    running.keep(peers, trim);
+                    running.note(notes)?;
                 }
             }
         }

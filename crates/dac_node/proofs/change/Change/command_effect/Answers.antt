@@ -1,12 +1,13 @@
-use Rattle.std.proofs.Common.{refl, ap, ◌∙◌}
+use Rattle.std.proofs.Common.{Some, [], ◌∷◌, refl, ap, ◌∙◌}
 use Rattle.dac_operations.specs.Operations.{Operation}
+use Rattle.dac_meaning.specs.Meaning.{meaning_of}
 use Rattle.dac_messages.specs.declared.event.Event.TheVariants.{Command as Commanded}
 use Rattle.dac_messages.specs.declared.reply.Reply.TheVariants.{Issued}
+use Rattle.dac_model_node.specs.dac_commands.Commands.{next_operation, act_of}
 use Rattle.dac_model_node.specs.laws.Numbers.{obeyed}
-use Rattle.dac_node.specs.declared.change.After.TheVariants.{GoesOn, Gains}
-use Rattle.dac_node.specs.declared.gain.Gain.{Gain}
-use Rattle.dac_node.specs.After.{from_base, gain_of, gaining}
-use Rattle.dac_node.proofs.Effects.{kept_effect}
+use Rattle.dac_node.specs.declared.change.After.TheVariants.{Notes}
+use Rattle.dac_node.specs.After.{noting}
+use Rattle.dac_node.proofs.Effects.{noting_effect}
 use Rattle.dac_node.proofs.change.Change.command_effect.Goals as goal
 
 pub command-requires : goal.command-requires
@@ -15,6 +16,9 @@ command-requires c = (obeyed c.args.config.now c.args.running.now c.args.command
 pub returns : goal.returns
 returns c =
     let r = c.args.running.now in
-    let is = c.in_ok-gain.ensures.operation in
-    kept_effect c.args.config.now c.args.last r (Commanded c.args.command) (Gains c.in_ok-gain.gain) (Issued c.in_ok-gain.operation) _ c.in_ok-change.ensures refl
-    (ap (λ (g : Gain). GoesOn (from_base r (gaining r g))) c.in_ok-gain.ensures.gain ∙ ap (λ (o : Operation). GoesOn (from_base r (gaining r (gain_of r o)))) is) (ap (λ (o : Operation). Issued o) is)
+    let delta = λ (o : Operation). meaning_of (o ∷ []) in
+    let o = next_operation r.state r.origin (act_of c.args.config.now r.state c.args.command) in
+    let is = c.in_ok-notes.ensures.operation in
+    let notes = c.in_ok-notes.ensures.notes ∙ ap (λ o. noting r.peers (Some (delta o))) is in
+    noting_effect c.args.config.now c.args.last r (Commanded c.args.command) (Issued o) r.peers (Some (delta o)) (delta o ∷ []) c.in_ok-change.change refl refl
+    (c.in_ok-change.ensures ∙ (λ i. record { last = c.args.last; after = Notes (notes i); reply = Issued (is i) }))

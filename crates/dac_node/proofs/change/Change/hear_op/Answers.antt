@@ -1,15 +1,17 @@
-use Rattle.std.proofs.Common.{refl, ap, ◌∙◌}
+use Rattle.std.proofs.Common.{not, [], ◌∷◌, refl, ◌∙◌}
+use Rattle.dac_meaning.specs.Meaning.{meaning_of}
+use Rattle.dac_meaning.specs.Below.{is_below}
 use Rattle.dac_messages.specs.declared.event.Event.TheVariants.{HearOp}
 use Rattle.dac_messages.specs.declared.reply.Reply.TheVariants.{Heard}
-use Rattle.dac_node.specs.After.{after_from_base}
-use Rattle.dac_node.specs.Changes.{ChangeValue}
-use Rattle.dac_node.proofs.Effects.{kept_effect}
+use Rattle.dac_model_node.specs.Transitions.{brings}
+use Rattle.dac_node.specs.declared.change.After.TheVariants.{Notes}
+use Rattle.dac_node.specs.After.{news}
+use Rattle.dac_node.proofs.Effects.{noting_effect, brought}
 use Rattle.dac_node.proofs.change.Change.hear_op.Goals as goal
 
 pub returns-clause-effect : goal.returns-clause-effect
 returns-clause-effect c = λ t.
-    kept_effect t c.args.last c.args.running.now (HearOp c.args.operation.now) c.in_ok-after.after (Heard c.in_ok-after.fresh) _ c.in_ok-change.ensures refl
-    c.in_ok-after.ensures.after (ap (λ b. Heard b) c.in_ok-after.ensures.fresh)
-
-pub returns-clause-after : goal.returns-clause-after
-returns-clause-after c = ap (λ (x : ChangeValue). after_from_base c.args.running.now x.after) c.in_ok-change.ensures ∙ c.in_ok-after.ensures.after
+    let r = c.args.running.now in
+    let body = meaning_of (c.args.operation.now ∷ []) in
+    noting_effect t c.args.last r (HearOp c.args.operation.now) (Heard (not (is_below body r.state))) r.peers (news r.state body) (brings r.state body) c.in_ok-change.change refl (brought r.state body)
+    (c.in_ok-change.ensures ∙ (λ i. record { last = c.args.last; after = Notes (c.in_ok-notes.ensures i); reply = Heard (not (c.requires i)) }))

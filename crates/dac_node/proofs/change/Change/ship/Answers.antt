@@ -1,15 +1,14 @@
-use Rattle.std.proofs.Common.{refl, ap}
-use Rattle.dac_messages.specs.declared.message.Message.{Message}
+use Rattle.std.proofs.Common.{None, [], refl, ◌∙◌}
 use Rattle.dac_messages.specs.declared.event.Event.TheVariants.{Ship}
 use Rattle.dac_messages.specs.declared.reply.Reply.TheVariants.{Shipped}
-use Rattle.dac_node.specs.declared.change.After.TheVariants.{GoesOn, Keeps}
-use Rattle.dac_peers.specs.Peers.{PeersValue}
-use Rattle.dac_node.specs.After.{from_base, keeping}
-use Rattle.dac_node.proofs.Effects.{kept_effect}
+use Rattle.dac_peers.specs.Peers.{shipped_to}
+use Rattle.dac_model_node.specs.Transitions.{message_of}
+use Rattle.dac_node.specs.declared.change.After.TheVariants.{Notes}
+use Rattle.dac_node.proofs.Effects.{noting_effect}
 use Rattle.dac_node.proofs.change.Change.ship.Goals as goal
 
 pub returns : goal.returns
 returns c = λ t.
     let r = c.args.running.now in
-    kept_effect t c.args.last r (Ship c.args.to) (Keeps c.in_ok-peers.peers 0) (Shipped c.in_ok-message.message) _ c.in_ok-change.ensures refl
-    (ap (λ (p : PeersValue). GoesOn (from_base r (keeping r p 0))) c.in_ok-peers.ensures) (ap (λ (m : Message). Shipped m) c.in_ok-message.ensures)
+    noting_effect t c.args.last r (Ship c.args.to) (Shipped (message_of r c.args.to)) (shipped_to r.peers c.args.to) None [] c.in_ok-change.change refl refl
+    (c.in_ok-change.ensures ∙ (λ i. record { last = c.args.last; after = Notes (c.in_ok-notes.ensures i); reply = Shipped (c.in_ok-message.ensures i) }))

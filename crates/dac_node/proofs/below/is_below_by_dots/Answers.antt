@@ -3,7 +3,7 @@ use Rattle.std.specs.Prelude.{◌↔◌, IsTrue}
 use Rattle.dac_origins.specs.Dots.{Dots, IsSubset}
 use Rattle.dac_meaning.specs.Below.{is_below}
 use Rattle.dac_node.proofs.Tests.{same}
-use Rattle.dac_node.proofs.knowledge.is_below_by_dots.Goals as goal
+use Rattle.dac_node.proofs.below.is_below_by_dots.Goals as goal
 
 pub returns : goal.returns
 returns c =

@@ -3,7 +3,7 @@ use Rattle.dac_meaning.specs.Meaning.{meaning_of}
 use Rattle.dac_meaning.specs.Below.{is_below}
 use Rattle.dac_meaning.specs.laws.Below.{is_below-is}
 use Rattle.dac_node.proofs.Tests.{same}
-use Rattle.dac_node.proofs.knowledge.covers.Goals as goal
+use Rattle.dac_node.proofs.below.covers.Goals as goal
 
 pub returns : goal.returns
 returns c =

@@ -3,7 +3,7 @@ use Rattle.std.specs.FinSet as set
 use Rattle.dac_meaning.specs.Meaning.{meaning_of}
 use Rattle.dac_meaning.specs.Below.{is_below}
 use Rattle.dac_node.proofs.Tests.{same}
-use Rattle.dac_node.proofs.knowledge.covers_by_dot.Goals as goal
+use Rattle.dac_node.proofs.below.covers_by_dot.Goals as goal
 
 pub returns : goal.returns
 returns c =

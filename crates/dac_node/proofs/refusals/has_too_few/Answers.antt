@@ -7,7 +7,7 @@ use Rattle.dac_origins.specs.Dots.{IsNext, IsUsedUp}
 use Rattle.dac_config.specs.Table.{app_count}
 use Rattle.dac_model_node.specs.dac_commands.Commands.{greatest_counter}
 use Rattle.dac_model_node.specs.dac_commands.laws.Counters.{next-is, used_up_is}
-use Rattle.dac_node.proofs.running.has_too_few.Goals as goal
+use Rattle.dac_node.proofs.refusals.has_too_few.Goals as goal
 
 -- If the next counter is at most the last one, it doesn't matter that at least one counter is required.
 few : (most greatest next apps : ℕ) → next ≡ greatest + 1 → next ≤ most → nat_lt most (next - 1 + apps) ≡ nat_lt most (greatest + max 1 apps)
