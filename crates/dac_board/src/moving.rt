@@ -15,7 +15,7 @@ use dac_base::{AppId, MAX_APPS, MAX_NODES, NodeId};
 use dac_lattice::{Flag, Lattice};
 use dac_origins::Origin;
 use dac_state::{Key, State};
-use dac_store::{DotFun, DotSet, DotStore, Entries};
+use dac_store::{DotFun, DotStore, Entries};
 use std::cmp::Ordering;
 
 /// A change of state, with the parts that it can affect.
@@ -104,12 +104,12 @@ pub(crate) fn moved_by(old: &State, new: &State) -> [u64; MAX_APPS]
         → is_moved result (app.0, node.0) ≡ false → KeepsPair old.now new.now app node }
 {
     let mut moved = [0; MAX_APPS];
-    mark_permits(
+    mark(
         &mut moved,
         old.permissions().entries(),
         new.permissions().entries(),
     );
-    mark_starts(&mut moved, old.wishes().entries(), new.wishes().entries());
+    mark(&mut moved, old.wishes().entries(), new.wishes().entries());
     moved
 }
 
@@ -136,22 +136,15 @@ fn same_drains(
         let Some(other) = after.next() else {
             return false;
         };
-        if !one.0.cmp(&other.0).is_eq() || !same_votes(&one.1, &other.1) {
+        if !one.0.cmp(&other.0).is_eq() || !is_same_store(&one.1, &other.1) {
             return false;
         }
     }
     after.first().is_none()
 }
 
-/// Whether these are the same permits or drains.
-fn same_votes(one: &DotFun<Flag>, other: &DotFun<Flag>) -> bool
-    ensures { result ≡ true → one.now ≡ other.now }
-{
-    one.is_same(other)
-}
-
-/// Whether these are the same starts.
-fn same_starts(one: &DotSet, other: &DotSet) -> bool
+/// Whether two stores are known to be equal.
+fn is_same_store<S: DotStore>(one: &S, other: &S) -> bool
     ensures { result ≡ true → one.now ≡ other.now }
 {
     one.is_same(other)
@@ -178,28 +171,28 @@ fn count_moved_unless(moved: &mut [u64; MAX_APPS], key: Key, same: bool)
     }
 }
 
-/// Marks each application at a key whose permits differ between two states.
-fn mark_permits(
+/// Marks each application at a key whose stores differ between two states.
+fn mark<S: DotStore>(
     moved: &mut [u64; MAX_APPS],
-    old: Entries<'_, Key, DotFun<Flag>>,
-    new: Entries<'_, Key, DotFun<Flag>>,
+    old: Entries<'_, Key, S>,
+    new: Entries<'_, Key, S>,
 )
     ensures before { (k : ℕ × ℕ) → is_moved moved.new k ≡ false → is_moved moved.old k ≡ false }
     ensures same { (k : ℕ × ℕ) → is_moved moved.new k ≡ false → IsSameOf k old.entry new.entry }
 {
     let mut before = old;
     let mut after = new;
-    'walk: while pass_permits(moved, &mut before, &mut after) {}
-    rest_of_permits(moved, before);
-    rest_of_permits(moved, after);
+    'walk: while pass(moved, &mut before, &mut after) {}
+    mark_rest(moved, before);
+    mark_rest(moved, after);
 }
 
 /// Consumes the entry of the lesser key, or one of each list if both have one key. Returns whether both lists had an
 /// entry.
-fn pass_permits(
+fn pass<S: DotStore>(
     moved: &mut [u64; MAX_APPS],
-    old: &mut Entries<'_, Key, DotFun<Flag>>,
-    new: &mut Entries<'_, Key, DotFun<Flag>>,
+    old: &mut Entries<'_, Key, S>,
+    new: &mut Entries<'_, Key, S>,
 ) -> bool
     ensures before { (k : ℕ × ℕ) → is_moved moved.new k ≡ false → is_moved moved.old k ≡ false }
     ensures less { result ≡ true → length old.new + length new.new < length old.old + length new.old }
@@ -224,7 +217,7 @@ fn pass_permits(
             true
         }
         Ordering::Equal => {
-            count_moved_unless(moved, one.0, same_votes(&one.1, &other.1));
+            count_moved_unless(moved, one.0, is_same_store(&one.1, &other.1));
             old.pass();
             new.pass();
             true
@@ -233,73 +226,7 @@ fn pass_permits(
 }
 
 /// Marks each application at the keys of these entries.
-fn rest_of_permits(moved: &mut [u64; MAX_APPS], entries: Entries<'_, Key, DotFun<Flag>>)
-    ensures before { (k : ℕ × ℕ) → is_moved moved.new k ≡ false → is_moved moved.old k ≡ false }
-    ensures gone { (k : ℕ × ℕ) → is_moved moved.new k ≡ false
-        → AtEachKey key_cmp (IsAbsent k) entries.entry }
-{
-    let mut left = entries;
-    while let Some((key, _)) = left.next() {
-        count_moved(moved, *key);
-    }
-}
-
-/// Marks each application at a key whose starts differ between two states.
-fn mark_starts(
-    moved: &mut [u64; MAX_APPS],
-    old: Entries<'_, Key, DotSet>,
-    new: Entries<'_, Key, DotSet>,
-)
-    ensures before { (k : ℕ × ℕ) → is_moved moved.new k ≡ false → is_moved moved.old k ≡ false }
-    ensures same { (k : ℕ × ℕ) → is_moved moved.new k ≡ false → IsSameOf k old.entry new.entry }
-{
-    let mut before = old;
-    let mut after = new;
-    'walk: while pass_starts(moved, &mut before, &mut after) {}
-    rest_of_starts(moved, before);
-    rest_of_starts(moved, after);
-}
-
-/// Consumes the entry of the lesser key, or one of each list if both have one key. Returns whether both lists had an
-/// entry.
-fn pass_starts(
-    moved: &mut [u64; MAX_APPS],
-    old: &mut Entries<'_, Key, DotSet>,
-    new: &mut Entries<'_, Key, DotSet>,
-) -> bool
-    ensures before { (k : ℕ × ℕ) → is_moved moved.new k ≡ false → is_moved moved.old k ≡ false }
-    ensures less { result ≡ true → length old.new + length new.new < length old.old + length new.old }
-    ensures same { (k : ℕ × ℕ) → is_moved moved.new k ≡ false
-        → IsSameOf k old.new new.new → IsSameOf k old.old new.old }
-{
-    let Some(one) = old.first() else {
-        return false;
-    };
-    let Some(other) = new.first() else {
-        return false;
-    };
-    match one.0.cmp(&other.0) {
-        Ordering::Less => {
-            count_moved(moved, one.0);
-            old.pass();
-            true
-        }
-        Ordering::Greater => {
-            count_moved(moved, other.0);
-            new.pass();
-            true
-        }
-        Ordering::Equal => {
-            count_moved_unless(moved, one.0, same_starts(&one.1, &other.1));
-            old.pass();
-            new.pass();
-            true
-        }
-    }
-}
-
-/// Marks each application at the keys of these entries.
-fn rest_of_starts(moved: &mut [u64; MAX_APPS], entries: Entries<'_, Key, DotSet>)
+fn mark_rest<S: DotStore>(moved: &mut [u64; MAX_APPS], entries: Entries<'_, Key, S>)
     ensures before { (k : ℕ × ℕ) → is_moved moved.new k ≡ false → is_moved moved.old k ≡ false }
     ensures gone { (k : ℕ × ℕ) → is_moved moved.new k ≡ false
         → AtEachKey key_cmp (IsAbsent k) entries.entry }

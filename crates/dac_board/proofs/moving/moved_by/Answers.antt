@@ -12,18 +12,18 @@ use Rattle.dac_board.proofs.moving.moved_by.Goals as goal
 pub returns : goal.returns
 returns c = λ app node lt unmarked.
     let k : ℕ × ℕ = (app.0, node.0) in
-    let first = c.mark_starts.ensures.before k unmarked in
+    let first = c.mark-2.ensures.before k unmarked in
     let old = c.args.old.now in
     let new = c.args.new.now in
     record {
       permits = λ key at there.
           same_votes_at keys_total exact_keys old.permits new.permits key
           (sym (ap (find key_cmp key) (c.entries.ensures ∙ ap (λ (p : PermissionsValue). permits_by_key p.standing) c.permissions.ensures))
-          ∙ c.mark_permits.ensures.same k first key (λ i. ((at i).0, (there i).0))
+          ∙ c.mark.ensures.same k first key (λ i. ((at i).0, (there i).0))
           ∙ ap (find key_cmp key) (c.entries-2.ensures ∙ ap (λ (p : PermissionsValue). permits_by_key p.standing) c.permissions-2.ensures));
       starts = λ key at there.
           same_starts_at old.starts new.starts key
           (sym (ap (find key_cmp key) (c.entries-3.ensures ∙ ap (λ (v : WishesValue). starts_by_key v.standing) c.wishes.ensures))
-          ∙ c.mark_starts.ensures.same k unmarked key (λ i. ((at i).0, (there i).0))
+          ∙ c.mark-2.ensures.same k unmarked key (λ i. ((at i).0, (there i).0))
           ∙ ap (find key_cmp key) (c.entries-4.ensures ∙ ap (λ (v : WishesValue). starts_by_key v.standing) c.wishes-2.ensures));
     }

@@ -12,7 +12,7 @@ loop-one-preserved c = λ rest.
     let one = c.in-Some.one.now in
     let other = c.in-Some-next.other.now in
     let key : one.0 ≡ other.0 = exact_origins one.0 other.0 (sym c.cmp.ensures ∙ (Equal-is c.cmp.result).0 (sym c.is_eq.ensures ∙ c.if-not-is_eq.false)) in
-    c.loop-one.invariant (same_first c.loop-one.before c.loop-one.after c.next.new.self c.next-in-Some.new.self one other c.in-Some.ensures c.in-Some-next.ensures (λ i. (key i, c.same_votes.ensures c.if-not-same_votes.false i)) rest)
+    c.loop-one.invariant (same_first c.loop-one.before c.loop-one.after c.next.new.self c.next-in-Some.new.self one other c.in-Some.ensures c.in-Some-next.ensures (λ i. (key i, c.is_same_store.ensures c.if-not-is_same_store.false i)) rest)
 
 pub loop-one-smaller : goal.loop-one-smaller
 loop-one-smaller c = one_fewer c.loop-one.before c.next.new.self c.in-Some.one.now c.in-Some.ensures

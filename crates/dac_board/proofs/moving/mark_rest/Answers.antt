@@ -1,11 +1,11 @@
 use Rattle.dac_board.proofs.Walks.{absent_passed, none_absent, one_fewer}
-use Rattle.dac_board.proofs.moving.rest_of_starts.Goals as goal
+use Rattle.dac_board.proofs.moving.mark_rest.Goals as goal
 
 pub loop-key-init : goal.loop-key-init
-loop-key-init c = record { before = λ k e. e; gone = λ k e none. none }
+loop-key-init g c = record { before = λ k e. e; gone = λ k e none. none }
 
 pub loop-key-preserved : goal.loop-key-preserved
-loop-key-preserved c =
+loop-key-preserved g c =
     let before = c.loop-key.invariant in
     record {
       before = λ k e. before.before k (c.count_moved.ensures.before k e);
@@ -14,10 +14,10 @@ loop-key-preserved c =
     }
 
 pub loop-key-smaller : goal.loop-key-smaller
-loop-key-smaller c = one_fewer c.loop-key.left c.next.new.self c.in-Some.field-0.now c.in-Some.ensures
+loop-key-smaller g c = one_fewer c.loop-key.left c.next.new.self c.in-Some.field-0.now c.in-Some.ensures
 
 pub returns : goal.returns
-returns c = record {
+returns g c = record {
   before = c.loop-key.invariant.before;
   gone = λ k e. c.loop-key.invariant.gone k e (none_absent k c.loop-key.left c.in_default.ensures.0);
 }
