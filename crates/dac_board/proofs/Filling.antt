@@ -26,14 +26,6 @@ module _ {I X : Type 0} (numbered : ℕ → I) (f : I → X) where
   pub filled_by : (xs : List X) (n : ℕ) (d : X) → length xs ≡ n → ((k : ℕ) → k < n → get_or xs k d ≡ f (numbered k)) → xs ≡ filled n
   filled_by xs n d long h = ext_get_or d xs (filled n) (long ∙ sym (length_filled n)) (λ k lt. h k (omega arith) ∙ sym (filled_at n k d (omega arith)))
 
--- if two tests agree at the first n, the same number pass
-pub alike_below : {I : Type 0} (numbered : ℕ → I) (p q : I → Bool) (n : ℕ) → ((k : ℕ) → k < n → p (numbered k) ≡ q (numbered k)) → filter p (list_map numbered (range_with_len 0 n)) ≡ filter q (list_map numbered (range_with_len 0 n))
-alike_below numbered p q zero h = refl
-alike_below numbered p q (suc n) h = subst (λ m. filter p (list_map numbered (range_with_len 0 m)) ≡ filter q (list_map numbered (range_with_len 0 m))) (add-one n)
-    (filter_of_map_range_with_len_more p numbered 0 n n (omega arith)
-    ∙ (λ i. alike_below numbered p q n (λ k lt. h k (omega arith)) i ++ cond (h n (omega arith) i) (numbered n ∷ []) [])
-    ∙ sym (filter_of_map_range_with_len_more q numbered 0 n n (omega arith)))
-
 -- how many of the first n pass
 module _ {I : Type 0} (numbered : ℕ → I) (p : I → Bool) where
   abbrev pub passed : ℕ → ℕ

@@ -5,10 +5,10 @@ use Rattle.std.specs.List.{list_any}
 use Rattle.std.specs.Option.{option_map_or}
 use Rattle.std.specs.Ordering.{is_eq}
 use Rattle.std.specs.Cmp.Lexicographic.{pointwise, pointwise_decides}
-use Rattle.std.specs.Cmp.{Equal-is, tied_itself}
+use Rattle.std.specs.Cmp.{Equal-is, both_ways, tied_itself}
 use Rattle.std.specs.FinSet as set
 use Rattle.std.specs.FinMap as map
-use Rattle.std.proofs.lemmas.Bool.{false≢true, true≢false, and_parts, and_from}
+use Rattle.std.proofs.lemmas.Bool.{false≢true, not-false, true≢false, and_parts, and_from}
 use Rattle.dac_base.specs.declared.NodeId.{NodeId}
 use Rattle.dac_base.specs.declared.AppId.{AppId}
 use Rattle.dac_origins.specs.declared.dot.Dot.{Dot}
@@ -39,11 +39,6 @@ use Rattle.dac_meaning.specs.StateValue.{StateValue, wishes_of}
 use Rattle.dac_placement.specs.Placement.{key_at, is_eligible, is_allowed_at, is_started_at}
 use Rattle.dac_board.specs.Boards.{spot_of}
 use Rattle.dac_board.specs.Touched.{origin_of, StandAlike, stand_alike, same_life, same_flag, same_vote, IsTouched, is_touched}
-
-both_ways : (a b : Bool) → (a ≡ true → b ≡ true) → (b ≡ true → a ≡ true) → a ≡ b
-both_ways true b f g = sym (f refl)
-both_ways false true f g = g refl
-both_ways false false f g = refl
 
 -- ---- the tests
 
@@ -125,10 +120,6 @@ first_fails : (a b : Bool) → (not a || b) ≡ false → (a ≡ true) × (b ≡
 first_fails true b e = (refl, e)
 first_fails false b e = absurd (true≢false e)
 
-holds : (b : Bool) → not b ≡ false → b ≡ true
-holds true e = refl
-holds false e = sym e
-
 module _ (table : Table) (old new : StateValue) (app : AppId) (node : NodeId) where
   -- the application is allowed and started at an incarnation
   abbrev wanted : StateValue → ℕ → Bool
@@ -138,7 +129,7 @@ module _ (table : Table) (old new : StateValue) (app : AppId) (node : NodeId) wh
   same_if_live None e = refl
   same_if_live (Some inc) e =
       let key = key_at app node inc in
-      let alike = (alike_decides old new key).0 (holds _ e) in
+      let alike = (alike_decides old new key).0 (not-false _ e) in
       λ i. alike_allowed old new key alike table i && alike_started old new key alike i
 
   same_when_listed : (listed : Bool) → (listed && (not (same_life (map.get old.lives node) (map.get new.lives node)) || option_map_or (λ inc. not (stand_alike old new (key_at app node inc))) (live_at new.lives node) false)) ≡ false

@@ -8,6 +8,7 @@ use Rattle.dac_config.specs.Table.{Table, group_of}
 use Rattle.dac_meaning.specs.StateValue.{StateValue}
 use Rattle.dac_placement.specs.declared.standing.Standing.{Standing}
 use Rattle.dac_placement.specs.declared.standing.Standing.TheVariants.{Unclaimed, Lost, Stopped, Barred, Upheld}
+pub use Rattle.dac_placement.specs.Placement.{group_held}
 use Rattle.dac_placement.specs.Placement.{is_eligible, standing_of, apps_of, nodes_of}
 use Rattle.dac_board.specs.declared.spot.Spot.{Spot}
 
@@ -31,14 +32,6 @@ spot_of table s app node =
 
 abbrev pub spots_of : Table → StateValue → AppId → List (Option Spot)
 spots_of table s app = list_map (spot_of table s app) (nodes_of table)
-
--- the group of the holder if it is upheld
-abbrev pub group_held : Table → AppId → Standing → Option ℕ
-group_held table app Unclaimed = None
-group_held table app Lost = None
-group_held table app (Stopped n) = None
-group_held table app Barred = None
-group_held table app (Upheld n) = group_of table app n
 
 -- whether the holder's incarnation isn't live
 abbrev pub is_lost_at : Standing → Bool

@@ -2,7 +2,6 @@ pub mod Boards
 pub mod Rows
 pub mod Touched
 pub mod Grown
-pub mod Leads
 pub mod Alike
 pub mod Settled
 pub mod Marks

@@ -1,18 +1,15 @@
--- Where applications run, loads and verdicts, computed from the rows of any board. For a board that shows a state they
+-- Where applications run, candidates and verdicts, computed from the rows of any board. For a board that shows a state they
 -- agree with the definitions of placement.
-use Rattle.std.specs.Prelude.{ℕ, Bool, false, not, ◌&&◌, ◌==◌, List, [], length, get_or, slice_get, map as list_map, filter, Option, None, Some, is_some, if◌then◌else◌}
-use Rattle.std.specs.List.{range_with_len, filter_map, reduce}
+use Rattle.std.specs.Prelude.{ℕ, Bool, false, ◌&&◌, ◌==◌, List, [], length, get_or, slice_get, Option, None, is_some}
 use Rattle.std.specs.Option.{option_map, option_map_or}
-use Rattle.std.specs.Ordering.{ord_min}
 use Rattle.dac_base.specs.declared.NodeId.{NodeId}
 use Rattle.dac_base.specs.declared.AppId.{AppId}
 use Rattle.dac_placement.specs.declared.standing.Standing.{Standing}
 use Rattle.dac_placement.specs.declared.standing.Standing.TheVariants.{Unclaimed, Lost, Stopped, Barred, Upheld}
 use Rattle.dac_placement.specs.declared.verdicts.Verdict.{Verdict}
-use Rattle.dac_placement.specs.declared.verdicts.Verdict.TheVariants.{Start, Failover, Halted, Move, Takeover, Kept, Nobody}
-use Rattle.dac_placement.specs.declared.ranking.Rank.{Rank}
-use Rattle.dac_placement.specs.Ranks.{rank_cmp}
-use Rattle.dac_placement.specs.Placement.{is_less}
+use Rattle.dac_placement.specs.declared.verdicts.Verdict.TheVariants.{Nobody}
+use Rattle.dac_placement.specs.declared.ranking.Choice.{Choice}
+use Rattle.dac_placement.specs.Choices.{choice_by, load_by, verdict_on}
 use Rattle.dac_board.specs.declared.spot.Spot.{Spot}
 use Rattle.dac_board.specs.Boards.{RowValue}
 
@@ -34,33 +31,23 @@ row_runs node row = holds_at node row.group row.standing
 abbrev pub row_at : List RowValue → AppId → RowValue
 row_at rows app = get_or rows app.0 no_row
 
--- the applications that have a row
-abbrev pub apps_on : List RowValue → List AppId
-apps_on rows = list_map (λ n. record { 0 = n }) (range_with_len 0 (length rows))
+-- where applications run
+abbrev pub runs_on : List RowValue → AppId → NodeId → Bool
+runs_on rows app node = row_runs node (row_at rows app)
 
--- how many other rows run at the node
-abbrev pub load_on : List RowValue → AppId → NodeId → ℕ
-load_on rows app node =
-    length (filter (λ other. not (other.0 == app.0) && row_runs node (row_at rows other)) (apps_on rows))
+-- the group of a node if it is eligible
+abbrev pub group_in : Option Spot → Option ℕ
+group_in spot = option_map (λ (p : Spot). p.group) spot
 
--- the rank of an eligible node
-abbrev pub rank_on : List RowValue → AppId → Option Spot → Option Rank
-rank_on rows app spot =
-    option_map (λ (p : Spot). record { group = p.group; load = load_on rows app p.node; node = p.node }) spot
+abbrev pub group_on : List (Option Spot) → NodeId → Option ℕ
+group_on spots node = group_in (get_or spots node.0 None)
 
-abbrev pub first_on : List RowValue → AppId → List (Option Spot) → Option Rank
-first_on rows app spots = reduce (ord_min rank_cmp) (filter_map (rank_on rows app) spots)
+abbrev pub is_on : List (Option Spot) → NodeId → Bool
+is_on spots node = is_some (group_on spots node)
 
-abbrev pub verdict_on : Standing → Option ℕ → Option Rank → Verdict
-verdict_on (Stopped holder) group first = Halted holder
-verdict_on (Upheld holder) group None = Kept holder
-verdict_on (Upheld holder) group (Some r) = if is_less (Some r.group) group then Takeover r.node else Kept holder
-verdict_on Unclaimed group (Some r) = Start r.node
-verdict_on Lost group (Some r) = Failover r.node
-verdict_on Barred group (Some r) = Move r.node
-verdict_on Unclaimed group None = Nobody
-verdict_on Lost group None = Nobody
-verdict_on Barred group None = Nobody
+-- the first choice for an application with these eligible nodes
+abbrev pub first_on : List RowValue → AppId → List (Option Spot) → Option Choice
+first_on rows app spots = choice_by (group_on spots) (is_on spots) (load_by (runs_on rows) (length rows) app) (length spots)
 
 -- the verdict of an application, by its row and those of the others
 abbrev pub row_verdict : List RowValue → AppId → Verdict

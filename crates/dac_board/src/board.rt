@@ -7,17 +7,16 @@ ghost use Rattle.dac_meaning.specs.StateValue.{StateValue, join};
 ghost use Rattle.dac_placement.specs.Placement.{verdict_of, load_of, standing_of};
 ghost use Rattle.dac_board.specs.Boards.{Shows};
 ghost use Rattle.dac_board.specs.Boards.{is_lost_at};
-ghost use Rattle.dac_board.specs.Rows.{load_on, rank_on, first_on, row_verdict};
+ghost use Rattle.dac_board.specs.Rows.{row_verdict};
 ghost use Rattle.dac_board.specs.Touched.{touched, is_touched, IsTouched};
 
-use crate::judging::verdict_by;
+use crate::facts::{Rows, Spots};
 use crate::moving::{Grown, moved_by, moves_nodes, nodes_moved};
 use crate::row::Row;
-use crate::spot::Spot;
 use dac_base::{AppId, NoMemory, NodeId};
 use dac_config::Config;
 use dac_lattice::Lattice;
-use dac_placement::{Rank, Standing, State, Verdict, lesser};
+use dac_placement::{Standing, State, Verdict, first_choice_by, load_by, verdict_on};
 use std::alloc::Global;
 use std::marker::Model;
 
@@ -62,7 +61,7 @@ impl Board {
         ensures value { (table : Table) (s : StateValue) → Shows table self.now s
             → app.0 < app_count table → result ≡ verdict_of table s app }
     {
-        verdict_on(&self.rows, app)
+        row_verdict(&self.rows, app)
     }
 
     /// How many other applications run at a node in the state shown.
@@ -70,7 +69,7 @@ impl Board {
         ensures { (table : Table) (s : StateValue) → Shows table self.now s
             → result ≡ load_of table s app node }
     {
-        load_on(&self.rows, app, node)
+        load_by(&Rows { rows: &self.rows }, app, node)
     }
 
     /// Whether an application's holder is lost in the state shown.
@@ -146,63 +145,20 @@ impl Board {
     }
 }
 
-/// How many rows other than the application's run at a node.
-fn load_on(rows: &[Row], app: AppId, node: NodeId) -> u32
-    requires { length rows.now < 2 ^ 16 }
-    ensures { result ≡ load_on rows.now app node }
-{
-    let mut load = 0;
-    for other in 0..rows.len() {
-        let row = &rows[other];
-        let runs = row.runs(node);
-        if other != app.0 as usize && runs {
-            load += 1;
-        }
-    }
-    load
-}
-
-/// The rank of an eligible node.
-fn rank_on(rows: &[Row], app: AppId, spot: Option<Spot>) -> Option<Rank>
-    requires { length rows.now < 2 ^ 16 }
-    ensures { result ≡ rank_on rows.now app spot }
-{
-    let spot = spot?;
-    let load = load_on(rows, app, spot.node);
-    Some(Rank {
-        group: spot.group,
-        load,
-        node: spot.node,
-    })
-}
-
-/// The least rank of these nodes.
-fn first_on(rows: &[Row], app: AppId, spots: &[Option<Spot>]) -> Option<Rank>
-    requires { length rows.now < 2 ^ 16 }
-    ensures { result ≡ first_on rows.now app spots.now }
-{
-    let mut first = None;
-    for spot in spots {
-        let rank = rank_on(rows, app, *spot);
-        first = lesser(first, rank);
-    }
-    first
-}
-
 /// The verdict of an application, by its row and those of the others. Loads are computed only if two eligible nodes
 /// share the first group and the verdict depends on which one is first.
-fn verdict_on(rows: &[Row], app: AppId) -> Verdict
+fn row_verdict(rows: &[Row], app: AppId) -> Verdict
     requires { length rows.now < 2 ^ 16 }
     ensures { result ≡ row_verdict rows.now app }
 {
     match rows.get(app.0 as usize) {
         Some(row) => match row.settled() {
             Some(verdict) => verdict,
-            None => verdict_by(
-                row.standing(),
-                row.group(),
-                first_on(rows, app, row.spots()),
-            ),
+            None => {
+                let candidates = Spots { spots: row.spots() };
+                let first = first_choice_by(&Rows { rows }, &candidates, app);
+                verdict_on(row.standing(), row.group(), first)
+            }
         },
         None => Verdict::Nobody,
     }

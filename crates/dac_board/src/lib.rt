@@ -11,8 +11,7 @@
 #![tactic(auto)]
 
 mod board;
-mod judging;
-mod leading;
+mod facts;
 mod moving;
 mod row;
 mod spot;

@@ -1,21 +1,21 @@
 //! The row of one application on a board.
-ghost use Rattle.std.specs.Prelude.{◌≡◌, ◌<◌, ◌≤◌, ◌+◌, IfOk, true, false};
+ghost use Rattle.std.specs.Prelude.{◌≡◌, ◌<◌, ◌≤◌, ◌+◌, ◌^◌, IfOk, length, true, false};
 ghost use Rattle.dac_base.specs.declared.limits.TheConstants.{MAX_NODES as MOST_NODES};
 ghost use Rattle.dac_config.specs.Table.{app_count};
-ghost use Rattle.dac_placement.specs.Placement.{standing_of};
-ghost use Rattle.dac_board.specs.Boards.{row_of, spots_of, group_held};
+ghost use Rattle.dac_placement.specs.Placement.{group_held, standing_of};
+ghost use Rattle.dac_board.specs.Boards.{row_of, spots_of};
 ghost use Rattle.dac_board.specs.Rows.{row_runs};
 ghost use Rattle.dac_board.specs.Touched.{is_touched, touched_of};
 ghost use Rattle.dac_board.specs.Settled.{IsSettled};
 ghost use Rattle.dac_board.specs.Grown.{IsGrown};
 
-use crate::judging::settled_verdict;
+use crate::facts::Spots;
 use crate::moving::{Grown, is_claimed_anew, is_marked};
 use crate::spot::{Spot, look};
 use crate::touching::is_touched;
 use dac_base::{AppId, NoMemory, NodeId};
 use dac_config::Config;
-use dac_placement::{Standing, State, Verdict, standing_of};
+use dac_placement::{Standing, State, Verdict, group_held, settled_verdict, standing_of};
 use std::alloc::Global;
 use std::marker::Model;
 
@@ -36,9 +36,11 @@ impl Model for Row {
 
     ghost view = { λ a. record { spots = a.spots.items; standing = a.standing; group = a.group } };
 
+    ghost use Rattle.std.specs.Prelude.{◌<◌, ◌^◌, length};
     ghost use Rattle.dac_board.specs.Settled.{IsSettled};
 
-    ghost invariant = { λ a. IsSettled a.settled a.standing a.group a.spots.items };
+    ghost invariant = { λ a. IsSettled a.settled a.standing a.group a.spots.items
+        × (length a.spots.items < 2 ^ 8) };
 }
 
 impl Row {
@@ -60,7 +62,7 @@ impl Row {
         }
         let standing = standing_of(config, state, app);
         let group = group_held(config, app, standing);
-        let settled = settled_verdict(standing, group, &spots);
+        let settled = settle(&spots, standing, group);
         Ok(Row {
             spots,
             standing,
@@ -94,7 +96,7 @@ impl Row {
         look_again(&mut self.spots, config, change, app, looked);
         self.standing = standing_of(config, change.new, app);
         self.group = group_held(config, app, self.standing);
-        self.settled = settled_verdict(self.standing, self.group, &self.spots);
+        self.settled = settle(&self.spots, self.standing, self.group);
     }
 
     /// Recomputes the standing, the holder's group and the settled verdict.
@@ -107,12 +109,13 @@ impl Row {
     {
         self.standing = standing_of(config, state, app);
         self.group = group_held(config, app, self.standing);
-        self.settled = settled_verdict(self.standing, self.group, &self.spots);
+        self.settled = settle(&self.spots, self.standing, self.group);
     }
 
     /// The eligible nodes, node by node; `None` for any other.
     pub(crate) fn spots(&self) -> &[Option<Spot>]
-        ensures { result.now ≡ self.now.spots }
+        ensures spots { result.now ≡ self.now.spots }
+        ensures few { length result.now < 2 ^ 8 }
     {
         self.spots.as_slice()
     }
@@ -170,6 +173,7 @@ fn look_again(
     looked: &mut u64,
 )
     requires { app.0 < app_count config.now }
+    ensures long { length spots.new.items ≡ length spots.old.items }
     ensures shows { IsGrown change.entry.now app
         → spots.old.items ≡ spots_of config.now change.entry.now.old.now app
         → spots.new.items ≡ spots_of config.now change.entry.now.new.now app }
@@ -201,13 +205,10 @@ fn is_touched_by(config: &Config, change: &Grown<'_>, app: AppId, node: NodeId) 
     is_touched(config, change.old, change.new, app, node)
 }
 
-/// The group of the holder if it is upheld.
-fn group_held(config: &Config, app: AppId, standing: Standing) -> Option<u16>
-    requires { app.0 < app_count config.now }
-    ensures { result ≡ group_held config.now app standing }
+/// The verdict if it doesn't depend on loads.
+fn settle(spots: &[Option<Spot>], standing: Standing, group: Option<u16>) -> Option<Verdict>
+    requires { length spots.now < 2 ^ 8 }
+    ensures { IsSettled result standing group spots.now }
 {
-    match standing {
-        Standing::Upheld(holder) => config.group_of(app, holder),
-        _ => None,
-    }
+    settled_verdict(&Spots { spots }, standing, group)
 }

@@ -1,6 +1,6 @@
 pub mod Ranks
 pub mod Placement
 pub mod InWords
-pub mod Leads
+pub mod Choices
 pub mod laws
 pub use Rattle.dac_state.specs.StateValue

@@ -244,6 +244,14 @@ standing_at table s app o =
 abbrev pub standing_of : Table → StateValue → AppId → Standing
 standing_of table s app = option_map_or (standing_at table s app) (holder_of s app) Unclaimed
 
+-- the group of the holder, if it is upheld
+abbrev pub group_held : Table → AppId → Standing → Option ℕ
+group_held table app Unclaimed = None
+group_held table app Lost = None
+group_held table app (Stopped n) = None
+group_held table app Barred = None
+group_held table app (Upheld n) = group_of table app n
+
 -- the verdict, given the standing and the first choice
 abbrev pub verdict_by : Table → AppId → Standing → Option NodeId → Verdict
 verdict_by table app (Stopped holder) first = Halted holder

@@ -3,9 +3,10 @@ pub mod Loads
 pub mod Counting
 pub mod Standing
 pub mod Least
+pub mod Choosing
+pub mod Leading
 pub mod FirstChoice
 pub mod FirstNode
-pub mod Leads
 pub mod Judged
 pub mod Rests
 pub mod Stopped

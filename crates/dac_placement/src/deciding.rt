@@ -1,11 +1,11 @@
 //! The verdict.
-ghost use Rattle.std.specs.Prelude.{◌≡◌, ◌<◌, ◌↔◌, ◌&&◌, false, Some, IsTrue, IfSome};
-ghost use Rattle.dac_config.specs.Table.{app_count, group_of};
-ghost use Rattle.dac_placement.specs.Placement.{EachEligible, IsEarlier, IsVerdict, first_choice, is_eligible, verdict_of, verdict_by, is_earlier, is_less};
+ghost use Rattle.std.specs.Prelude.{◌≡◌, ◌<◌, ◌↔◌, Some, IsTrue};
+ghost use Rattle.dac_config.specs.Table.{app_count};
+ghost use Rattle.dac_placement.specs.Placement.{IsEarlier, IsVerdict, verdict_of, verdict_by, is_earlier};
 
-use crate::eligibility::eligible;
-use crate::ranking::first_choice;
-use crate::standing::{Standing, standing_of};
+use crate::judging::verdict_for;
+use crate::standing::{Standing, group_held, standing_of};
+use crate::states::{Listed, Running};
 use crate::verdicts::Verdict;
 use dac_base::{AppId, NodeId};
 use dac_config::Config;
@@ -21,69 +21,10 @@ pub fn verdict(config: &Config, state: &State, app: AppId) -> Verdict
     ensures cases { IsVerdict config.now state.now app result }
 {
     let standing = standing_of(config, state, app);
-    if let Some(verdict) = early_verdict(config, state, app, standing) {
-        return verdict;
-    }
-    let first = first_choice(config, state, app);
-    verdict_by(config, app, standing, first)
-}
-
-/// The verdict if the standing alone, or with the groups, decides it, so that no load is computed.
-fn early_verdict(config: &Config, state: &State, app: AppId, standing: Standing) -> Option<Verdict>
-    requires { app.0 < app_count config.now }
-    ensures { IfSome result (λ verdict. verdict
-        ≡ verdict_by config.now app standing (first_choice config.now state.now app)) }
-{
-    match standing {
-        Standing::Stopped(holder) => Some(Verdict::Halted(holder)),
-        Standing::Upheld(holder) if !has_earlier(config, state, app, holder) => Some(Verdict::Kept(
-            holder,
-        )),
-        _ => None,
-    }
-}
-
-/// Whether an eligible node is in an earlier group than the holder.
-fn has_earlier(config: &Config, state: &State, app: AppId, holder: NodeId) -> bool
-    requires { app.0 < app_count config.now }
-    ensures { result ≡ false
-        → EachEligible config.now state.now app (λ m. ¬ IsEarlier config.now app m holder) }
-{
-    match config.group_of(app, holder) {
-        Some(late) => has_before(config, state, app, late),
-        None => false,
-    }
-}
-
-/// Whether an eligible node is in a group before `late`. No group is earlier than group 0.
-fn has_before(config: &Config, state: &State, app: AppId, late: u16) -> bool
-    requires { app.0 < app_count config.now }
-    ensures { result ≡ false
-        → EachEligible config.now state.now app
-        (λ m. is_less (group_of config.now app m) (Some late) ≡ false) }
-{
-    if late == 0 {
-        return false;
-    }
-    for number in 0..config.nodes() {
-        if comes_before(config, state, app, NodeId(number), late) {
-            return true;
-        }
-    }
-    false
-}
-
-/// Whether a node is eligible and in a group before `late`.
-fn comes_before(config: &Config, state: &State, app: AppId, node: NodeId, late: u16) -> bool
-    requires { app.0 < app_count config.now }
-    ensures { result
-        ≡ (is_less (group_of config.now app node) (Some late)
-        && is_eligible config.now state.now app node) }
-{
-    match config.group_of(app, node) {
-        Some(early) => early < late && eligible(config, state, app, node),
-        None => false,
-    }
+    let late = group_held(config, app, standing);
+    let runners = Running { config, state };
+    let candidates = Listed { config, state, app };
+    verdict_for(&runners, &candidates, app, standing, late)
 }
 
 /// The verdict, given the standing and the first choice.

@@ -1,16 +1,14 @@
 //! The first node by groups alone, found before any load is computed.
-ghost use Rattle.std.specs.Prelude.{◌≡◌, ◌<◌};
-ghost use Rattle.dac_config.specs.Table.{app_count, node_count};
-ghost use Rattle.dac_placement.specs.Leads.{Leads, beside, group_if, lead_with};
+ghost use Rattle.std.specs.Prelude.{◌≡◌, ℕ};
+ghost use Rattle.dac_base.specs.declared.NodeId.{NodeId as Node};
+ghost use Rattle.dac_placement.specs.Choices.{Leads, beside, first_of, group_by, lead_with, rank_by};
 
-use crate::eligibility::eligible;
-use dac_base::{AppId, NodeId};
-use dac_config::Config;
-use dac_state::State;
+use crate::candidates::Candidates;
+use dac_base::NodeId;
 
 /// An eligible node such that no eligible node is in an earlier group.
 #[derive(Clone, Copy, Debug, PartialEq, Eq)]
-pub(crate) struct Lead {
+pub struct Lead {
     /// Its group in the application's list.
     pub group: u16,
     /// The first eligible node in its group by name.
@@ -19,29 +17,29 @@ pub(crate) struct Lead {
     pub alone: bool,
 }
 
-/// The lead among all nodes, if any is eligible for the application.
-pub(crate) fn leader(config: &Config, state: &State, app: AppId) -> Option<Lead>
-    requires { app.0 < app_count config.now }
-    ensures { Leads config.now state.now app (node_count config.now) result }
+/// The lead among all nodes, if any is eligible. It doesn't depend on loads.
+pub fn leader<C: Candidates>(candidates: &C) -> Option<Lead>
+    ensures { (loads : Node → ℕ) → Leads result
+        (first_of (rank_by (C.group candidates.now) (C.eligible candidates.now) loads)
+        (C.nodes candidates.now)) }
 {
     let mut lead = None;
-    for number in 0..config.nodes() {
+    for number in 0..candidates.nodes() {
         let node = NodeId(number);
-        let group = group_if(config, state, app, node);
+        let group = group_if(candidates, node);
         lead = lead_with(lead, group, node);
     }
     lead
 }
 
 /// The group of a node in the application's list, if it is eligible.
-fn group_if(config: &Config, state: &State, app: AppId, node: NodeId) -> Option<u16>
-    requires { app.0 < app_count config.now }
-    ensures { result ≡ group_if config.now state.now app node }
+fn group_if<C: Candidates>(candidates: &C, node: NodeId) -> Option<u16>
+    ensures { result ≡ group_by (C.group candidates.now) (C.eligible candidates.now) node }
 {
-    if !eligible(config, state, app, node) {
+    if !candidates.is_eligible(node) {
         return None;
     }
-    config.group_of(app, node)
+    candidates.group(node)
 }
 
 /// The lead after a later node, whose group is given if it is eligible.

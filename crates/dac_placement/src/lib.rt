@@ -11,19 +11,27 @@
 //! eligible nodes share the first group does it also loop over all applications for each eligible node of that group.
 #![tactic(auto)]
 
+mod candidates;
 mod deciding;
 mod eligibility;
+mod judging;
 pub mod laws;
 mod leading;
+mod loads;
 mod ranking;
 mod running;
 mod standing;
+mod states;
 mod verdicts;
 
+pub use candidates::{Candidates, Runs};
 pub use dac_state::State;
 pub use deciding::{is_earlier, verdict, verdict_by};
 pub use eligibility::{eligible, is_allowed, is_drained, is_permitted, is_started};
-pub use ranking::{Rank, lesser};
+pub use judging::{settled_verdict, verdict_for, verdict_on};
+pub use leading::{Lead, leader};
+pub use loads::load_by;
+pub use ranking::{Choice, Rank, first_choice_by, lesser};
 pub use running::{holder, is_up, load, runner, runs_at};
-pub use standing::{Standing, standing_of};
+pub use standing::{Standing, group_held, standing_of};
 pub use verdicts::Verdict;

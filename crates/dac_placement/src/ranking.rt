@@ -1,18 +1,14 @@
 //! The first choice for an application.
-ghost use Rattle.std.specs.Prelude.{◌≡◌, ◌<◌};
+ghost use Rattle.std.specs.Prelude.{◌≡◌};
 ghost use Rattle.std.specs.Ordering.{ord_min};
 ghost use Rattle.dac_lattice.specs.Lattices.{join_options};
-ghost use Rattle.dac_config.specs.Table.{app_count, node_count};
-ghost use Rattle.dac_placement.specs.Leads.{IsLead, rank_in};
-ghost use Rattle.dac_placement.specs.Placement.{first_choice};
+ghost use Rattle.dac_placement.specs.Choices.{IsLead, choice_by, first_of, load_by, rank_by, rank_in};
 ghost use Rattle.dac_placement.specs.Ranks.{rank_cmp};
 
-use crate::eligibility::eligible;
+use crate::candidates::{Candidates, Runs};
 use crate::leading::{Lead, leader};
-use crate::running::load;
+use crate::loads::load_by;
 use dac_base::{AppId, NodeId};
-use dac_config::Config;
-use dac_state::State;
 
 /// The rank of an eligible node for an application. The fields are in the order in which they decide, and the least
 /// rank wins.
@@ -26,44 +22,70 @@ pub struct Rank {
     pub node: NodeId,
 }
 
-/// The first choice for an application, if any node is eligible. If one node leads alone, no load is computed.
-pub(crate) fn first_choice(config: &Config, state: &State, app: AppId) -> Option<NodeId>
-    requires { app.0 < app_count config.now }
-    ensures { result ≡ first_choice config.now state.now app }
-{
-    let lead = leader(config, state, app)?;
-    if lead.alone {
-        Some(lead.node)
-    } else {
-        least_ranked(config, state, app, lead)
-    }
+/// A first choice.
+#[derive(Clone, Copy, Debug, PartialEq, Eq)]
+pub struct Choice {
+    /// The node's group in the application's list, from 0.
+    pub group: u16,
+    /// The node.
+    pub node: NodeId,
 }
 
-/// The node of the least rank, which is in the leading group, so that no load is computed in later groups.
-fn least_ranked(config: &Config, state: &State, app: AppId, lead: Lead) -> Option<NodeId>
-    requires app { app.0 < app_count config.now }
-    requires leads { IsLead config.now state.now app (node_count config.now) lead }
-    ensures { result ≡ first_choice config.now state.now app }
+/// The first choice for an application, if any node is eligible. It is in the leading group, so no load is computed in
+/// later groups.
+pub fn first_choice_by<R: Runs, C: Candidates>(
+    runners: &R,
+    candidates: &C,
+    app: AppId,
+) -> Option<Choice>
+    ensures { result ≡ choice_by (C.group candidates.now) (C.eligible candidates.now)
+        (load_by (R.runs runners.now) (R.apps runners.now) app) (C.nodes candidates.now) }
+{
+    let lead = leader(candidates)?;
+    least_ranked(runners, candidates, app, lead)
+}
+
+/// The group and the node of the least rank, which is in the leading group.
+fn least_ranked<R: Runs, C: Candidates>(
+    runners: &R,
+    candidates: &C,
+    app: AppId,
+    lead: Lead,
+) -> Option<Choice>
+    requires { IsLead lead
+        (first_of (rank_by (C.group candidates.now) (C.eligible candidates.now)
+        (load_by (R.runs runners.now) (R.apps runners.now) app)) (C.nodes candidates.now)) }
+    ensures { result ≡ choice_by (C.group candidates.now) (C.eligible candidates.now)
+        (load_by (R.runs runners.now) (R.apps runners.now) app) (C.nodes candidates.now) }
 {
     let mut first = None;
-    for number in 0..config.nodes() {
-        let rank = rank_in(config, state, app, lead.group, NodeId(number));
+    for number in 0..candidates.nodes() {
+        let rank = rank_in(runners, candidates, app, lead.group, NodeId(number));
         first = lesser(first, rank);
     }
     let first = first?;
-    Some(first.node)
+    Some(Choice {
+        group: first.group,
+        node: first.node,
+    })
 }
 
 /// The rank of a node, if it is in this group and eligible. The group is compared first because that is cheapest.
-fn rank_in(config: &Config, state: &State, app: AppId, group: u16, node: NodeId) -> Option<Rank>
-    requires { app.0 < app_count config.now }
-    ensures { result ≡ rank_in config.now state.now app group node }
+fn rank_in<R: Runs, C: Candidates>(
+    runners: &R,
+    candidates: &C,
+    app: AppId,
+    group: u16,
+    node: NodeId,
+) -> Option<Rank>
+    ensures { result ≡ rank_in (C.group candidates.now) (C.eligible candidates.now)
+        (load_by (R.runs runners.now) (R.apps runners.now) app) group node }
 {
-    let own = config.group_of(app, node)?;
-    if own != group || !eligible(config, state, app, node) {
+    let own = candidates.group(node)?;
+    if own != group || !candidates.is_eligible(node) {
         return None;
     }
-    let load = load(config, state, app, node);
+    let load = load_by(runners, app, node);
     Some(Rank { group, load, node })
 }
 

@@ -6,6 +6,8 @@ ghost use Rattle.dac_config.specs.Table.{app_count};
 ghost use Rattle.dac_placement.specs.Placement.{holder_of, IsHolder, IsUp, is_up, RunsAt, runs_at, runner_of, load_of, IsLoad};
 
 use crate::eligibility::eligible;
+use crate::loads::load_by;
+use crate::states::Running;
 use dac_base::{AppId, NodeId};
 use dac_config::Config;
 use dac_origins::Origin;
@@ -18,15 +20,7 @@ pub fn load(config: &Config, state: &State, app: AppId, node: NodeId) -> u32
     // agrees with the load in words
     ensures words { IsLoad config.now state.now app node result }
 {
-    let mut load = 0;
-    for number in 0..config.apps() {
-        let other = AppId(number);
-        let runs = runs_at(config, state, other, node);
-        if other != app && runs {
-            load += 1;
-        }
-    }
-    load
+    load_by(&Running { config, state }, app, node)
 }
 
 /// Whether an application runs at a node: the node's live incarnation holds it, and the node is eligible for it.

@@ -1,7 +1,7 @@
 //! The standing of an application at its holder.
 ghost use Rattle.std.specs.Prelude.{◌≡◌, ◌<◌};
 ghost use Rattle.dac_config.specs.Table.{app_count};
-ghost use Rattle.dac_placement.specs.Placement.{standing_of};
+ghost use Rattle.dac_placement.specs.Placement.{group_held, standing_of};
 
 use crate::eligibility::{is_allowed, is_started};
 use crate::running::{holder, is_up};
@@ -46,5 +46,16 @@ pub fn standing_of(config: &Config, state: &State, app: AppId) -> Standing
         Standing::Barred
     } else {
         Standing::Upheld(holder.node)
+    }
+}
+
+/// The group of the holder, if it is upheld.
+pub fn group_held(config: &Config, app: AppId, standing: Standing) -> Option<u16>
+    requires { app.0 < app_count config.now }
+    ensures { result ≡ group_held config.now app standing }
+{
+    match standing {
+        Standing::Upheld(holder) => config.group_of(app, holder),
+        _ => None,
     }
 }

@@ -1,6 +1,7 @@
 -- Where applications run and their first choices, computed from the marks of nodes.
 use Rattle.std.proofs.Common.{◌≡◌, ◌∙◌, ℕ, ◌<◌, ◌==◌, Bool, true, false, cond, not, ◌&&◌, List, Option, None, Some, option_map, get_or, refl, sym, ap}
 use Rattle.std.specs.Option.{is_some, option_and_then, option_map_or}
+use Rattle.std.specs.Cmp.{both_ways}
 use Rattle.std.specs.FinMap as map
 use Rattle.std.proofs.lemmas.Bool.{false≢true, eqb-true, eq-eqb}
 use Rattle.dac_base.specs.declared.limits.TheConstants.{MAX_APPS}
@@ -10,25 +11,19 @@ use Rattle.dac_origins.specs.declared.dot.Origin.{Origin}
 use Rattle.dac_chains.specs.declared.claims.Claim.{Claim}
 use Rattle.dac_chains.specs.declared.lives.Life.{Life}
 use Rattle.dac_chains.specs.Lives.{live_at}
-use Rattle.dac_config.specs.Table.{Table, app_count, group_of}
+use Rattle.dac_config.specs.Table.{Table, app_count, group_of, node_count}
 use Rattle.dac_meaning.specs.StateValue.{StateValue}
 use Rattle.dac_placement.specs.Placement.{holder_of, is_allowed_at, is_eligible, is_started_at, is_up, key_at, load_of, rank_of, runner_of, runs_at}
 use Rattle.dac_placement.specs.declared.ranking.Rank.{Rank}
-use Rattle.dac_placement.specs.laws.Counting.{counts, numbered_app}
+use Rattle.dac_placement.specs.Choices.{load_by, rank_by}
+use Rattle.dac_placement.specs.laws.Counting.{load_alike}
 use Rattle.dac_placement.specs.laws.Tests as tests
 use Rattle.dac_status.specs.declared.marks.Mark.{Mark}
-use Rattle.dac_status.specs.Kept.{is_ok, runners_of}
-use Rattle.dac_status.specs.Summaries.{live_in, mark_at, mark_of}
-use Rattle.dac_status.proofs.Places.{app_numbered, placed_at}
-use Rattle.dac_status.proofs.Staying.{marked}
-
-itself : (n : ℕ) → (n == n) ≡ true
-itself n = eq-eqb n n refl
-
-same_test : (a b : Bool) → (a ≡ true → b ≡ true) → (b ≡ true → a ≡ true) → a ≡ b
-same_test true b f g = sym (f refl)
-same_test false true f g = g refl
-same_test false false f g = refl
+use Rattle.dac_status.specs.declared.marks.Mark.TheVariants.{Down}
+use Rattle.dac_status.specs.Kept.{is_ok, is_there, runners_of, runs_in}
+use Rattle.dac_status.specs.Summaries.{live_in, mark_at, mark_of, marks_of}
+use Rattle.dac_status.proofs.Places.{app_numbered, node_numbered, placed_at}
+use Rattle.dac_status.proofs.Staying.{mark_placed, marked}
 
 -- the mark is `Ok` exactly when all three tests pass
 by_tests : (permitted drained started : Bool) → ((permitted && not drained) && started) ≡ is_ok (marked permitted drained started)
@@ -38,9 +33,6 @@ by_tests true false false = refl
 by_tests false drained started = refl
 
 -- ---- running at a node
-
-abbrev is_there : Option NodeId → NodeId → Bool
-is_there runner node = option_map_or (λ (at : NodeId). at.0 == node.0) runner false
 
 there_if : (o : Option NodeId) (node : NodeId) → is_there o node ≡ true → o ≡ Some node
 there_if None node e = absurd (false≢true e)
@@ -66,7 +58,7 @@ module _ (table : Table) (s : StateValue) (app : AppId) where
       let may : (is_some group && is_ok mark) ≡ is_eligible table s app o.node = (λ i. is_some (of_group i) && is_ok (of_mark i)) ∙ sym (may_by_mark o.node) in
       let here : runs ≡ runs_at table s app o.node =
       is ∙ (λ i. up i && may i)
-      ∙ sym (ap (λ b. (b && is_up s o) && is_eligible table s app o.node) (itself o.node.0))
+      ∙ sym (ap (λ b. (b && is_up s o) && is_eligible table s app o.node) (eq-eqb o.node.0 o.node.0 refl))
       ∙ sym (ap (λ h. option_map_or (λ (p : Origin). (p.node.0 == o.node.0) && is_up s p) h false && is_eligible table s app o.node) holder) in
       ap (λ b. cond b (Some o.node) None) here
       ∙ sym (ap (option_and_then (λ (p : Origin). cond (runs_at table s app p.node) (Some p.node) None)) holder)
@@ -89,22 +81,24 @@ module _ (table : Table) (s : StateValue) (app : AppId) where
       ∙ (λ i. cond (is_some (sym of_group i) && sym of_mark i) (made node (sym of_load i) (sym of_group i)) None)
       ∙ ap (λ b. cond b (made node (load_of table s app node) (group_of table app node)) None) (sym (may_by_mark node))
 
-  -- an ineligible node has no rank, so that no load is computed
-  pub no_rank : (node : NodeId) (ok : Bool) (group : Option ℕ) → is_ok (mark_of table s app node) ≡ ok → group_of table app node ≡ group → (is_some group && ok) ≡ false → None ≡ rank_of table s app node
-  no_rank node ok group of_mark of_group fails =
-      ap (λ b. cond b (made node (load_of table s app node) (group_of table app node)) None)
-      (sym fails ∙ (λ i. is_some (sym of_group i) && sym of_mark i) ∙ sym (may_by_mark node))
-
   -- ---- loads
 
-  -- an application's runner determines whether it counts
-  pub counts_by : (node : NodeId) (runners : List (Option NodeId)) (n : ℕ) → runners ≡ runners_of table s → n < app_count table
-      → (not (n == app.0) && is_there (get_or runners n None) node) ≡ counts table s app node (numbered_app n)
-  counts_by node runners n are lt =
+  -- an application's runner determines whether it runs at a node
+  pub runs_by : (node : NodeId) (runners : List (Option NodeId)) (n : ℕ) → runners ≡ runners_of table s → n < app_count table
+      → is_there (get_or runners n None) node ≡ runs_at table s (app_numbered n) node
+  runs_by node runners n are lt =
       let other : AppId = app_numbered n in
-      let there : is_there (get_or runners n None) node ≡ is_there (runner_of table s other) node =
-      ap (λ rs. is_there (get_or rs n None) node) are ∙ ap (λ o. is_there o node) (placed_at MAX_APPS None app_numbered (runner_of table s) (app_count table) n lt) in
-      let runs : is_there (runner_of table s other) node ≡ runs_at table s other node =
-      same_test _ _ (λ e. (tests.runs_is table s other node).1 ((tests.runner_is table s other node).0 (there_if (runner_of table s other) node e)))
-      (λ e. ap (λ o. is_there o node) ((tests.runner_is table s other node).1 ((tests.runs_is table s other node).0 e)) ∙ itself node.0) in
-      ap (λ b. not (n == app.0) && b) (there ∙ runs)
+      ap (λ rs. is_there (get_or rs n None) node) are ∙ ap (λ o. is_there o node) (placed_at MAX_APPS None app_numbered (runner_of table s) (app_count table) n lt)
+      ∙ both_ways _ _ (λ e. (tests.runs_is table s other node).1 ((tests.runner_is table s other node).0 (there_if (runner_of table s other) node e)))
+      (λ e. ap (λ o. is_there o node) ((tests.runner_is table s other node).1 ((tests.runs_is table s other node).0 e)) ∙ eq-eqb node.0 node.0 refl)
+
+  -- the rank of a node by its mark, and by the runners of applications
+  abbrev pub rank_seen : List (Option NodeId) → List Mark → NodeId → Option Rank
+  rank_seen runners marks = rank_by (group_of table app) (λ node. is_ok (get_or marks node.0 Down)) (load_by (runs_in runners) (app_count table) app)
+
+  pub rank_by_marks : (runners : List (Option NodeId)) (marks : List Mark) → runners ≡ runners_of table s → marks ≡ marks_of table s app → (n : ℕ) → n < node_count table
+      → rank_seen runners marks (node_numbered n) ≡ rank_of table s app (node_numbered n)
+  rank_by_marks runners marks are also n lt =
+      let node : NodeId = node_numbered n in
+      rank_is node (is_ok (get_or marks n Down)) (group_of table app node) (load_by (runs_in runners) (app_count table) app node) (ap is_ok (sym (mark_placed table s app marks n also lt))) refl
+      (sym (load_alike app node (runs_in runners) (runs_at table s) (app_count table) (λ k k_lt. runs_by node runners k are k_lt)))

@@ -2,7 +2,7 @@
 use Rattle.std.proofs.Common.{◌≡◌, ◌∙◌, ℕ, ◌<◌, ◌==◌, Bool, true, false, cond, not, ◌&&◌, List, Option, None, Some, option_map, get_or, refl, sym, ap}
 use Rattle.std.specs.Option.{option_map_or}
 use Rattle.std.specs.FinMap as map
-use Rattle.std.proofs.lemmas.Bool.{false≢true, false_from_ne_true, eq-eqb}
+use Rattle.std.proofs.lemmas.Bool.{false≢true, eq-eqb}
 use Rattle.dac_base.specs.declared.limits.TheConstants.{MAX_NODES}
 use Rattle.dac_base.specs.declared.AppId.{AppId}
 use Rattle.dac_base.specs.declared.NodeId.{NodeId}
@@ -10,16 +10,11 @@ use Rattle.dac_origins.specs.declared.dot.Origin.{Origin}
 use Rattle.dac_chains.specs.declared.claims.Claim.{Claim}
 use Rattle.dac_chains.specs.declared.lives.Life.{Life}
 use Rattle.dac_chains.specs.Lives.{live_at}
-use Rattle.dac_chains.specs.laws.Live.{live_is}
-use Rattle.dac_config.specs.Table.{Table, group_of, node_count}
+use Rattle.dac_config.specs.Table.{Table, node_count}
 use Rattle.dac_meaning.specs.StateValue.{StateValue}
 use Rattle.dac_placement.specs.declared.standing.Standing.{Standing}
 use Rattle.dac_placement.specs.declared.standing.Standing.TheVariants.{Unclaimed, Lost, Stopped, Barred, Upheld}
-use Rattle.dac_placement.specs.declared.verdicts.Verdict.TheVariants.{Kept}
-use Rattle.dac_placement.specs.Placement.{EachEligible, IsEarlier, IsEligible, first_choice, is_drained_at, is_less, is_permitted_at, is_started_at, is_up, key_at, standing_at, standing_of, verdict_by, verdict_of}
-use Rattle.dac_placement.specs.laws.FirstChoice.{first_is}
-use Rattle.dac_placement.specs.laws.Judged.{kept_by}
-use Rattle.dac_placement.specs.laws.Tests.{drained_is, permitted_is, started_is}
+use Rattle.dac_placement.specs.Placement.{is_drained_at, is_permitted_at, is_started_at, is_up, key_at, standing_at, standing_of}
 use Rattle.dac_status.specs.declared.marks.Mark.{Mark}
 use Rattle.dac_status.specs.declared.marks.Mark.TheVariants as mark
 use Rattle.dac_status.specs.Kept.{is_ok}
@@ -41,15 +36,6 @@ upheld_if_ok node true true started e = absurd (false≢true e)
 upheld_if_ok node false drained started e = absurd (false≢true e)
 
 module _ (table : Table) (s : StateValue) (app : AppId) where
-  -- nothing keeps the application from an eligible node
-  ok_if_eligible : (node : NodeId) → IsEligible table s app node → is_ok (mark_of table s app node) ≡ true
-  ok_if_eligible node may =
-      let permitted : is_permitted_at table s (key_at app node may.inc) ≡ true = (permitted_is table s app node may.inc).1 may.allowed.0 in
-      let drained : is_drained_at s node may.inc ≡ false = false_from_ne_true (is_drained_at s node may.inc) (λ t. may.allowed.1 ((drained_is table s node may.inc).0 t)) in
-      let started : is_started_at s (key_at app node may.inc) ≡ true = (started_is table s app node may.inc).1 may.started in
-      ap (λ live. is_ok (mark_at table s app node live)) ((live_is s.lives node may.inc).1 may.live)
-      ∙ (λ i. is_ok (marked (permitted i) (drained i) (started i)))
-
   -- the mark at the place of a node
   pub mark_placed : (marks : List Mark) (n : ℕ) → marks ≡ marks_of table s app → n < node_count table → get_or marks n mark.Down ≡ mark_of table s app (node_numbered n)
   mark_placed marks n are lt = ap (λ ms. get_or ms n mark.Down) are ∙ placed_at MAX_NODES mark.Down node_numbered (mark_of table s app) (node_count table) n lt
@@ -74,15 +60,3 @@ module _ (table : Table) (s : StateValue) (app : AppId) where
       ap (λ c. option_map_or (standing_at table s app) (option_map (λ (k : Claim). k.origin) c) Unclaimed) (sym claimed)
       ∙ ap (λ b. cond (not b) Lost (standing node permitted drained started)) up
       ∙ upheld_if_ok node permitted drained started fine
-
-  -- an upheld application stays if no eligible node is in an earlier group
-  pub stays : (holder : NodeId) → standing_of table s app ≡ Upheld holder → EachEligible table s app (λ m. ¬ IsEarlier table app m holder) → Kept holder ≡ verdict_of table s app
-  stays holder upheld none =
-      let first = first_choice table s app in
-      sym (ap (λ standing. verdict_by table app standing first) upheld ∙ kept_by table s app holder first (first_is table s app) none)
-
-  -- a node that isn't before some group, and is eligible, is in no earlier group
-  pub none_before : (marks : List Mark) (late : ℕ) (n : ℕ) → marks ≡ marks_of table s app → n < node_count table → IsEligible table s app (node_numbered n)
-      → (is_ok (get_or marks n mark.Down) && is_less (group_of table app (node_numbered n)) (Some late)) ≡ false → is_less (group_of table app (node_numbered n)) (Some late) ≡ false
-  none_before marks late n are lt may not =
-      sym (ap (λ b. b && is_less (group_of table app (node_numbered n)) (Some late)) (ap is_ok (mark_placed marks n are lt) ∙ ok_if_eligible (node_numbered n) may)) ∙ not

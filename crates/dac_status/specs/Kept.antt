@@ -1,5 +1,6 @@
 -- Eligible nodes by their marks, and the node at which each application runs.
-use Rattle.std.specs.Prelude.{Bool, true, false, List, map as list_map, Option, None}
+use Rattle.std.specs.Prelude.{◌==◌, Bool, true, false, List, get_or, map as list_map, Option, None}
+use Rattle.std.specs.Option.{option_map_or}
 use Rattle.std.specs.FinMap as map
 use Rattle.dac_base.specs.declared.limits.TheConstants.{MAX_APPS}
 use Rattle.dac_base.specs.declared.AppId.{AppId}
@@ -20,6 +21,14 @@ is_ok Barred = false
 is_ok Drained = false
 is_ok Idle = false
 is_ok Ok = true
+
+-- an application of this runner runs at the node
+abbrev pub is_there : Option NodeId → NodeId → Bool
+is_there runner node = option_map_or (λ (at : NodeId). at.0 == node.0) runner false
+
+-- where applications of these runners run
+abbrev pub runs_in : List (Option NodeId) → AppId → NodeId → Bool
+runs_in runners app node = is_there (get_or runners app.0 None) node
 
 -- the node at which each application runs, if any, by the applications' numbers
 abbrev pub runners_of : Table → StateValue → List (Option NodeId)

@@ -9,6 +9,7 @@
 
 mod apps;
 mod chains;
+mod facts;
 mod kept;
 mod labels;
 mod marks;

@@ -1,25 +1,20 @@
 -- The computed first choice has the least rank, so it is the first choice in words.
-use Rattle.std.proofs.Common.{◌≡◌, ◌↔◌, ℕ, ◌+◌, ◌<◌, ◌≤◌, Bool, true, false, cond, [], ◌∷◌, Option, Some, None, option_map, refl, sym, ap, subst, ◌∙◌, arith, inl, inr, zero, suc, add-one}
-use Rattle.std.specs.Prelude.{MatchOption, IsSome, map as list_map}
+use Rattle.std.proofs.Common.{◌≡◌, ◌↔◌, ℕ, ◌<◌, ◌≤◌, Bool, true, false, cond, Option, Some, None, option_map, refl, sym, ap, subst, ◌∙◌, arith, inl, inr}
+use Rattle.std.specs.Prelude.{MatchOption, IsSome}
 use Rattle.std.specs.Option.{is_some}
-use Rattle.std.specs.List.{range_with_len, filter_map, reduce}
-use Rattle.std.specs.Ordering.{ord_min}
 use Rattle.std.proofs.lemmas.Bool.{false≢true}
-use Rattle.std.proofs.lemmas.List.Elements.{filter_map-append}
-use Rattle.std.proofs.lemmas.List.FromFn.{map-range_with_len_more}
 use Rattle.dac_base.specs.declared.NodeId.{NodeId}
 use Rattle.dac_base.specs.declared.AppId.{AppId}
-use Rattle.dac_lattice.specs.Lattices.{join_options}
 use Rattle.dac_config.specs.Table.{Table, node_count, group_of}
 use Rattle.dac_state.specs.StateValue.{StateValue}
-use Rattle.dac_placement.specs.Ranks.{Rank, rank_cmp}
+use Rattle.dac_placement.specs.Ranks.{Rank}
 use Rattle.dac_placement.specs.Placement.{IsEligible, is_eligible, EachEligible, IsFirst, load_of, rank_of, first_choice}
 use Rattle.dac_placement.specs.laws.Tests.{eligible_is}
 use Rattle.dac_placement.specs.laws.Loads.{preferred_is}
-use Rattle.dac_placement.specs.laws.Least.{IsLeast, IsUpTo, least_more, reduce_more, up_to_parts}
-
-abbrev pub numbered : ℕ → NodeId
-numbered n = record { 0 = n }
+use Rattle.dac_placement.specs.Choices.{first_of}
+use Rattle.dac_placement.specs.laws.Least.{IsLeast, IsUpTo, up_to_parts}
+use Rattle.dac_placement.specs.laws.Choosing.{first_is_least}
+pub use Rattle.dac_placement.specs.laws.Choosing.{numbered}
 
 module _ (table : Table) (s : StateValue) (app : AppId) where
   -- the rank of the node of this number
@@ -28,18 +23,7 @@ module _ (table : Table) (s : StateValue) (app : AppId) where
 
   -- the least rank of the first n nodes
   abbrev pub first_below : ℕ → Option Rank
-  first_below n = reduce (ord_min rank_cmp) (filter_map (rank_of table s app) (list_map numbered (range_with_len 0 n)))
-
-  pub first_more : (n : ℕ) → first_below (n + 1) ≡ join_options (ord_min rank_cmp) (first_below n) (rank_at n)
-  first_more n =
-      ap (λ ns. reduce (ord_min rank_cmp) (filter_map (rank_of table s app) ns)) (map-range_with_len_more numbered 0 n n (omega arith))
-      ∙ ap (reduce (ord_min rank_cmp)) (filter_map-append (rank_of table s app) (list_map numbered (range_with_len 0 n)) (numbered n ∷ []))
-      ∙ reduce_more (ord_min rank_cmp) (filter_map (rank_of table s app) (list_map numbered (range_with_len 0 n))) (rank_at n)
-
-  first_is_least : (n : ℕ) → IsLeast rank_at n (first_below n)
-  first_is_least zero = λ k lt. absurd (omega arith)
-  first_is_least (suc n) = subst (λ m. IsLeast rank_at m (first_below m)) (add-one n)
-      (subst (IsLeast rank_at (n + 1)) (sym (first_more n)) (least_more rank_at n (first_below n) (rank_at n) (first_is_least n) refl))
+  first_below n = first_of (rank_of table s app) n
 
   -- the group, load and node of a rank
   of_group : (node : NodeId) (o : Option ℕ) (r : Rank) → option_map (λ group. record { group = group; load = load_of table s app node; node = node }) o ≡ Some r
@@ -59,7 +43,7 @@ module _ (table : Table) (s : StateValue) (app : AppId) where
   -- the group and load of the least rank are those of its node
   pub first_parts : (n : ℕ) (r : Rank) → first_below n ≡ Some r → (group_of table app r.node ≡ Some r.group) × (r.load ≡ load_of table s app r.node)
   first_parts n r e =
-      let least = subst (IsLeast rank_at n) e (first_is_least n) in
+      let least = subst (IsLeast rank_at n) e (first_is_least (rank_of table s app) n) in
       let parts = rank_parts (numbered least.0.0) r least.0.2 in
       subst (λ m. (group_of table app m ≡ Some r.group) × (r.load ≡ load_of table s app m)) (sym parts.2) (parts.0, parts.1)
 
@@ -137,7 +121,7 @@ module _ (table : Table) (s : StateValue) (app : AppId) where
 
   -- the computed first choice is the first choice in words, and if there is none, no node is eligible
   pub first_is : MatchOption (first_choice table s app) (EachEligible table s app (λ _. ⊥)) (λ n. IsFirst table s app n)
-  first_is = by_least (first_below (node_count table)) (first_is_least (node_count table))
+  first_is = by_least (first_below (node_count table)) (first_is_least (rank_of table s app) (node_count table))
     where
       by_least : (o : Option Rank) → IsLeast rank_at (node_count table) o → MatchOption (option_map (λ (r : Rank). r.node) o) (EachEligible table s app (λ _. ⊥)) (λ n. IsFirst table s app n)
       by_least None none = λ node lt may. absurd (false≢true (ap is_some (sym (none node.0 lt)) ∙ (ranked_is node).1 may))

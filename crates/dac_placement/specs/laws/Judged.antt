@@ -1,17 +1,20 @@
 -- The standing and the first choice determine the verdict in words.
 use Rattle.std.proofs.Common.{◌≡◌, ◌↔◌, ℕ, ◌<◌, ◌≤◌, true, false, cond, Option, Some, None, refl, sym, ap, ◌∙◌, arith, inl, inr}
-use Rattle.std.specs.Prelude.{MatchOption, nat_lt, is_some}
-use Rattle.std.proofs.lemmas.Bool.{true≢false, false≢true, false_from_ne_true, ltb-true, ltb-false, lt-ltb}
+use Rattle.std.specs.Prelude.{MatchOption, nat_lt, is_some, option_map}
+use Rattle.std.proofs.lemmas.Bool.{true≢false, false≢true, ltb-true, ltb-false, lt-ltb}
 use Rattle.dac_base.specs.declared.NodeId.{NodeId}
 use Rattle.dac_base.specs.declared.AppId.{AppId}
-use Rattle.dac_config.specs.Table.{Table, group_of}
+use Rattle.dac_config.specs.Table.{Table, group_of, node_count}
 use Rattle.dac_state.specs.StateValue.{StateValue}
 use Rattle.dac_placement.specs.declared.standing.Standing.{Standing}
 use Rattle.dac_placement.specs.declared.standing.Standing.TheVariants.{Unclaimed, Lost, Stopped, Barred, Upheld}
 use Rattle.dac_placement.specs.declared.verdicts.Verdict.TheVariants.{Takeover, Kept}
-use Rattle.dac_placement.specs.Placement.{EachEligible, IsEarlier, is_less, is_earlier, IsFirst, IsStanding, standing_of, first_choice, IsVerdict, verdict_by, verdict_of}
+use Rattle.dac_placement.specs.Placement.{EachEligible, IsEarlier, is_less, is_earlier, IsFirst, IsStanding, standing_of, group_held, rank_of, first_choice, IsVerdict, verdict_by, verdict_of}
 use Rattle.dac_placement.specs.laws.Standing.{standing_is}
-use Rattle.dac_placement.specs.laws.FirstChoice.{first_is}
+use Rattle.dac_placement.specs.Ranks.{Rank}
+use Rattle.dac_placement.specs.Choices.{choice_of, first_of, verdict_on}
+use Rattle.dac_placement.specs.laws.Choosing.{first_alike, numbered}
+use Rattle.dac_placement.specs.laws.FirstChoice.{first_is, first_below, first_parts}
 
 -- a first choice, or no node is eligible
 abbrev pub IsChoice : Table → StateValue → AppId → Option NodeId → Type 0
@@ -65,7 +68,25 @@ verdict_is table s app Barred None stands none = (none, inr (inr stands))
 pub verdict_in_words : (table : Table) (s : StateValue) (app : AppId) → IsVerdict table s app (verdict_of table s app)
 verdict_in_words table s app = verdict_is table s app (standing_of table s app) (first_choice table s app) (standing_is table s app) (first_is table s app)
 
--- if no eligible node is in an earlier group than the holder, the application is kept, whatever the first choice is
-pub kept_by : (table : Table) (s : StateValue) (app : AppId) (holder : NodeId) (first : Option NodeId) → IsChoice table s app first → EachEligible table s app (λ m. ¬ IsEarlier table app m holder) → verdict_by table app (Upheld holder) first ≡ Kept holder
-kept_by table s app holder None is none = refl
-kept_by table s app holder (Some n) is none = ap (λ b. cond b (Takeover n) (Kept holder)) (false_from_ne_true (is_earlier table app n holder) (λ e. none n is.node is.eligible (earlier_if table app n holder e)))
+module _ (table : Table) (s : StateValue) (app : AppId) where
+  -- the verdict by the holder's group and the first choice's
+  by_first : (standing : Standing) (first : Option Rank) → ((r : Rank) → first ≡ Some r → group_of table app r.node ≡ Some r.group)
+      → verdict_on standing (group_held table app standing) (option_map choice_of first) ≡ verdict_by table app standing (option_map (λ (r : Rank). r.node) first)
+  by_first (Stopped holder) first grouped = refl
+  by_first (Upheld holder) None grouped = refl
+  by_first (Upheld holder) (Some r) grouped = λ i. cond (is_less (sym (grouped r refl) i) (group_of table app holder)) (Takeover r.node) (Kept holder)
+  by_first Unclaimed None grouped = refl
+  by_first Unclaimed (Some r) grouped = refl
+  by_first Lost None grouped = refl
+  by_first Lost (Some r) grouped = refl
+  by_first Barred None grouped = refl
+  by_first Barred (Some r) grouped = refl
+
+  -- whatever computes the ranks of nodes, the verdict by them is the verdict
+  pub judged_same : (ranks : NodeId → Option Rank) (standing : Standing) (late : Option ℕ) → standing ≡ standing_of table s app → late ≡ group_held table app standing
+      → ((k : ℕ) → k < node_count table → ranks (numbered k) ≡ rank_of table s app (numbered k))
+      → verdict_on standing late (option_map choice_of (first_of ranks (node_count table))) ≡ verdict_of table s app
+  judged_same ranks standing late of_standing of_late same =
+      (λ i. verdict_on standing (of_late i) (option_map choice_of (first_alike ranks (rank_of table s app) (node_count table) same i)))
+      ∙ by_first standing (first_below table s app (node_count table)) (λ r e. (first_parts table s app (node_count table) r e).0)
+      ∙ ap (λ standing. verdict_by table app standing (first_choice table s app)) of_standing

@@ -112,3 +112,19 @@ module _ (at : ℕ → Option Rank) where
     where
       one : (x y : Rank) → ◌≡◌ {A = Option Rank} (Some x) (Some y) → x ≡ y
       one x y e = cc
+
+-- ---- the least rank is unique
+
+same_parts : (a b c d e f : ℕ) → (a < b) ⊎ ((a ≡ b) × ((c < d) ⊎ ((c ≡ d) × (e ≤ f)))) → (b < a) ⊎ ((b ≡ a) × ((d < c) ⊎ ((d ≡ c) × (f ≤ e)))) → (a ≡ b) × (c ≡ d) × (e ≡ f)
+same_parts a b c d e f p q = (grind arith, grind arith, grind arith)
+
+exact : (a b : Rank) → IsUpTo a b → IsUpTo b a → a ≡ b
+exact a b p q =
+    let same = same_parts a.group b.group a.load b.load a.node.0 b.node.0 (up_to_parts a b p) (up_to_parts b a q) in
+    λ i. record { group = same.0 i; load = same.1 i; node = record { 0 = same.2 i } }
+
+pub same_least : (at : ℕ → Option Rank) (n : ℕ) (o p : Option Rank) → IsLeast at n o → IsLeast at n p → o ≡ p
+same_least at n None None a b = refl
+same_least at n None (Some q) a b = absurd (false≢true (ap is_some (sym (a b.0.0 b.0.1) ∙ b.0.2)))
+same_least at n (Some r) None a b = absurd (false≢true (ap is_some (sym (b a.0.0 a.0.1) ∙ a.0.2)))
+same_least at n (Some r) (Some q) a b = ap (λ x. Some x) (exact r q (a.1 b.0.0 b.0.1 q b.0.2) (b.1 a.0.0 a.0.1 r a.0.2))

@@ -16,9 +16,6 @@ use Rattle.dac_state.specs.DrainsValue.{origin}
 use Rattle.dac_state.specs.StateValue.{StateValue, permissions_of, wishes_of, drains_of}
 use Rattle.dac_placement.specs.Placement.{IsPermittedAt, is_permitted_at, IsDrainedAt, is_drained_at, IsAllowedAt, is_allowed_at, IsStartedAt, is_started_at, IsEligible, is_eligible, holder_of, key_at, IsUp, is_up, RunsAt, runs_at, runner_of}
 
-itself : (n : ℕ) → (n == n) ≡ true
-itself n = eq-eqb n n refl
-
 -- ---- incarnations
 
 module _ (s : StateValue) where
@@ -29,7 +26,7 @@ module _ (s : StateValue) where
   pub up_is : (o : Origin) → (is_up s o ≡ true) ↔ IsUp s o
   up_is o = (
     up_if o (live_at s.lives o.node) refl,
-    λ up. ap (λ live. option_map_or (λ inc. inc == o.inc) live false) ((live_is s.lives o.node o.inc).1 up) ∙ itself o.inc,
+    λ up. ap (λ live. option_map_or (λ inc. inc == o.inc) live false) ((live_is s.lives o.node o.inc).1 up) ∙ eq-eqb o.inc o.inc refl,
   )
 
 module _ (table : Table) (s : StateValue) where
@@ -88,7 +85,7 @@ module _ (table : Table) (s : StateValue) where
     pub runs_is : (runs_at table s app node ≡ true) ↔ RunsAt table s app node
     runs_is = (
       λ h. let both = and_parts _ _ h in runs_if (holder_of s app) refl both.0 (eligible_is.0 both.1),
-      λ r. and_from _ _ (ap held_here r.holder ∙ and_from _ _ (itself node.0) ((up_is s (record { node = node; inc = r.inc })).1 r.up)) (eligible_is.1 r.eligible),
+      λ r. and_from _ _ (ap held_here r.holder ∙ and_from _ _ (eq-eqb node.0 node.0 refl) ((up_is s (record { node = node; inc = r.inc })).1 r.up)) (eligible_is.1 r.eligible),
     )
 
   -- ---- the runner

@@ -66,6 +66,9 @@ loop-place-preserved c =
           }
     ]
 
+pub returns-clause-long : goal.returns-clause-long
+returns-clause-long c = c.loop-place.invariant.long
+
 pub returns-clause-shows : goal.returns-clause-shows
 returns-clause-shows c = λ grown shows.
     let table = c.args.config.now in

@@ -1,11 +1,12 @@
 use Rattle.std.proofs.Common.{rules, ◌≡◌, ◌<◌, ◌-◌, ◌^◌, length, get_or, refl, sym, ap, ◌∙◌, arith, length-set}
+use Rattle.std.proofs.lemmas.Bool.{not-true}
 use Rattle.std.proofs.lemmas.List.FromFn.{sum_by-map-range_with_len_more}
 use Rattle.dac_config.specs.Table.{app_count}
 use Rattle.dac_board.specs.Boards.{BoardValue, row_of, rows_of}
 use Rattle.dac_board.specs.Rows.{no_row}
 use Rattle.dac_board.specs.Touched.{touched_of}
 use Rattle.dac_board.specs.Marks.{is_marked}
-use Rattle.dac_board.proofs.Counting.{numbered_app, untrue}
+use Rattle.dac_placement.specs.laws.Counting.{numbered_app}
 use Rattle.dac_board.proofs.Filling.{filled_by, filled_at, length_filled, one_more, rest_kept, get_any, more_summed}
 use Rattle.dac_board.proofs.Untouched.{touched_words, untouched_outside}
 use Rattle.dac_board.proofs.board.Board.absorb.Goals as goal
@@ -47,8 +48,8 @@ loop-place-preserved c =
       done = λ shows k lt. one_more numbered_app (row_of table new) items place c.absorb.new.self no_row inside
           (c.absorb.ensures.shows (record {
             keeps = λ node unmarked. c.moved_by-moved.ensures (numbered_app place) node (omega (arith, under, least, limit)) (ap (λ w. is_marked w node.0) (get_any c.moved_by-moved.result place (2 ^ 64 - 1) 0 (omega (arith, words, under, least, limit))) ∙ unmarked);
-            lives = λ still. c.moves_nodes-is_still.ensures.lives (untrue _ still);
-            drains = λ still. c.moves_nodes-is_still.ensures.drains (untrue _ still);
+            lives = λ still. c.moves_nodes-is_still.ensures.lives (not-true _ still);
+            drains = λ still. c.moves_nodes-is_still.ensures.drains (not-true _ still);
             claims = λ alike. sym c.claims.ensures ∙ (c.equal-is_claimed_alike.ensures.0 alike ∙ c.claims-2.ensures);
             nodes = c.nodes_moved-nodes.ensures;
           }) (row ∙ before.left shows place (omega arith) within)) (before.done shows) k lt;

@@ -5,7 +5,7 @@ use Rattle.dac_config.specs.Table.{app_count}
 use Rattle.dac_board.specs.Boards.{row_of, rows_of}
 use Rattle.dac_board.specs.Rows.{no_row}
 use Rattle.dac_board.specs.Touched.{touched_of}
-use Rattle.dac_board.proofs.Counting.{numbered_app}
+use Rattle.dac_placement.specs.laws.Counting.{numbered_app}
 use Rattle.dac_board.proofs.board.Board.absorb.Given as goal
 
 abbrev pub invariant-loop-place : goal.invariant-loop-place

@@ -2,7 +2,7 @@ use Rattle.std.proofs.Common.{◌≡◌, length, get_or, sym, ap, ◌∙◌, ari
 use Rattle.dac_config.specs.Table.{app_count}
 use Rattle.dac_board.specs.Boards.{BoardValue, RowValue, row_of, rows_of, is_lost_at}
 use Rattle.dac_board.specs.Rows.{no_row}
-use Rattle.dac_board.proofs.Counting.{numbered_app}
+use Rattle.dac_placement.specs.laws.Counting.{numbered_app}
 use Rattle.dac_board.proofs.Filling.{length_filled, filled_at, get_any}
 use Rattle.std.proofs.lemmas.Bool.{ltb-true, ltb-false}
 use Rattle.dac_board.proofs.board.Board.is_lost.Goals as goal

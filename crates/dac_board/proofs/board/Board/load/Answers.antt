@@ -5,5 +5,5 @@ use Rattle.dac_board.proofs.board.Board.load.Goals as goal
 
 pub returns : goal.returns
 returns c = λ table s shows.
-    c.load_on.ensures
+    c.load_by.ensures
     ∙ load_same table s c.deref.result.now (c.deref.ensures.value ∙ ap (λ (b : BoardValue). b.rows) c.self.view_is ∙ shows) c.args.app c.args.node

@@ -1,6 +1,6 @@
 use Rattle.std.proofs.Common.{◌∷◌, [], ◌++◌, length, sym, ap, ap₂, ◌∙◌, arith}
 use Rattle.dac_board.specs.Boards.{row_of}
-use Rattle.dac_board.proofs.Counting.{numbered_app}
+use Rattle.dac_placement.specs.laws.Counting.{numbered_app}
 use Rattle.dac_board.proofs.Filling.{filled_more, length_filled}
 use Rattle.dac_board.proofs.board.Board.new.Goals as goal
 

@@ -6,6 +6,6 @@ use Rattle.dac_board.proofs.board.Board.verdict.Goals as goal
 pub returns : goal.returns
 returns c = record {
   value = λ table s shows lt.
-      c.verdict_on.ensures
+      c.row_verdict.ensures
       ∙ verdict_same table s c.deref.result.now (c.deref.ensures.value ∙ ap (λ (b : BoardValue). b.rows) c.self.view_is ∙ shows) c.args.app lt;
 }
