@@ -1,11 +1,11 @@
 -- The operations that a running node issues have no fault: the dot is new, and the replaced dots are a short rising
 -- list.
-use Rattle.std.proofs.Common.{◌≡◌, ℕ, ◌<◌, ◌≤◌, ◌+◌, Bool, true, false, not, ◌||◌, List, length, Option, Some, None, refl, sym, subst, ◌∙◌, arith, true≢false}
+use Rattle.std.proofs.Common.{◌≡◌, ℕ, ◌<◌, ◌≤◌, ◌+◌, Bool, true, false, not, ◌||◌, List, length, Option, Some, None, refl, sym, subst, ◌∙◌, arith}
 use Rattle.std.specs.Prelude.{◌==◌, if◌then◌else◌, MatchOption, is_some, nat_eq}
 use Rattle.std.specs.Option.{is_none}
 use Rattle.std.specs.FinSet as set
 use Rattle.std.proofs.lemmas.Map.Views.{exact_unsigned_eq}
-use Rattle.std.proofs.lemmas.Bool.{false_from_ne_true, leb-false}
+use Rattle.std.proofs.lemmas.Bool.{false_from_ne_true, leb-false, not-false}
 use Rattle.dac_base.specs.declared.AppId.{AppId}
 use Rattle.dac_base.specs.declared.NodeId.{NodeId}
 use Rattle.dac_origins.specs.declared.dot.Origin.{Origin}
@@ -86,12 +86,8 @@ may_take t own s app e =
 pub used_up-is : (s : StateValue) (own : Origin) (known : Dots) (next : Option Dot) → known ≡ s.known → MatchOption next (IsUsedUp known own) (IsNext known own) → used_up s own ≡ is_none next
 used_up-is s own known next is h = sym (next_none s.known own next (subst (λ k. MatchOption next (IsUsedUp k own) (IsNext k own)) is h))
 
-turned : (b : Bool) → not b ≡ false → b ≡ true
-turned true e = refl
-turned false e = absurd (true≢false e)
-
 pub next_there : (s : StateValue) (own : Origin) (known : Dots) (next : Option Dot) → known ≡ s.known → MatchOption next (IsUsedUp known own) (IsNext known own) → used_up s own ≡ false → is_some next ≡ true
-next_there s own known next is h left = turned (is_some next) (sym (used_up-is s own known next is h) ∙ left)
+next_there s own known next is h left = not-false (is_some next) (sym (used_up-is s own known next is h) ∙ left)
 
 pub next_dot : (s : StateValue) (own : Origin) (known : Dots) (next : Option Dot) (d : Dot) → known ≡ s.known → MatchOption next (IsUsedUp known own) (IsNext known own) → next ≡ Some d → d ≡ dot own (greatest_counter own s.known + 1)
 next_dot s own known next d is h some = next-is s.known own d (subst (λ k. IsNext k own d) is (subst (λ o. MatchOption o (IsUsedUp known own) (IsNext known own)) some h))

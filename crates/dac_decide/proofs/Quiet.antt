@@ -1,9 +1,9 @@
 -- A note changes nothing if no timer runs and no claim is lost in its state.
 use Rattle.std.proofs.Common.{◌≡◌, ℕ, zero, suc, add-one, ◌+◌, ◌<◌, true, false, Bool, not, List, [], ◌∷◌, ◌++◌, Option, Some, None, subst, refl, sym, ◌∙◌, arith}
-use Rattle.std.specs.Prelude.{nat_lt, is_some, option_map, if◌then◌else◌}
+use Rattle.std.specs.Prelude.{is_some, option_map, if◌then◌else◌}
 use Rattle.std.specs.Option.{option_map_or, option_and_then}
 use Rattle.std.specs.FinMap as map
-use Rattle.std.proofs.lemmas.Bool.{true≢false, ltb-true, ltb-false}
+use Rattle.std.proofs.lemmas.Bool.{true≢false}
 use Rattle.dac_base.specs.declared.AppId.{AppId}
 use Rattle.dac_base.specs.declared.NodeId.{NodeId}
 use Rattle.dac_config.specs.Table.{Table, app_count}
@@ -44,13 +44,6 @@ none_is None e = refl
 none_is (Some x) e = absurd (true≢false e)
 
 -- ---- a loop over applications
-
--- a property of the numbers below n, and of n, holds of those below n + 1
-pub one_below : (P : ℕ → Type 0) (n : ℕ) → ((k : ℕ) → k < n → P k) → P n → (k : ℕ) → k < n + 1 → P k
-one_below P n before here k lt = elim (nat_lt k n) as (λ b. nat_lt k n ≡ b → P k) [
-  | true ↦ λ e. before k (ltb-true k n e)
-  | false ↦ λ e. let same : n ≡ k = omega (arith, lt, ltb-false k n e) in subst P same here
-] refl
 
 -- a note changes nothing of an application that has no timer and whose claim isn't lost
 one_stays : (notes : List Note) (note : Note) (app : AppId) → noted_of app notes ≡ None → lost_in note.state app ≡ None → noted_of app notes ≡ noted_of app (note ∷ notes)

@@ -6,6 +6,7 @@ use Rattle.std.specs.List.{list_any}
 use Rattle.std.specs.Ordering.{eq_by_cmp}
 use Rattle.std.specs.Cmp.{Equal-is}
 use Rattle.std.specs.FinSet as set
+use Rattle.std.proofs.Math.Bool.{or-true}
 use Rattle.std.proofs.lemmas.Cmp.{tied_itself}
 use Rattle.std.proofs.lemmas.Bool.{or_cases, le-leb, leb-true, ltb-true}
 use Rattle.dac_origins.specs.declared.dot.Origin.{Origin}
@@ -36,34 +37,33 @@ counter-greatest dots d h =
     let here : counter_at d.origin d ≡ d.n = ap (λ b. cond b d.n 0) (ap is_eq (tied_itself origins_total d.origin)) in
     omega arith
 
-or-right : (a : Bool) → (a || true) ≡ true
-or-right true = refl
-or-right false = refl
-
 larger_left : (a b : ℕ) → b ≤ a → max a b ≡ a
 larger_left a b h = omega arith
 
 larger_right : (a b : ℕ) → (b ≤ a → ⊥) → max a b ≡ b
 larger_right a b h = omega arith
 
--- the counter of one dot of the origin, or 0
-one_there : (o : Origin) (e : Dot) (ds : List Dot) (m : ℕ) (b : Bool) → eq_by_cmp origin_cmp e.origin o ≡ b → m ≡ cond b e.n 0 → (m ≡ 0) ⊎ (list_any (same_dot (dot o m)) (e ∷ ds) ≡ true)
+-- the counter is 0, or that of one of the dots
+abbrev IsThere : Origin → List Dot → ℕ → Type 0
+IsThere o ds n = (n ≡ 0) ⊎ (list_any (same_dot (dot o n)) ds ≡ true)
+
+one_there : (o : Origin) (e : Dot) (ds : List Dot) (m : ℕ) (b : Bool) → eq_by_cmp origin_cmp e.origin o ≡ b → m ≡ cond b e.n 0 → IsThere o (e ∷ ds) m
 one_there o e ds m false f is = inl is
 one_there o e ds m true t is =
     let same : dot o m ≡ e = λ i. record { origin = sym (exact_origins e.origin o ((Equal-is (origin_cmp e.origin o)).0 t)) i; n = is i } in
     inr (ap (λ b. b || list_any (same_dot (dot o m)) ds) (subst (λ d. same_dot d e ≡ true) (sym same) (same_dot_itself e)))
 
-rest_there : (o : Origin) (e : Dot) (ds : List Dot) (m k : ℕ) → m ≡ k → (k ≡ 0) ⊎ (list_any (same_dot (dot o k)) ds ≡ true) → (m ≡ 0) ⊎ (list_any (same_dot (dot o m)) (e ∷ ds) ≡ true)
+rest_there : (o : Origin) (e : Dot) (ds : List Dot) (m k : ℕ) → m ≡ k → IsThere o ds k → IsThere o (e ∷ ds) m
 rest_there o e ds m k is (inl none) = inl (is ∙ none)
-rest_there o e ds m k is (inr t) = inr (ap (λ b. same_dot (dot o m) e || b) (subst (λ n. list_any (same_dot (dot o n)) ds ≡ true) (sym is) t) ∙ or-right (same_dot (dot o m) e))
+rest_there o e ds m k is (inr t) = inr (ap (λ b. same_dot (dot o m) e || b) (subst (λ n. list_any (same_dot (dot o n)) ds ≡ true) (sym is) t) ∙ or-true (same_dot (dot o m) e))
 
 -- the greatest counter is 0, or that of one of the dots
-greatest-there : (o : Origin) (ds : List Dot) → (greatest_among o ds ≡ 0) ⊎ (list_any (same_dot (dot o (greatest_among o ds))) ds ≡ true)
+pub greatest-there : (o : Origin) (ds : List Dot) → IsThere o ds (greatest_among o ds)
 greatest-there o [] = inl refl
 greatest-there o (e ∷ ds) =
     let x = counter_at o e in
     let y = greatest_among o ds in
-    elim (nat_le y x) as (λ b. nat_le y x ≡ b → (max x y ≡ 0) ⊎ (list_any (same_dot (dot o (max x y))) (e ∷ ds) ≡ true)) [
+    elim (nat_le y x) as (λ b. nat_le y x ≡ b → IsThere o (e ∷ ds) (max x y)) [
       | true ↦ λ t. one_there o e ds (max x y) (eq_by_cmp origin_cmp e.origin o) refl (larger_left x y (leb-true y x t))
       | false ↦ λ f. rest_there o e ds (max x y) y (larger_right x y (λ le. true≢false (sym (le-leb y x le) ∙ f))) (greatest-there o ds)
     ] refl

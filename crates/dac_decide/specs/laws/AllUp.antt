@@ -4,7 +4,8 @@ use Rattle.std.specs.Prelude.{nat_lt, map as list_map}
 use Rattle.std.specs.Option.{is_some, option_and_then}
 use Rattle.std.specs.List.{range_with_len, list_all}
 use Rattle.std.specs.FinMap as map
-use Rattle.std.proofs.lemmas.Bool.{true≢false, false≢true, and_parts, and_from, ltb-true, ltb-false}
+use Rattle.std.proofs.Math.Bool.{and-true}
+use Rattle.std.proofs.lemmas.Bool.{true≢false, false≢true, or_left, or_right, and_parts, and_from, ltb-true, ltb-false}
 use Rattle.std.proofs.lemmas.List.Sums.{AllPass-from_list_all, list_all-from_AllPass}
 use Rattle.std.proofs.lemmas.List.Folds.{list_all-append}
 use Rattle.std.proofs.lemmas.List.FromFn.{map-range_with_len_more, get_or-map-range_with_len, length-map-range_with_len}
@@ -30,15 +31,11 @@ numbered n = record { 0 = n }
 abbrev pub all_first : (NodeId → Bool) → ℕ → Bool
 all_first test n = list_all test (list_map numbered (range_with_len 0 n))
 
-and_true : (b : Bool) → (b && true) ≡ b
-and_true true = refl
-and_true false = refl
-
 pub all_more : (test : NodeId → Bool) (n : ℕ) → all_first test (n + 1) ≡ (all_first test n && test (numbered n))
 all_more test n =
     ap (list_all test) (map-range_with_len_more numbered 0 n n (omega arith))
     ∙ list_all-append test (list_map numbered (range_with_len 0 n)) (numbered n ∷ [])
-    ∙ ap (λ b. all_first test n && b) (and_true (test (numbered n)))
+    ∙ ap (λ b. all_first test n && b) (and-true (test (numbered n)))
 
 -- ---- all of them
 
@@ -90,13 +87,6 @@ module _ (table : Table) (s : StateValue) where
   or_parts true b e f g = f refl
   or_parts false b e f g = g e
 
-  or_first : (a b : Bool) → a ≡ true → (a || b) ≡ true
-  or_first a b e = ap (λ x. x || b) e
-
-  or_second : (a b : Bool) → b ≡ true → (a || b) ≡ true
-  or_second true b e = refl
-  or_second false b e = e
-
   abbrev both : Bool
   both = all_up table s (is_mandatory table) && all_up table s (is_optional table)
 
@@ -107,8 +97,8 @@ module _ (table : Table) (s : StateValue) where
 
   to_both : AllUp table s (is_awaited table) → both ≡ true
   to_both up = and_from _ _
-      (to_all_up (is_mandatory table) (λ node lt m. up node lt (or_first (is_mandatory table node) (is_optional table node) m)))
-      (to_all_up (is_optional table) (λ node lt o. up node lt (or_second (is_mandatory table node) (is_optional table node) o)))
+      (to_all_up (is_mandatory table) (λ node lt m. up node lt (or_left (is_mandatory table node) (is_optional table node) m)))
+      (to_all_up (is_optional table) (λ node lt o. up node lt (or_right (is_mandatory table node) (is_optional table node) o)))
 
   -- ---- the start gate
 

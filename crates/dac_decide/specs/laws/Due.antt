@@ -26,13 +26,10 @@ module _ (table : Table) (notes : List Note) (s : StateValue) (app : AppId) (now
   held_by node None e h = absurd (false≢true h)
   held_by node (Some claim) e h = (claim, e, node_of (eqb-true claim.origin.node.0 node.0 h))
 
-  itself : (n : ℕ) → (n == n) ≡ true
-  itself n = eq-eqb n n refl
-
   held_is : (node : NodeId) → (is_held_at s app node ≡ true) ↔ IsHeldAt s app node
   held_is node = (
     held_by node (map.get s.claims app) refl,
-    λ held. ap (λ o. option_map_or (λ (claim : Claim). claim.origin.node.0 == node.0) o false) held.1 ∙ ap (λ (n : NodeId). n.0 == node.0) held.2 ∙ itself node.0,
+    λ held. ap (λ o. option_map_or (λ (claim : Claim). claim.origin.node.0 == node.0) o false) held.1 ∙ ap (λ (n : NodeId). n.0 == node.0) held.2 ∙ eq-eqb node.0 node.0 refl,
   )
 
   -- ---- the wait

@@ -5,7 +5,7 @@ use Rattle.std.specs.Option.{option_map_or}
 use Rattle.std.specs.declared.cmp.Ordering.{Ordering}
 use Rattle.std.specs.declared.cmp.Ordering.TheVariants.{Greater}
 use Rattle.std.specs.Ordering.{eq_by_cmp, nat_cmp, ordering_then, is_eq, is_lt, ord_max}
-use Rattle.std.specs.Cmp.{IsTotalOrder, Equal-is, nat_cmp_is}
+use Rattle.std.specs.Cmp.{IsTotalOrder, Equal-is, both_ways, nat_cmp_is}
 use Rattle.std.proofs.lemmas.Map.Lookups.{CmpEqualImpliesEq}
 use Rattle.std.specs.FinSet as set
 use Rattle.std.specs.FinMap as map
@@ -60,11 +60,6 @@ use Rattle.dac_commands.specs.Commands.{greatest_counter, next_term, claim_act, 
 use Rattle.dac_commands.specs.laws.Counters.{counter-greatest}
 use Rattle.dac_ticks.specs.Ticks.{held_by, claimed_by}
 use Rattle.dac_ticks.specs.laws.Counters.{known_alone}
-
-both_ways : (a b : Bool) → (a ≡ true → b ≡ true) → (b ≡ true → a ≡ true) → a ≡ b
-both_ways true b there back = sym (there refl)
-both_ways false true there back = back refl
-both_ways false false there back = refl
 
 -- the states are equal except for dots and claims, so that the same nodes are eligible
 pub record MayRunAlike (s t : StateValue) : Type 0 where

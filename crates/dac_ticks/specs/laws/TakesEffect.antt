@@ -1,6 +1,6 @@
 -- An accepted command takes effect.
-use Rattle.std.proofs.Common.{◌≡◌, ◌↔◌, ℕ, Bool, true, false, not, [], ◌∷◌, refl, sym, subst}
-use Rattle.std.proofs.lemmas.Bool.{true≢false}
+use Rattle.std.proofs.Common.{◌≡◌, ◌↔◌, ℕ, true, false, [], ◌∷◌, refl, sym, subst}
+use Rattle.std.proofs.lemmas.Bool.{not-false}
 use Rattle.dac_base.specs.declared.NodeId.{NodeId}
 use Rattle.dac_origins.specs.declared.dot.Origin.{Origin}
 use Rattle.dac_config.specs.Table.{Table, default_permission}
@@ -20,10 +20,6 @@ use Rattle.dac_commands.specs.laws.Written.{none_is, all_causes, live_there}
 use Rattle.dac_ticks.specs.TakesEffect.{AtLive, CommandsTakeEffect}
 use Rattle.dac_ticks.specs.laws.Claimed.{lives_stay}
 use Rattle.dac_ticks.specs.laws.Effects.{start_is_wished, stop_is_unwished, permit_holds, drain_holds, down_ends, claim_runs}
-
-holds : (b : Bool) → not b ≡ false → b ≡ true
-holds true e = refl
-holds false e = absurd (true≢false e)
 
 module _ (t : Table) (own : Origin) (s : StateValue) where
   -- the state that the command's operation leaves
@@ -53,5 +49,5 @@ commands_take_effect t own s (Down node) is none = λ later.
     down_ends own s node (live_or_none s node) (live_there t own s node (none_is (all_causes t own s (Down node)) none).1.1.1.0) later
 commands_take_effect t own s (Takeover app) is none =
     let all = none_is (all_causes t own s (Takeover app)) none in
-    let up = (up_is s own).0 (holds (is_up s own) all.0) in
-    claim_runs t own s app TakenOver (runner_of t s app) is up ((eligible_is t s app own.node).0 (holds (is_eligible t s app own.node) all.1.1.1.0))
+    let up = (up_is s own).0 (not-false (is_up s own) all.0) in
+    claim_runs t own s app TakenOver (runner_of t s app) is up ((eligible_is t s app own.node).0 (not-false (is_eligible t s app own.node) all.1.1.1.0))

@@ -1,11 +1,11 @@
-use Rattle.std.proofs.Common.{◌≡◌, ◌<◌, refl, sym, ap, subst, ◌∙◌, arith}
+use Rattle.std.proofs.Common.{◌≡◌, ◌<◌, refl, sym, ap, subst, ◌∙◌, arith, below_more}
 use Rattle.std.specs.Prelude.{is_some}
 use Rattle.std.proofs.lemmas.Bool.{false≢true}
 use Rattle.dac_config.specs.Table.{app_count}
 use Rattle.dac_decide.specs.FailoverWait.{lost_in}
 use Rattle.dac_decide.specs.laws.Kept.{numbered}
 use Rattle.dac_decide.specs.Quiet.{IsQuiet, AreQuiet}
-use Rattle.dac_decide.proofs.Quiet.{none_is, one_below, quiet_stays, standing_lost}
+use Rattle.dac_decide.proofs.Quiet.{none_is, quiet_stays, standing_lost}
 use Rattle.dac_decide.proofs.waits.Waits.are_quiet.Goals as goal
 use Rattle.dac_decide.proofs.waits.Waits.are_quiet.Goals.{then-is_some-via-then-is_some, then-is_some-via-else-is_some+then-is_lost}
 
@@ -30,7 +30,7 @@ loop-number-preserved c = λ s shows.
     let below = c.loop-number-test.true in
     let count = c.apps-number-end.ensures.count in
     let lt : c.loop-number.number < app_count t = omega arith in
-    one_below (λ k. IsQuiet c.args.self.now s (numbered k)) c.loop-number.number (c.loop-number.invariant s shows) (record {
+    below_more (λ k. IsQuiet c.args.self.now s (numbered k)) c.loop-number.number (c.loop-number.invariant s shows) (record {
       noted = sym c.noted_of.ensures ∙ none_is c.noted_of.result (sym c.is_some.ensures ∙ c.if-is_some.false);
       lost = none_is (lost_in s app) (sym (standing_lost t s app) ∙ (sym (c.is_lost.ensures t s shows lt) ∙ c.if-is_lost.false));
     })
