@@ -15,11 +15,13 @@ use Rattle.std.proofs.lemmas.List.Folds.{list_all-append}
 use Rattle.std.proofs.lemmas.Map.Lookups.{CmpEqualImpliesEq}
 use Rattle.dac_origins.specs.Dots.{Dots}
 use Rattle.dac_origins.specs.declared.dot.Dot.{Dot}
+use Rattle.dac_origins.specs.laws.KeyLaws.{greater}
+use Rattle.dac_origins.specs.laws.InOrder.{tie}
 use Rattle.dac_lattice.specs.Entries.{Combine, keep}
 use Rattle.dac_lattice.specs.Search.{IsInOrder, without}
 use Rattle.dac_lattice.specs.laws.Without.{find_without}
 use Rattle.dac_lattice.specs.laws.Entries.{find_merge, sorted_merge}
-use Rattle.dac_lattice.specs.laws.EntryLaws.{each_key, greater, less}
+use Rattle.dac_lattice.specs.laws.EntryLaws.{each_key, less}
 use Rattle.dac_store.specs.Absorbing.{AreOthersUnheard, IsOtherUnheard}
 use Rattle.dac_store.specs.Appending.{is_above_entries}
 use Rattle.dac_store.specs.DotMaps.{IsKept, IsKeyed, has_in, join_keyed, store_at, unless_empty}
@@ -174,11 +176,6 @@ find_one : {K X : Type 0} (R : K → K → Ordering) (k : K) (w : Option X) (q :
 find_one R k None q = either (eq_by_cmp R q k) None
 find_one R k (Some v) q = refl
 
-pub tied : (r : Ordering) → is_eq r ≡ true → r ≡ Equal
-tied Less p = absurd (false≢true p)
-tied Equal p = refl
-tied Greater p = absurd (false≢true p)
-
 module _ {K S : Type 0} {R : K → K → Ordering} (o : IsTotalOrder R) (exact : CmpEqualImpliesEq R) {is_store : S → Type 0} {has : S → Dot → Bool} {below : S → Dots → S → Dots → Type 0} {join : S → Dots → S → Dots → S} {nothing : S} {is_empty : S → Bool} (laws : IsDotStore is_store has below join nothing is_empty) (c d : Dots) where
   abbrev f : Combine K S
   f = joined_at nothing is_empty join c d
@@ -199,7 +196,7 @@ module _ {K S : Type 0} {R : K → K → Ordering} (o : IsTotalOrder R) (exact :
       same_entries R o exact _ _ sorted (sorted_merge o exact f m (keep k w []) keyed.in_order (one_sorted R k w)) (λ q.
       each q
       ∙ elim (eq_by_cmp R q k) as (λ t. eq_by_cmp R q k ≡ t → cond t (unless_empty is_empty j) (find R q m) ≡ f q (find R q m) (cond t w None)) [
-        | true ↦ λ t. subst (λ x. unless_empty is_empty j ≡ unless_empty is_empty (join (store_at nothing (find R x m)) c (store_at nothing w) d)) (sym (exact q k (tied _ t))) (ap (unless_empty is_empty) is)
+        | true ↦ λ t. subst (λ x. unless_empty is_empty j ≡ unless_empty is_empty (join (store_at nothing (find R x m)) c (store_at nothing w) d)) (sym (exact q k (tie _ t))) (ap (unless_empty is_empty) is)
         | false ↦ λ t. stays k q (find R q m) (λ e. false≢true (sym t ∙ ap is_eq e)) (keyed.stores q) (each_key o exact (IsOtherUnheard R has k d) (λ _. tt) m others q)
       ] refl
       ∙ sym (ap (f q (find R q m)) (find_one R k w q))

@@ -1,5 +1,5 @@
 -- A walk through two maps at once: searches in one for the keys of the other, which skip entries below these keys.
-use Rattle.std.proofs.Common.{◌≡◌, ◌∙◌, ℕ, ◌+◌, ◌<◌, ◌≤◌, zero, suc, Bool, true, false, cond, ◌&&◌, T, List, [], ◌∷◌, ◌++◌, None, Some, length, get_or, take, drop, refl, sym, ap, subst, arith, true≢false}
+use Rattle.std.proofs.Common.{◌≡◌, ◌∙◌, ℕ, ◌+◌, ◌<◌, ◌≤◌, zero, suc, true, false, cond, T, List, [], ◌∷◌, ◌++◌, None, Some, length, get_or, take, drop, refl, sym, ap, subst, arith, true≢false}
 use Rattle.std.specs.declared.cmp.Ordering.{Ordering}
 use Rattle.std.specs.declared.cmp.Ordering.TheVariants.{Less, Equal, Greater}
 use Rattle.std.specs.Ordering.{is_eq, is_lt, eq_by_cmp, ordering_reverse}
@@ -12,29 +12,20 @@ use Rattle.std.proofs.lemmas.List.{take_all}
 use Rattle.std.proofs.lemmas.List.Folds.{list_all_more}
 use Rattle.std.proofs.lemmas.Map.Lookups.{CmpEqualImpliesEq}
 use Rattle.dac_origins.specs.Dots.{Dots}
+use Rattle.dac_origins.specs.laws.InOrder.{tie, less}
 use Rattle.dac_lattice.specs.Search.{AtEachEntry, IsInOrder}
-use Rattle.dac_lattice.specs.laws.Entries.{find_below}
+use Rattle.dac_lattice.specs.laws.Entries.{find_below, below_more}
 use Rattle.dac_lattice.specs.laws.EntryLaws.{above_at, first, second}
 use Rattle.dac_store.specs.Appending.{is_above_entries}
 use Rattle.dac_store.specs.DotMaps.{store_at}
 use Rattle.dac_store.specs.Parts.{HasLaterKeys, HasSameFrom, IsBelowAt}
-use Rattle.dac_store.proofs.PartLemmas.{IsLeft, each_splits, rest_last, rest_of, rest_step, sorted_left, sorted_right, walk_here, walk_next, walk_start}
-
-lower_from : (r : Ordering) → is_lt r ≡ true → r ≡ Less
-lower_from Less e = refl
-lower_from Equal e = cc
-lower_from Greater e = cc
-
-tied_from : (r : Ordering) → is_eq r ≡ true → r ≡ Equal
-tied_from Less e = cc
-tied_from Equal e = refl
-tied_from Greater e = cc
+use Rattle.dac_store.proofs.PartLemmas.{IsLeft, each_splits, rest_last, rest_of, rest_step, sorted_left, sorted_right, walk_here, walk_next, walk_start, below_right}
 
 module _ {K : Type 0} {R : K → K → Ordering} (o : IsTotalOrder R) (exact : CmpEqualImpliesEq R) where
   -- an entry below a key isn't at any key from that one on
   apart : (x key k : K) → R x key ≡ Less → is_lt (R k key) ≡ false → eq_by_cmp R k x ≡ false
   apart x key k below not = elim (eq_by_cmp R k x) as (λ t. eq_by_cmp R k x ≡ t → t ≡ false) [
-    | true ↦ λ t. absurd (true≢false (sym (ap is_lt (ap (λ y. R y key) (exact k x (tied_from (R k x) t)) ∙ below)) ∙ not))
+    | true ↦ λ t. absurd (true≢false (sym (ap is_lt (ap (λ y. R y key) (exact k x (tie (R k x) t)) ∙ below)) ∙ not))
     | false ↦ λ t. refl
   ] refl
 
@@ -60,25 +51,12 @@ module _ {K X : Type 0} {R : K → K → Ordering} (o : IsTotalOrder R) (exact :
       ∙ sym (ap (find R key) is)
       ∙ same key (own o exact key)
 
-  below_from : (k x : K) (es : List (K × X)) → R k x ≡ Less → T (below_all R x es) → T (below_all R k es)
-  below_from k x [] p h = tt
-  below_from k x (e ∷ es) p h = both _ _ (subst (λ r. T (is_lt r)) (sym (o.trans k x e.0 p (less _ (first _ _ h)))) tt) (below_from k x es p (second _ _ h))
-    where
-      both : (a b : Bool) → T a → T b → T (a && b)
-      both true b p q = q
-      both false b p q = p
-
-      less : (r : Ordering) → T (is_lt r) → r ≡ Less
-      less Less p = refl
-      less Equal p = absurd p
-      less Greater p = absurd p
-
   -- all remaining entries are above the key
   pub found_none : (key : K) (old now : List (K × X)) (e : K × X) → now ≡ e ∷ drop 1 now → R e.0 key ≡ Greater → IsInOrder R now → HasSameFrom R key old now → None ≡ find R key old
   found_none key old now e is past s same =
       let lower : R key e.0 ≡ Less = o.antisymm key e.0 ∙ ap ordering_reverse past in
       let sorted : T (is_sorted R (e ∷ drop 1 now)) = subst (IsInOrder R) is s in
-      let under = below_from key e.0 (drop 1 now) lower (first (below_all R e.0 (drop 1 now)) (is_sorted R (drop 1 now)) sorted) in
+      let under = below_more o exact key e.0 (drop 1 now) lower (first (below_all R e.0 (drop 1 now)) (is_sorted R (drop 1 now)) sorted) in
       sym (find_below o exact key (drop 1 now) under)
       ∙ sym (ap (λ r. cond (is_eq r) (Some e.1) (find R key (drop 1 now))) lower)
       ∙ sym (ap (find R key) is)
@@ -103,7 +81,7 @@ module _ {K X : Type 0} {R : K → K → Ordering} (o : IsTotalOrder R) (exact :
   later_more part old now next i e p is later same k above =
       let tests = and_parts (is_above_entries R (take i part) k) (is_lt (R (get_or part i e).0 k)) (sym (list_all_more (λ (f : K × X). is_lt (R f.0 k)) part i e p) ∙ above) in
       let lower : is_lt (R e.0 k) ≡ true = subst (λ f. is_lt (R f.0 k) ≡ true) (sym is) tests.1 in
-      same k (ap is_lt (o.antisymm k e.0 ∙ ap ordering_reverse (lower_from (R e.0 k) lower))) ∙ later k tests.0
+      same k (ap is_lt (o.antisymm k e.0 ∙ ap ordering_reverse (less (R e.0 k) lower))) ∙ later k tests.0
 
   -- after one more entry, with none skipped
   pub later_same : (part old now : List (K × X)) (i : ℕ) (e : K × X) → i < length part → e ≡ get_or part i e → HasLaterKeys R (take i part) old now → HasLaterKeys R (take (i + 1) part) old now
@@ -116,11 +94,7 @@ module _ {K X : Type 0} {R : K → K → Ordering} (o : IsTotalOrder R) (exact :
   pub above_next : (xs ys : List (K × X)) → IsInOrder R (xs ++ ys) → (i : ℕ) (d : K × X) → i < length ys → is_above_entries R xs (get_or ys i d).0 ≡ true
   above_next [] ys s i d p = refl
   above_next (x ∷ xs) ys s i d p =
-      and_from _ _ (ap is_lt (above_at o exact x.0 ys i d (below_right x.0 xs ys (first _ _ s)) p)) (above_next xs ys (second _ _ s) i d p)
-    where
-      below_right : (k : K) (xs ys : List (K × X)) → T (below_all R k (xs ++ ys)) → T (below_all R k ys)
-      below_right k [] ys h = h
-      below_right k (x ∷ xs) ys h = below_right k xs ys (second _ _ h)
+      and_from _ _ (ap is_lt (above_at o exact x.0 ys i d (below_right R x.0 xs ys (first _ _ s)) p)) (above_next xs ys (second _ _ s) i d p)
 
 -- ---- the walk through the blocks of the other map
 

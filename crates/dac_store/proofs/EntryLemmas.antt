@@ -1,5 +1,5 @@
 -- An iterator over entries: those of the current block, and the later ones.
-use Rattle.std.proofs.Common.{◌≡◌, ◌<◌, ◌≤◌, true, false, List, [], ◌∷◌, ◌++◌, Option, None, Some, MatchOption, length, drop, refl, sym, ap, ◌∙◌, arith, add-one, append_assoc, append-nil, nat_eq, true≢false, true}
+use Rattle.std.proofs.Common.{◌≡◌, ◌<◌, ◌≤◌, true, false, List, [], ◌∷◌, ◌++◌, Option, None, Some, MatchOption, length, drop, refl, sym, ap, ◌∙◌, arith, add-one, append_assoc, nat_eq, true≢false, true, append-nil}
 use Rattle.std.proofs.lemmas.Bool.{eqb-true}
 use Rattle.std.specs.Borrow.{Bor}
 use Rattle.std.specs.Option.{option_copied}

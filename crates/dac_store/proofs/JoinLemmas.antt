@@ -9,23 +9,14 @@ use Rattle.std.proofs.lemmas.List.{drop_all, drop_more, take_all, take_more}
 use Rattle.std.proofs.lemmas.Bool.{and_parts, or_left, or_right}
 use Rattle.dac_origins.specs.Dots.{Dots}
 use Rattle.dac_origins.specs.declared.dot.Dot.{Dot}
+use Rattle.dac_origins.specs.laws.KeyLaws.{greater}
+use Rattle.dac_origins.specs.laws.InOrder.{tie}
 use Rattle.dac_lattice.specs.Entries.{Combine, keep, merge_right, merge_entry, merge_entries}
-use Rattle.dac_lattice.specs.laws.EntryLaws.{greater, less}
+use Rattle.dac_lattice.specs.laws.EntryLaws.{less}
 use Rattle.dac_store.specs.DotMaps.{has_in}
 use Rattle.dac_store.specs.Appending.{is_above_entries}
 use Rattle.dac_store.specs.Joining.{AreBefore, AreKept, ArePassed, IsMergedBelow, IsMergedPart, IsMergedWith, IsNotAt, IsNotBelow, IsTakenAt, joined_at}
 use Rattle.dac_store.specs.Stores.{IsDotStore, IsUnheard}
-
--- a key that is less
-pub lower_key : (r : Ordering) → is_lt r ≡ true → r ≡ Less
-lower_key Less e = refl
-lower_key Equal e = cc
-lower_key Greater e = cc
-
--- a negated test is false
-pub not_true : (b : Bool) → not b ≡ true → b ≡ false
-not_true true e = cc
-not_true false e = refl
 
 module _ {K X : Type 0} where
   -- the merged entry, before others
@@ -149,12 +140,7 @@ module _ {K X : Type 0} where
   taken_not R key ys e is not = (refl, subst (IsNotAt R key) (sym is) (λ at. true≢false (sym (ap is_eq at) ∙ not)))
 
   pub taken_one : (R : K → K → Ordering) (key : K) (ys zs : List (K × X)) (e : K × X) → ys ≡ e ∷ drop 1 ys → is_eq (R e.0 key) ≡ true → zs ≡ drop 1 ys → IsTakenAt R key ys (Some e.1) zs
-  taken_one R key ys zs e is at passed = (e.0, tied (R e.0 key) at, is ∙ ap (λ l. e ∷ l) (sym passed))
-    where
-      tied : (r : Ordering) → is_eq r ≡ true → r ≡ Equal
-      tied Less p = cc
-      tied Equal p = refl
-      tied Greater p = cc
+  taken_one R key ys zs e is at passed = (e.0, tie (R e.0 key) at, is ∙ ap (λ l. e ∷ l) (sym passed))
 
   -- one entry fewer remains
   pub one_fewer : (ys zs : List (K × X)) (e : K × X) → ys ≡ e ∷ drop 1 ys → zs ≡ drop 1 ys → length zs < length ys

@@ -15,16 +15,18 @@ use Rattle.std.proofs.lemmas.List.{drop_all, drop_more, get_or_append_left, take
 use Rattle.std.proofs.lemmas.List.Elements.{All-append, All-push, All-tail}
 use Rattle.std.proofs.lemmas.List.Folds.{list_any-append, list_all-append}
 use Rattle.std.proofs.lemmas.Map.Lookups.{CmpEqualImpliesEq}
+use Rattle.std.proofs.Math.Facts.{yes_and}
 use Rattle.dac_origins.specs.Dots.{Dots}
 use Rattle.dac_origins.specs.declared.dot.Dot.{Dot}
+use Rattle.dac_origins.specs.laws.KeyLaws.{greater}
 use Rattle.dac_lattice.specs.Search.{AtEachEntry, IsInOrder}
-use Rattle.dac_lattice.specs.laws.Entries.{find_below}
-use Rattle.dac_lattice.specs.laws.EntryLaws.{first, second, less, greater, each_entry}
+use Rattle.dac_lattice.specs.laws.Entries.{find_below, below_more}
+use Rattle.dac_lattice.specs.laws.EntryLaws.{first, second, less, each_entry}
 use Rattle.dac_store.specs.Appending.{is_above_entries}
 use Rattle.dac_store.specs.laws.Appending.{above_before, above_last_entry}
 use Rattle.dac_dots.specs.DotFilters.{AreApart, MayHaveAll, may_have}
 use Rattle.dac_store.specs.DotMaps.{IsKept, IsKeyed, has_in, store_at}
-use Rattle.dac_store.specs.Parts.{HaveEntries, IsBelowAt, IsPartAt, MayHoldAll}
+use Rattle.dac_store.specs.Parts.{HaveEntries, IsBelowAt, IsPartAt, IsPlaceOf, MayHoldAll}
 use Rattle.dac_store.specs.Joining.{AreKept}
 use Rattle.dac_store.specs.Stores.{IsDotStore, IsHeld, IsUnheard}
 use Rattle.dac_store.proofs.Passing.{has_at}
@@ -203,18 +205,22 @@ each_splits P = record { both = All-append P; left = each_left P; right = each_r
 
 -- ---- keys in order
 
-both : (a b : Bool) → T a → T b → T (a && b)
-both true b p q = q
-both false b p q = p
-
 module _ {K X : Type 0} (R : K → K → Ordering) where
   below_left : (k : K) (xs ys : List (K × X)) → T (below_all R k (xs ++ ys)) → T (below_all R k xs)
   below_left k [] ys h = tt
-  below_left k (x ∷ xs) ys h = both _ _ (first _ _ h) (below_left k xs ys (second _ _ h))
+  below_left k (x ∷ xs) ys h = yes_and _ _ (first _ _ h) (below_left k xs ys (second _ _ h))
+
+  pub below_right : (k : K) (xs ys : List (K × X)) → T (below_all R k (xs ++ ys)) → T (below_all R k ys)
+  below_right k [] ys h = h
+  below_right k (x ∷ xs) ys h = below_right k xs ys (second _ _ h)
 
   pub sorted_left : (xs ys : List (K × X)) → IsInOrder R (xs ++ ys) → IsInOrder R xs
   sorted_left [] ys h = tt
-  sorted_left (x ∷ xs) ys h = both _ _ (below_left x.0 xs ys (first _ _ h)) (sorted_left xs ys (second _ _ h))
+  sorted_left (x ∷ xs) ys h = yes_and _ _ (below_left x.0 xs ys (first _ _ h)) (sorted_left xs ys (second _ _ h))
+
+  -- the blocks' entries are in order
+  pub blocks_sorted : {B : Type 0} (value : B → List (K × X)) (blocks : List B) (last whole : List (K × X)) → flat_map value blocks ++ last ≡ whole → IsInOrder R whole → IsInOrder R (flat_map value blocks)
+  blocks_sorted value blocks last whole split s = sorted_left (flat_map value blocks) last (subst (IsInOrder R) (sym split) s)
 
   pub sorted_right : (xs ys : List (K × X)) → IsInOrder R (xs ++ ys) → IsInOrder R ys
   sorted_right [] ys h = h
@@ -236,10 +242,6 @@ module _ {K X : Type 0} {R : K → K → Ordering} (o : IsTotalOrder R) (exact :
       ap (λ t. cond t (Some x.1) (find R k (xs ++ ys))) (lower o x.0 k (and_parts _ _ h).0)
       ∙ find_past k xs ys (and_parts _ _ h).1
 
-  pub below_from : (k x : K) (es : List (K × X)) → R k x ≡ Less → T (below_all R x es) → T (below_all R k es)
-  below_from k x [] p h = tt
-  below_from k x (e ∷ es) p h = both _ _ (subst (λ r. T (is_lt r)) (sym (o.trans k x e.0 p (less _ (first _ _ h)))) tt) (below_from k x es p (second _ _ h))
-
   -- in a part with a key that isn't below the key
   find_here : (k : K) (xs ys : List (K × X)) → IsInOrder R (xs ++ ys) → is_above_entries R xs k ≡ false → find R k (xs ++ ys) ≡ find R k xs
   find_here k [] ys s h = absurd (false≢true (sym h))
@@ -247,7 +249,7 @@ module _ {K X : Type 0} {R : K → K → Ordering} (o : IsTotalOrder R) (exact :
     | Less ↦ λ e. ap (λ f. cond (eq_by_cmp R k x.0) (Some x.1) f) (find_here k xs ys (second _ _ s) (sym (ap (λ r. is_lt r && is_above_entries R xs k) e) ∙ h))
     | Equal ↦ λ e. ap (λ t. cond t (Some x.1) (find R k (xs ++ ys))) (tied e) ∙ sym (ap (λ t. cond t (Some x.1) (find R k xs)) (tied e))
     | Greater ↦ λ e.
-        let under : T (below_all R k (xs ++ ys)) = below_from k x.0 (xs ++ ys) (o.antisymm k x.0 ∙ ap ordering_reverse e) (first _ _ s) in
+        let under : T (below_all R k (xs ++ ys)) = below_more o exact k x.0 (xs ++ ys) (o.antisymm k x.0 ∙ ap ordering_reverse e) (first _ _ s) in
         ap (λ f. cond (eq_by_cmp R k x.0) (Some x.1) f) (find_below o exact k (xs ++ ys) under ∙ sym (find_below o exact k xs (below_left R k xs ys under)))
   ] refl
     where
@@ -339,28 +341,24 @@ module _ {K X : Type 0} {R : K → K → Ordering} (o : IsTotalOrder R) (exact :
         (part_past value k (b ∷ blocks) last 0 b whole (omega arith) refl part (below 0 b (omega arith) (omega arith)))
         (λ j d q r. below (suc j) d (omega arith) (omega arith)) (omega arith)
 
-    module _ (blocks : List B) (last whole : List (K × X)) (s : IsInOrder R whole) (split : flat_map value blocks ++ last ≡ whole) (full : HaveEntries value blocks) (place : ℕ) (bound : place ≤ length blocks) (found : IsPartitionedBy last_below blocks → IsPartitionPoint (λ b. last_below b ≡ true) (λ b. last_below b ≡ false) blocks place) where
-      in_blocks : IsInOrder R (flat_map value blocks)
-      in_blocks = sorted_left R (flat_map value blocks) last (subst (IsInOrder R) (sym split) s)
+    -- what a search by the blocks' last keys finds
+    pub place_found : (blocks : List B) (place : ℕ) → IsInOrder R (flat_map value blocks) → HaveEntries value blocks → place ≤ length blocks → (IsPartitionedBy last_below blocks → IsPartitionPoint (λ b. last_below b ≡ true) (λ b. last_below b ≡ false) blocks place)
+        → IsPlaceOf R value k blocks place
+    place_found blocks place s full bound found =
+        let point = found (parted_by_last blocks s full) in
+        record {
+          within = bound;
+          below = λ j d q p. sym (last_decides blocks j d s (omega arith)) ∙ point.0 j d q p;
+          not_below = λ b p is. ap is_below is ∙ sym (last_decides blocks place b s p) ∙ point.1 place b (omega arith) p;
+        }
 
-      point : IsPartitionPoint (λ b. last_below b ≡ true) (λ b. last_below b ≡ false) blocks place
-      point = found (parted_by_last blocks in_blocks full)
-
-      -- the blocks before the place are below the key
-      pub below_place : AllWithin (λ b. is_above_entries R (value b) k ≡ true) blocks 0 place
-      below_place j d q p = sym (last_decides blocks j d in_blocks (omega arith)) ∙ point.0 j d q p
-
-      -- the block at the place isn't
-      pub not_below : (b : B) → place < length blocks → b ≡ get_or blocks place b → is_above_entries R (value b) k ≡ false
-      not_below b p is = ap is_below is ∙ sym (last_decides blocks place b in_blocks p) ∙ point.1 place b (omega arith) p
-
+    module _ (blocks : List B) (last whole : List (K × X)) (place : ℕ) (s : IsInOrder R whole) (split : flat_map value blocks ++ last ≡ whole) (found : IsPlaceOf R value k blocks place) where
       past : IsPartAt R k whole (rest_of value blocks last place)
-      past = parts_past blocks last whole place (part_whole k whole (flat_map value blocks ++ last) s (sym split)) below_place bound
+      past = parts_past blocks last whole place (part_whole k whole (flat_map value blocks ++ last) s (sym split)) found.below found.within
 
       -- the first block that isn't below the key
       pub part_found_at : (b : B) → place < length blocks → b ≡ get_or blocks place b → IsPartAt R k whole (value b)
-      part_found_at b p is =
-          part_here value k blocks last place b whole p is past (not_below b p is)
+      part_found_at b p is = part_here value k blocks last place b whole p is past (found.not_below b p is)
 
       -- no block remains, because all are below the key
       pub part_at_last : length blocks ≤ place → IsPartAt R k whole last
@@ -389,11 +387,6 @@ module _ {K S : Type 0} (is_store : S → Type 0) (is_empty : S → Bool) where
 not_there : (c may : Bool) → (c ≡ true → may ≡ true) → may ≡ false → c ≡ false
 not_there true may f e = absurd (false≢true (sym e ∙ f refl))
 not_there false may f e = refl
-
--- a negated test is false
-pub not_true : (b : Bool) → not b ≡ true → b ≡ false
-not_true true e = absurd (false≢true e)
-not_true false e = refl
 
 module _ {K S : Type 0} (has : S → Dot → Bool) where
   -- if no slot is set in both filters, the context has none of the dots

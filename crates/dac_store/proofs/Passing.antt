@@ -1,6 +1,6 @@
 -- Sets that gain the dots of a list that pass a test, sets that lose the dots that another lacks, and the dots of
 -- stores in a list.
-use Rattle.std.proofs.Common.{◌≡◌, ℕ, ◌+◌, ◌<◌, ◌≤◌, zero, suc, Bool, true, false, not, ◌&&◌, ◌||◌, inl, inr, List, [], ◌∷◌, ◌++◌, Result, Ok, Err, OnErr, length, get_or, take, refl, sym, ap, subst, ◌∙◌, arith}
+use Rattle.std.proofs.Common.{◌≡◌, ℕ, ◌+◌, ◌<◌, ◌≤◌, zero, suc, Bool, true, false, not, ◌&&◌, ◌||◌, inl, inr, List, [], ◌∷◌, ◌++◌, length, get_or, take, sym, ap, subst, ◌∙◌, arith, refl}
 use Rattle.std.specs.Ordering.{eq_by_cmp}
 use Rattle.std.specs.List.{All}
 use Rattle.std.specs.Cmp.{Equal-is}
@@ -8,6 +8,7 @@ use Rattle.std.specs.FinSet as set
 use Rattle.std.proofs.lemmas.Bool.{false≢true, or_cases, or_left, or_right}
 use Rattle.std.proofs.lemmas.List.{take_all, take_more}
 use Rattle.std.proofs.lemmas.List.Folds.{list_any_more}
+use Rattle.std.proofs.Math.Bool.{and-false}
 use Rattle.dac_origins.specs.Keys.{has_key}
 use Rattle.dac_origins.specs.laws.KeyLaws.{has_is}
 use Rattle.dac_origins.specs.Dots.{Dots, dot_cmp}
@@ -71,14 +72,10 @@ one_removed ks ls k h = set.same_set dots_total exact_dots _ _ (λ q.
 abbrev pub LosesMissing : Dots → List Dot → Dots → Dots → Type 0
 LosesMissing t ks had now = (q : Dot) → set.contains now q ≡ (set.contains had q && (set.contains t q || not (has_key dot_cmp ks q)))
 
-and_none : (h : Bool) → (h && false) ≡ false
-and_none true = refl
-and_none false = refl
-
 -- h: was there before; t: in the other set; r: among those so far; e: is the dot
 lost_test : (e h r t : Bool) → (e ≡ true → t ≡ false) → (not e && (h && (t || not r))) ≡ (h && (t || not (r || e)))
-lost_test true h true t f = sym (ap (λ x. h && (x || false)) (f refl) ∙ and_none h)
-lost_test true h false t f = sym (ap (λ x. h && (x || false)) (f refl) ∙ and_none h)
+lost_test true h true t f = sym (ap (λ x. h && (x || false)) (f refl) ∙ and-false h)
+lost_test true h false t f = sym (ap (λ x. h && (x || false)) (f refl) ∙ and-false h)
 lost_test false h true t f = refl
 lost_test false h false t f = refl
 
@@ -110,10 +107,6 @@ module _ (t : Dots) (ks : List Dot) (had now : Dots) where
   loses_all c is i h so_far q = so_far q ∙ ap (λ l. set.contains had q && (set.contains t q || not (has_key dot_cmp l q))) (take_all i ks h) ∙ ap (λ b. set.contains had q && (set.contains t q || not b)) (has_is dots_total ks c is q)
 
 -- ---- calls that fail
-
-pub fails_so : {T E P : Type 0} (r : Result T E) → P → OnErr r P
-fails_so (Ok x) p = tt
-fails_so (Err e) p = p
 
 -- ---- stores in a list
 

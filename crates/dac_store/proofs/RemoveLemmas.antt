@@ -14,11 +14,12 @@ use Rattle.std.proofs.lemmas.Map.Lookups.{CmpEqualImpliesEq}
 use Rattle.dac_lattice.specs.Search.{IsInOrder, without}
 use Rattle.dac_lattice.specs.laws.EntryLaws.{first, second}
 use Rattle.dac_lattice.specs.laws.Without.{above_stay, find_without, kept}
+use Rattle.dac_lattice.specs.laws.Entries.{below_more}
 use Rattle.dac_store.specs.Appending.{is_above_entries}
 use Rattle.dac_store.specs.DotMaps.{IsKept, IsKeyed}
 use Rattle.dac_store.specs.Parts.{HaveEntries, IsCounted}
 use Rattle.dac_store.proofs.AbsorbLemmas.{all_below, put_none}
-use Rattle.dac_store.proofs.PartLemmas.{below_from, lower, sorted_right}
+use Rattle.dac_store.proofs.PartLemmas.{lower, sorted_right, below_right}
 
 module _ {K X : Type 0} {R : K → K → Ordering} (o : IsTotalOrder R) where
   -- the number of entries then
@@ -61,17 +62,13 @@ module _ {K X : Type 0} {R : K → K → Ordering} (o : IsTotalOrder R) where
       ∙ sym (kept R x (xs ++ ys) k (lower o x.0 k (and_parts _ _ h).0))
 
   module _ (exact : CmpEqualImpliesEq R) where
-    below_right : (k : K) (xs ys : List (K × X)) → T (below_all R k (xs ++ ys)) → T (below_all R k ys)
-    below_right k [] ys h = h
-    below_right k (x ∷ xs) ys h = below_right k xs ys (second _ _ h)
-
     -- entries after some that aren't all below the key are above it
     above_rest : (xs ys : List (K × X)) (k : K) → IsInOrder R (xs ++ ys) → is_above_entries R xs k ≡ false → T (below_all R k ys)
     above_rest [] ys k s h = absurd (false≢true (sym h))
     above_rest (x ∷ xs) ys k s h = elim (R x.0 k) as (λ r. R x.0 k ≡ r → T (below_all R k ys)) [
       | Less ↦ λ e. above_rest xs ys k (second _ _ s) (sym (ap (λ r. is_lt r && is_above_entries R xs k) e) ∙ h)
-      | Equal ↦ λ e. subst (λ q. T (below_all R q ys)) (exact x.0 k e) (below_right x.0 xs ys (first _ _ s))
-      | Greater ↦ λ e. below_from o exact k x.0 ys (o.antisymm k x.0 ∙ ap ordering_reverse e) (below_right x.0 xs ys (first _ _ s))
+      | Equal ↦ λ e. subst (λ q. T (below_all R q ys)) (exact x.0 k e) (below_right R x.0 xs ys (first _ _ s))
+      | Greater ↦ λ e. below_more o exact k x.0 ys (o.antisymm k x.0 ∙ ap ordering_reverse e) (below_right R x.0 xs ys (first _ _ s))
     ] refl
 
     -- from entries that aren't all below the key

@@ -1,7 +1,7 @@
 -- Entries stored in blocks.
-use Rattle.std.specs.Prelude.{◌≡◌, ℕ, ◌<◌, Bool, true, false, List, [], Option, None, Some, length}
+use Rattle.std.specs.Prelude.{◌≡◌, ℕ, ◌<◌, ◌≤◌, Bool, true, false, List, [], Option, None, Some, length, get_or}
 use Rattle.std.specs.Arc.{arc_value}
-use Rattle.std.specs.List.{All}
+use Rattle.std.specs.List.{All, AllWithin}
 use Rattle.std.specs.declared.sync.Arc.{Arc}
 use Rattle.std.specs.declared.cmp.Ordering.{Ordering}
 use Rattle.std.specs.Ordering.{is_lt}
@@ -26,6 +26,13 @@ pub record IsPartAt {K X : Type 0} (R : K → K → Ordering) (key : K) (whole p
   pub in_order : IsInOrder R part
   pub found : find R key part ≡ find R key whole
   pub above : is_above_entries R part key ≡ is_above_entries R whole key
+
+-- the index of the first block that isn't below the key, or the number of blocks
+pub record IsPlaceOf {K X B : Type 0} (R : K → K → Ordering) (value : B → List (K × X)) (key : K) (blocks : List B)
+    (place : ℕ) : Type 0 where
+  pub within : place ≤ length blocks
+  pub below : AllWithin (λ b. is_above_entries R (value b) key ≡ true) blocks 0 place
+  pub not_below : (b : B) → place < length blocks → b ≡ get_or blocks place b → is_above_entries R (value b) key ≡ false
 
 -- the entries of a map of stores, and their number
 pub record IsCounted {K S : Type 0} (R : K → K → Ordering) (is_store : S → Type 0) (is_empty : S → Bool) (m : List (K × S))

@@ -5,14 +5,13 @@ ghost use Rattle.std.specs.FinMap.{find};
 ghost use Rattle.dac_origins.specs.Dots.{Dots};
 ghost use Rattle.dac_lattice.specs.Search.{AtEachEntry, IsInOrder};
 ghost use Rattle.dac_store.specs.DotMaps.{store_at};
-ghost use Rattle.dac_store.specs.Parts.{HasLaterKeys, HasSameFrom, IsBelowAt};
+ghost use Rattle.dac_store.specs.Parts.{HasLaterKeys, IsBelowAt};
 
 use crate::DotStore;
 use crate::block::Block;
 use crate::entries::Entries;
 use dac_dots::{Context, FilteredContext};
 use dac_origins::MapKey;
-use std::cmp::Ordering;
 
 /// Whether both stores are known to be equal, which means that one is below the other with any contexts.
 fn are_known_equal<S: DotStore>(mine: Option<&S>, theirs: &S) -> bool
@@ -49,23 +48,6 @@ fn is_below<S: DotStore>(
     }
 }
 
-/// The store at a key, if any. Skips the entries below the key.
-fn store_from<'a, K: MapKey, S: DotStore>(left: &mut Entries<'a, K, S>, key: K) -> Option<&'a S>
-    requires { IsInOrder K.cmp left.old }
-    ensures found { option_copied result ≡ find K.cmp key left.old }
-    ensures in_order { IsInOrder K.cmp left.new }
-    ensures same { HasSameFrom K.cmp key left.old left.new }
-{
-    while let Some((other, store)) = left.first() {
-        match other.cmp(&key) {
-            Ordering::Less => left.pass(),
-            Ordering::Equal => return Some(store),
-            Ordering::Greater => return None,
-        }
-    }
-    None
-}
-
 /// Whether, at each key of `part`, the store here is below the one in `part`. Skips the entries below these keys; after
 /// false it can have skipped more.
 pub(crate) fn are_below<K: MapKey, S: DotStore>(
@@ -87,7 +69,7 @@ pub(crate) fn are_below<K: MapKey, S: DotStore>(
         if differed && theirs.is_unheard(heard) {
             continue;
         }
-        let mine = store_from(left, *key);
+        let mine = left.seek(*key);
         let same = are_known_equal(mine, theirs);
         differed = !same;
         if same {

@@ -2,11 +2,16 @@
 ghost use Rattle.std.specs.Prelude.{◌≡◌, [], ◌∷◌, ◌++◌, drop, MatchOption};
 ghost use Rattle.std.specs.Arc.{arc_value};
 ghost use Rattle.std.specs.List.{flat_map};
+ghost use Rattle.std.specs.Option.{option_copied};
+ghost use Rattle.std.specs.FinMap.{find};
+ghost use Rattle.dac_lattice.specs.Search.{IsInOrder};
+ghost use Rattle.dac_store.specs.Parts.{HasSameFrom};
 
 use crate::DotStore;
 use crate::block::Block;
 use dac_origins::MapKey;
 use std::alloc::Global;
+use std::cmp::Ordering;
 use std::marker::Model;
 use std::sync::Arc;
 
@@ -97,5 +102,23 @@ impl<'a, K: MapKey, S: DotStore> Entries<'a, K, S> {
         let first = self.first();
         self.pass();
         first
+    }
+
+    /// The store at a key, if any. Skips the entries below the key, so that searches for ascending keys look at each
+    /// entry once.
+    pub fn seek(&mut self, key: K) -> Option<&'a S>
+        requires { IsInOrder K.cmp self.old }
+        ensures found { option_copied result ≡ find K.cmp key self.old }
+        ensures in_order { IsInOrder K.cmp self.new }
+        ensures same { HasSameFrom K.cmp key self.old self.new }
+    {
+        while let Some((other, store)) = self.first() {
+            match other.cmp(&key) {
+                Ordering::Less => self.pass(),
+                Ordering::Equal => return Some(store),
+                Ordering::Greater => return None,
+            }
+        }
+        None
     }
 }

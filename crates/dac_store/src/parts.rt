@@ -7,7 +7,7 @@ ghost use Rattle.std.specs.FinMap.{find, put};
 ghost use Rattle.dac_lattice.specs.Search.{IsInOrder, without};
 ghost use Rattle.dac_store.specs.Appending.{is_above_entries};
 ghost use Rattle.dac_store.specs.Absorbing.{AreOthersUnheard};
-ghost use Rattle.dac_store.specs.Parts.{HaveEntries, IsPartAt};
+ghost use Rattle.dac_store.specs.Parts.{HaveEntries, IsPartAt, IsPlaceOf};
 
 use crate::DotStore;
 use crate::appending::{ends_below, last_is_below};
@@ -108,9 +108,7 @@ impl<K: MapKey, S: DotStore> Parts<K, S> {
         requires { IsInOrder K.cmp self.now }
         ensures { IsPartAt K.cmp key self.now result.now }
     {
-        let place = self
-            .blocks
-            .partition_point(|block| last_is_below(block.entries(), key));
+        let place = place_in(&self.blocks, key);
         match self.blocks.get(place) {
             Some(block) => block.entries(),
             None => self.last.as_slice(),
@@ -201,9 +199,7 @@ impl<K: MapKey, S: DotStore> Parts<K, S> {
             (λ done. self.new ≡ (if done then put K.cmp key store self.old else self.old)) }
         ensures err { OnErr result (self.new ≡ self.old) }
     {
-        let place = self
-            .blocks
-            .partition_point(|block| last_is_below(block.entries(), key));
+        let place = place_in(&self.blocks, key);
         if place < self.blocks.len() {
             return put_in_block(&mut self.blocks[place], key, store);
         }
@@ -216,9 +212,7 @@ impl<K: MapKey, S: DotStore> Parts<K, S> {
         requires { IsInOrder K.cmp self.old }
         ensures { self.new ≡ (if result then without K.cmp key self.old else self.old) }
     {
-        let place = self
-            .blocks
-            .partition_point(|block| last_is_below(block.entries(), key));
+        let place = place_in(&self.blocks, key);
         if place >= self.blocks.len() {
             remove_entry(&mut self.last, key);
             return true;
@@ -268,6 +262,16 @@ impl<K: MapKey, S: DotStore> Parts<K, S> {
         self.blocks.push(Arc::try_clone(block)?)?;
         Ok(())
     }
+}
+
+/// The index of the first block that isn't below a key, or the number of blocks. A block is below the key if all its
+/// keys are.
+fn place_in<K: MapKey, S: DotStore>(blocks: &[Arc<Block<K, S>, Global>], key: K) -> usize
+    requires in_order { IsInOrder K.cmp (flat_map arc_value blocks.now) }
+    requires filled { HaveEntries arc_value blocks.now }
+    ensures { IsPlaceOf K.cmp arc_value key blocks.now result }
+{
+    blocks.partition_point(|block| last_is_below(block.entries(), key))
 }
 
 /// Puts a store at a key of a block, in place. Returns false, and changes nothing, if the block is full or shared.

@@ -1,6 +1,6 @@
 -- Laws of the definitions in `Appending`.
 use Rattle.std.specs.Prelude.{◌≡◌, ℕ, ◌+◌, ◌-◌, ◌<◌, ◌≤◌, Bool, true, false, cond, ◌&&◌, T, List, [], ◌∷◌, ◌++◌, length, Option, None, Some, unwrap_or, refl}
-use Rattle.std.proofs.Common.{sym, ap, subst, ◌∙◌, arith, zero, suc, take, drop, length-drop, take-append-drop}
+use Rattle.std.proofs.Common.{sym, ap, subst, ◌∙◌, arith, zero, suc, drop, take, length-drop, take-append-drop}
 use Rattle.std.specs.declared.cmp.Ordering.{Ordering}
 use Rattle.std.specs.Ordering.{is_lt, eq_by_cmp}
 use Rattle.std.specs.Cmp.{IsTotalOrder}
@@ -10,6 +10,7 @@ use Rattle.std.specs.FinMap.Entries.{below_all}
 use Rattle.std.proofs.Math.Bool.{and-true}
 use Rattle.std.proofs.lemmas.Bool.{and_parts, and_from}
 use Rattle.std.proofs.lemmas.List.Folds.{list_all-append}
+use Rattle.std.proofs.Math.Facts.{yes_and}
 use Rattle.dac_origins.specs.Keys.{is_below_all, IsRising}
 use Rattle.dac_origins.specs.laws.InOrder.{less}
 use Rattle.dac_lattice.specs.laws.EntryLaws.{first, second, less as below}
@@ -34,10 +35,6 @@ some_at (x ∷ xs) (suc i) p e = some_at xs i (omega arith) e
 pub all_without_last : {X : Type 0} (p : X → Bool) (xs : List X) → None ≡ slice_get xs (length xs - 1) → true ≡ list_all p xs
 all_without_last p [] e = refl
 all_without_last p (x ∷ xs) e = absurd (some_at (x ∷ xs) (length (x ∷ xs) - 1) (omega arith) e)
-
-both : (a b : Bool) → T a → T b → T (a && b)
-both true b p q = q
-both false b p q = p
 
 module _ {K : Type 0} {R : K → K → Ordering} (o : IsTotalOrder R) where
   below_at : (x : K) (ks : List K) (i : ℕ) (y : K) → is_below_all R x ks ≡ true → slice_get ks i ≡ Some y → is_lt (R x y) ≡ true
@@ -91,13 +88,13 @@ module _ {K X : Type 0} {R : K → K → Ordering} (o : IsTotalOrder R) where
       ∙ ap (λ l. is_above_entries R l k) split
 
   sorted_below : (x : K) (es : List (K × X)) (e : K × X) → T (below_all R x es) → is_lt (R x e.0) ≡ true → T (below_all R x (es ++ e ∷ []))
-  sorted_below x [] e h t = both _ _ (subst T (sym t) tt) tt
-  sorted_below x (y ∷ es) e h t = both _ _ (first _ _ h) (sorted_below x es e (second _ _ h) t)
+  sorted_below x [] e h t = yes_and _ _ (subst T (sym t) tt) tt
+  sorted_below x (y ∷ es) e h t = yes_and _ _ (first _ _ h) (sorted_below x es e (second _ _ h) t)
 
   -- appending an entry above all others leaves the entries in order
   pub sorted_appended : (es : List (K × X)) (e : K × X) → T (is_sorted R es) → is_above_entries R es e.0 ≡ true → T (is_sorted R (es ++ e ∷ []))
   sorted_appended [] e h a = tt
-  sorted_appended (x ∷ es) e h a = both _ _ (sorted_below x.0 es e (first _ _ h) (and_parts _ _ a).0) (sorted_appended es e (second _ _ h) (and_parts _ _ a).1)
+  sorted_appended (x ∷ es) e h a = yes_and _ _ (sorted_below x.0 es e (first _ _ h) (and_parts _ _ a).0) (sorted_appended es e (second _ _ h) (and_parts _ _ a).1)
 
   -- a property of the value at a key, and of a new value, holds after the new value is appended
   pub find_appended : (P : Option X → Type 0) (es : List (K × X)) (e : K × X) (q : K) → P (find R q es) → P (Some e.1) → P (find R q (es ++ e ∷ []))

@@ -1,6 +1,6 @@
 -- Laws of the definitions in `AtDot`.
 use Rattle.std.specs.Prelude.{◌≡◌, Bool, true, false, ◌||◌, Option, None, Some, is_some, refl}
-use Rattle.std.proofs.Common.{sym, ap, ◌∙◌}
+use Rattle.std.proofs.Common.{sym, ◌∙◌, ap}
 use Rattle.std.proofs.lemmas.Bool.{false≢true}
 use Rattle.dac_lattice.specs.Lattices.{IsLattice, IsOptionOf}
 use Rattle.dac_lattice.specs.laws.Joins.{join_idem}

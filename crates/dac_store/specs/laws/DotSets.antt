@@ -3,6 +3,7 @@ use Rattle.std.specs.Prelude.{◌≡◌, Bool, true, false, not, ◌&&◌, ◌||
 use Rattle.std.proofs.Common.{sym, ap, ◌∙◌}
 use Rattle.std.proofs.lemmas.Bool.{false≢true, eqb-true, and_parts}
 use Rattle.std.specs.FinSet as set
+use Rattle.std.proofs.Math.Bool.{or_comm}
 use Rattle.dac_origins.specs.Dots.{Dots, dot_cmp}
 use Rattle.dac_origins.specs.laws.Dots.{dots_total, exact_dots}
 use Rattle.dac_origins.specs.declared.dot.Dot.{Dot}
@@ -21,13 +22,7 @@ contains_join s c t d x =
 -- the join is commutative
 pub join_turned : (s c t d : Dots) → join_sets s c t d ≡ join_sets t d s c
 join_turned s c t d = set.same_set dots_total exact_dots _ _ (λ x.
-    contains_join s c t d x ∙ or_turned (set.contains s x && may_stay t d x) (set.contains t x && may_stay s c x) ∙ sym (contains_join t d s c x))
-  where
-    or_turned : (a b : Bool) → (a || b) ≡ (b || a)
-    or_turned true true = refl
-    or_turned true false = refl
-    or_turned false true = refl
-    or_turned false false = refl
+    contains_join s c t d x ∙ or_comm (set.contains s x && may_stay t d x) (set.contains t x && may_stay s c x) ∙ sym (contains_join t d s c x))
 
 -- ---- tests of one dot: s, t: the side's set has it; c, d: the side's context has it
 

@@ -11,8 +11,8 @@ use Rattle.dac_store.proofs.below.are_below.Goals as goal
 pub loop-key-init : goal.loop-key-init
 loop-key-init g c = record { below = λ i d p. absurd (omega arith); in_order = c.requires.left; later = λ k e. refl }
 
-pub store_from-mine-requires : goal.store_from-mine-requires
-store_from-mine-requires g c = c.loop-key.invariant.in_order
+pub seek-mine-requires : goal.seek-mine-requires
+seek-mine-requires g c = c.loop-key.invariant.in_order
 
 pub loop-key-preserved-then-is_unheard : goal.loop-key-preserved-then-is_unheard
 loop-key-preserved-then-is_unheard g c =
@@ -29,24 +29,24 @@ pub loop-key-preserved-then-same : goal.loop-key-preserved-then-same
 loop-key-preserved-then-same g c =
     let s = g.S.DotStore in
     let e = c.loop-key-item.result in
-    let found = c.store_from-mine.ensures.found ∙ found_before g.met.K.Ord.total g.met.K.MapKey.exact c.args.part.now c.args.left.now c.loop-key.left c.loop-key.key-index e c.loop-key-test.true c.loop-key-item.is c.requires.part c.loop-key.invariant.later in
+    let found = c.seek-mine.ensures.found ∙ found_before g.met.K.Ord.total g.met.K.MapKey.exact c.args.part.now c.args.left.now c.loop-key.left c.loop-key.key-index e c.loop-key-test.true c.loop-key-item.is c.requires.part c.loop-key.invariant.later in
     record {
       below = one_more g.met.K.Ord.total g.met.K.MapKey.exact (IsBelowAt g.K.Ord.cmp s.nothing s.below c.args.left.now c.args.heard.now c.args.other_heard.now) _ _ _ c.loop-key-test.true c.loop-key-item.is c.loop-key.invariant.below
           (subst (λ f. s.below (store_at s.nothing f) c.args.heard.now e.1 c.args.other_heard.now) found (c.are_known_equal-same.ensures c.if-same.true c.args.heard.now c.args.other_heard.now));
-      in_order = c.store_from-mine.ensures.in_order;
-      later = later_more g.met.K.Ord.total g.met.K.MapKey.exact c.args.part.now c.args.left.now c.loop-key.left c.store_from-mine.new.left c.loop-key.key-index e c.loop-key-test.true c.loop-key-item.is c.loop-key.invariant.later c.store_from-mine.ensures.same;
+      in_order = c.seek-mine.ensures.in_order;
+      later = later_more g.met.K.Ord.total g.met.K.MapKey.exact c.args.part.now c.args.left.now c.loop-key.left c.seek-mine.new.self c.loop-key.key-index e c.loop-key-test.true c.loop-key-item.is c.loop-key.invariant.later c.seek-mine.ensures.same;
     }
 
 pub loop-key-preserved : goal.loop-key-preserved
 loop-key-preserved g c =
     let s = g.S.DotStore in
     let e = c.loop-key-item.result in
-    let found = c.store_from-mine.ensures.found ∙ found_before g.met.K.Ord.total g.met.K.MapKey.exact c.args.part.now c.args.left.now c.loop-key.left c.loop-key.key-index e c.loop-key-test.true c.loop-key-item.is c.requires.part c.loop-key.invariant.later in
+    let found = c.seek-mine.ensures.found ∙ found_before g.met.K.Ord.total g.met.K.MapKey.exact c.args.part.now c.args.left.now c.loop-key.left c.loop-key.key-index e c.loop-key-test.true c.loop-key-item.is c.requires.part c.loop-key.invariant.later in
     record {
       below = one_more g.met.K.Ord.total g.met.K.MapKey.exact (IsBelowAt g.K.Ord.cmp s.nothing s.below c.args.left.now c.args.heard.now c.args.other_heard.now) _ _ _ c.loop-key-test.true c.loop-key-item.is c.loop-key.invariant.below
           (subst (λ f. s.below (store_at s.nothing f) c.args.heard.now e.1 c.args.other_heard.now) found (c.is_below.ensures.0 c.if-not-is_below.false));
-      in_order = c.store_from-mine.ensures.in_order;
-      later = later_more g.met.K.Ord.total g.met.K.MapKey.exact c.args.part.now c.args.left.now c.loop-key.left c.store_from-mine.new.left c.loop-key.key-index e c.loop-key-test.true c.loop-key-item.is c.loop-key.invariant.later c.store_from-mine.ensures.same;
+      in_order = c.seek-mine.ensures.in_order;
+      later = later_more g.met.K.Ord.total g.met.K.MapKey.exact c.args.part.now c.args.left.now c.loop-key.left c.seek-mine.new.self c.loop-key.key-index e c.loop-key-test.true c.loop-key-item.is c.loop-key.invariant.later c.seek-mine.ensures.same;
     }
 
 pub returns-then-not-is_below : goal.returns-then-not-is_below
@@ -54,14 +54,14 @@ returns-then-not-is_below g c =
     let s = g.S.DotStore in
     let e = c.loop-key-item.result in
     let below = IsBelowAt g.K.Ord.cmp s.nothing s.below c.args.left.now c.args.heard.now c.args.other_heard.now in
-    let found = c.store_from-mine.ensures.found ∙ found_before g.met.K.Ord.total g.met.K.MapKey.exact c.args.part.now c.args.left.now c.loop-key.left c.loop-key.key-index e c.loop-key-test.true c.loop-key-item.is c.requires.part c.loop-key.invariant.later in
+    let found = c.seek-mine.ensures.found ∙ found_before g.met.K.Ord.total g.met.K.MapKey.exact c.args.part.now c.args.left.now c.loop-key.left c.loop-key.key-index e c.loop-key-test.true c.loop-key-item.is c.requires.part c.loop-key.invariant.later in
     record {
       below = (
         λ t. absurd (false≢true t),
         λ all. absurd (false≢true (sym c.if-not-is_below.true ∙ c.is_below.ensures.1
             (subst (λ f. s.below (store_at s.nothing f) c.args.heard.now e.1 c.args.other_heard.now) (sym found) (subst (λ f. below f.0 (Some f.1)) (sym c.loop-key-item.is) (all c.loop-key.key-index e c.loop-key-test.true))))),
       );
-      in_order = c.store_from-mine.ensures.in_order;
+      in_order = c.seek-mine.ensures.in_order;
       later = λ t. absurd (false≢true t);
     }
 

@@ -1,4 +1,4 @@
-use Rattle.std.proofs.Common.{◌≡◌, ◌∙◌, nat_eq, ap, length, List, [], ◌∷◌, refl, true, false, arith}
+use Rattle.std.proofs.Common.{◌≡◌, ◌∙◌, nat_eq, ap, length, List, refl, arith, [], ◌∷◌, true, false}
 use Rattle.std.proofs.lemmas.Bool.{eqb-true}
 use Rattle.dac_store.specs.DotFuns.{is_empty_list}
 use Rattle.dac_store.proofs.counted.Counted.is_empty.Goals as goal

@@ -1,9 +1,9 @@
 use Rattle.std.proofs.Common.{◌++◌, ◌∙◌, [], ◌∷◌, arith, ap, sym, subst, length-append}
+use Rattle.dac_origins.specs.laws.Basics.{fails_so}
 use Rattle.dac_store.specs.Appending.{is_above_entries}
 use Rattle.dac_store.specs.DotMaps.{IsKept}
 use Rattle.dac_store.specs.Parts.{IsCounted}
 use Rattle.dac_store.specs.laws.Appending.{sorted_appended, find_appended}
-use Rattle.dac_store.proofs.Passing.{fails_so}
 use Rattle.dac_store.proofs.counted.Counted.push.Goals as goal
 
 pub invariant_of-self-2 : goal.invariant_of-self-2

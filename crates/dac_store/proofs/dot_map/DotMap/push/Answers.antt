@@ -1,7 +1,7 @@
 use Rattle.std.proofs.Common.{◌∙◌, not, ap, sym}
 use Rattle.std.proofs.lemmas.Bool.{and_from}
 use Rattle.std.proofs.lemmas.Result.{IfOk-from_err}
-use Rattle.dac_store.proofs.Passing.{fails_so}
+use Rattle.dac_origins.specs.laws.Basics.{fails_so}
 use Rattle.dac_store.proofs.dot_map.DotMap.push.Goals as goal
 
 pub append-requires : goal.append-requires

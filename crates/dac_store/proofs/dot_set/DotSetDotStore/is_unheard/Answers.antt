@@ -1,5 +1,5 @@
-use Rattle.std.proofs.Common.{◌∙◌, ◌≡◌, inl, inr, Bool, true, false, not, [], ◌∷◌, ap, sym, refl, arith}
-use Rattle.std.proofs.lemmas.Bool.{false≢true, or_cases}
+use Rattle.std.proofs.Common.{◌∙◌, ◌≡◌, inl, inr, true, false, not, [], ◌∷◌, ap, sym, refl, arith}
+use Rattle.std.proofs.lemmas.Bool.{false≢true, or_cases, not-true}
 use Rattle.std.proofs.lemmas.List.Elements.{All-more}
 use Rattle.std.specs.FinSet as set
 use Rattle.std.specs.Ordering.{eq_by_cmp}
@@ -25,11 +25,6 @@ pub returns : goal.returns
 returns c =
     (λ _. each_member dots_total exact_dots c.dots-dot-items.result.now c.args.self.now (rw c.dots-dot-items.ensures (in_order-same dots_total exact_dots c.args.self.now)) (λ x. set.contains c.args.heard.now x ≡ false) _ c.loop-dot-test.false c.loop-dot.invariant, λ _. refl)
 
--- a negated test is false
-not_true : (b : Bool) → not b ≡ true → b ≡ false
-not_true true e = absurd (false≢true e)
-not_true false e = refl
-
 pub returns-in-One : goal.returns-in-One
 returns-in-One c =
     let one = c.in-One.dot in
@@ -37,6 +32,6 @@ returns-in-One c =
     let heard = c.args.heard.now in
     let view : set.from_list (one ∷ []) ≡ now = ap (λ few. set.from_list (dots_of few)) (sym c.in-One.is) ∙ c.self.view_is in
     let same : (x : Dot) → set.contains now x ≡ true → x ≡ one = λ x e. elim (or_cases (eq_by_cmp dot_cmp x one) false (has_is dots_total (one ∷ []) now view x ∙ e)) [ inl at ↦ exact_dots x one (tie _ at) | inr none ↦ absurd (false≢true none) ] in (
-      λ e x h. ap (λ (q : Dot). set.contains heard q) (same x h) ∙ sym c.contains.ensures ∙ not_true c.contains.result e,
+      λ e x h. ap (λ (q : Dot). set.contains heard q) (same x h) ∙ sym c.contains.ensures ∙ not-true c.contains.result e,
       λ unheard. ap not (c.contains.ensures ∙ unheard one (member_at dots_total (one ∷ []) now view 0 one (omega arith))),
     )

@@ -1,7 +1,7 @@
 use Rattle.std.proofs.Common.{◌++◌, [], ◌∷◌, ◌∙◌, ap, sym, append_assoc}
 use Rattle.std.specs.Arc.{arc_value}
 use Rattle.std.specs.List.{flat_map}
-use Rattle.dac_store.proofs.Passing.{fails_so}
+use Rattle.dac_origins.specs.laws.Basics.{fails_so}
 use Rattle.dac_store.proofs.parts.Parts.push.Goals as goal
 
 pub returns-clause-ok : goal.returns-clause-ok
