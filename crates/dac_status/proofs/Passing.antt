@@ -1,14 +1,13 @@
 -- A walk through entries in the order of their keys: lookups after some entries were passed.
-use Rattle.std.proofs.Common.{◌≡◌, ◌∙◌, ℕ, ◌+◌, ◌<◌, ◌≤◌, ◌==◌, Bool, true, false, cond, T, ◌&&◌, List, [], ◌∷◌, nat_eq, Option, None, Some, Bor, is_some, length, drop, refl, sym, ap, subst, arith, add-one, true≢false}
+use Rattle.std.proofs.Common.{◌≡◌, ◌∙◌, ℕ, ◌+◌, ◌<◌, ◌≤◌, ◌==◌, Bool, true, false, cond, List, [], ◌∷◌, nat_eq, Option, None, Some, Bor, is_some, length, refl, sym, ap, subst, arith, true≢false}
 use Rattle.std.specs.Prelude.{nat_lt}
 use Rattle.std.specs.List.{list_all, list_any}
 use Rattle.std.specs.Option.{option_copied}
 use Rattle.std.specs.declared.cmp.Ordering.{Ordering}
 use Rattle.std.specs.declared.cmp.Ordering.TheVariants.{Less, Equal, Greater}
-use Rattle.std.specs.Ordering.{is_eq, is_lt, nat_cmp, ordering_reverse, ordering_then}
+use Rattle.std.specs.Ordering.{is_lt, nat_cmp, ordering_reverse, ordering_then}
 use Rattle.std.specs.Cmp.{both_ways, tied_itself}
-use Rattle.std.specs.FinMap.{find, is_sorted}
-use Rattle.std.specs.FinMap.Entries.{below_all}
+use Rattle.std.specs.FinMap.{find}
 use Rattle.std.specs.FinSet as set
 use Rattle.std.proofs.lemmas.Bool.{false≢true, false_from_ne_true, or_left, ltb-true, eqb-true}
 use Rattle.dac_base.specs.declared.AppId.{AppId}
@@ -19,16 +18,13 @@ use Rattle.dac_origins.specs.declared.dot.Dot.{Dot}
 use Rattle.dac_origins.specs.Dots.{Dots, dot_cmp}
 use Rattle.dac_lattice.specs.declared.flags.Flag.{Flag}
 use Rattle.dac_lattice.specs.Chains.{IsAny}
-use Rattle.dac_lattice.specs.Search.{IsInOrder}
-use Rattle.dac_lattice.specs.laws.Entries.{find_below}
-use Rattle.dac_lattice.specs.laws.EntryLaws.{first, second}
 use Rattle.dac_store.specs.DotMaps.{IsKept, store_at}
 use Rattle.dac_store.specs.DotSets.{is_empty_set}
 use Rattle.dac_store.specs.Parts.{HasSameFrom}
 use Rattle.dac_store.specs.laws.DotSets.{set_laws}
 use Rattle.dac_wishes.specs.declared.key.Key.{Key}
-use Rattle.dac_wishes.specs.Keys.{key_cmp, same_key}
-use Rattle.dac_wishes.specs.laws.Keys.{exact_keys, keys_total, same_key_is}
+use Rattle.dac_wishes.specs.Keys.{key_cmp}
+use Rattle.dac_wishes.specs.laws.Keys.{exact_keys, keys_total}
 use Rattle.dac_wishes.specs.Writes.{Writes, same_dot, write}
 use Rattle.dac_wishes.specs.laws.KeyedWrites.{same_dot_itself}
 use Rattle.dac_wishes.specs.PermissionsValue.{is_permitted_by, permits_at, is_permitting}
@@ -53,10 +49,6 @@ lower_from Greater e = cc
 
 own : (key : Key) → is_lt (key_cmp key key) ≡ false
 own key = ap is_lt (tied_itself keys_total key)
-
--- an entry below a key is at no key that isn't below it
-apart : (x key k : Key) → key_cmp x key ≡ Less → is_lt (key_cmp k key) ≡ false → same_key k x ≡ false
-apart x key k below not = false_from_ne_true (same_key k x) (λ t. true≢false (sym (ap is_lt (ap (λ y. key_cmp y key) (same_key_is k x t) ∙ below)) ∙ not))
 
 -- a key that isn't below the later key isn't below the earlier one
 not_below : (a b k : Key) → is_lt (key_cmp b a) ≡ false → is_lt (key_cmp k b) ≡ false → is_lt (key_cmp k a) ≡ false
@@ -97,56 +89,6 @@ next_app app node = ap (λ r. is_lt (ordering_then r (ordering_then (nat_cmp 0 n
 -- ---- entries that are passed
 
 module _ {X : Type 0} where
-  pub same_past : (key : Key) (old now next : List (Key × X)) (e : Key × X) → now ≡ e ∷ drop 1 now → next ≡ drop 1 now → key_cmp e.0 key ≡ Less → HasSameFrom key_cmp key old now → HasSameFrom key_cmp key old next
-  same_past key old now next e is passed below same k not =
-      ap (find key_cmp k) passed
-      ∙ sym (ap (λ t. cond t (Some e.1) (find key_cmp k (drop 1 now))) (apart e.0 key k below not))
-      ∙ sym (ap (find key_cmp k) is)
-      ∙ same k not
-
-  pub sorted_past : (now next : List (Key × X)) (e : Key × X) → now ≡ e ∷ drop 1 now → next ≡ drop 1 now → IsInOrder key_cmp now → IsInOrder key_cmp next
-  sorted_past now next e is passed s = subst (IsInOrder key_cmp) (sym passed) (second (below_all key_cmp e.0 (drop 1 now)) (is_sorted key_cmp (drop 1 now)) (subst (IsInOrder key_cmp) is s))
-
-  pub one_fewer : (now next : List (Key × X)) (e : Key × X) → now ≡ e ∷ drop 1 now → next ≡ drop 1 now → length next < length now
-  one_fewer now next e is passed =
-      let long : length now ≡ length (drop 1 now) + 1 = ap length is ∙ sym (add-one (length (drop 1 now))) in
-      let same : length next ≡ length (drop 1 now) = ap length passed in
-      omega (arith, long, same)
-
-  -- the entry at the key is found
-  pub found_at : (key : Key) (old now : List (Key × X)) (e : Key × X) → now ≡ e ∷ drop 1 now → key_cmp e.0 key ≡ Equal → HasSameFrom key_cmp key old now → Some e.1 ≡ find key_cmp key old
-  found_at key old now e is at same =
-      sym (ap (λ r. cond (is_eq r) (Some e.1) (find key_cmp key (drop 1 now))) (keys_total.antisymm key e.0 ∙ ap ordering_reverse at))
-      ∙ sym (ap (find key_cmp key) is)
-      ∙ same key (own key)
-
-  below_from : (k x : Key) (es : List (Key × X)) → key_cmp k x ≡ Less → T (below_all key_cmp x es) → T (below_all key_cmp k es)
-  below_from k x [] p h = tt
-  below_from k x (e ∷ es) p h = both _ _ (subst (λ r. T (is_lt r)) (sym (keys_total.trans k x e.0 p (less _ (first _ _ h)))) tt) (below_from k x es p (second _ _ h))
-    where
-      both : (a b : Bool) → T a → T b → T (a && b)
-      both true b p q = q
-      both false b p q = p
-
-      less : (r : Ordering) → T (is_lt r) → r ≡ Less
-      less Less p = refl
-      less Equal p = absurd p
-      less Greater p = absurd p
-
-  -- nothing is found if the next entry is past the key
-  pub found_none : (key : Key) (old now : List (Key × X)) (e : Key × X) → now ≡ e ∷ drop 1 now → key_cmp e.0 key ≡ Greater → IsInOrder key_cmp now → HasSameFrom key_cmp key old now → None ≡ find key_cmp key old
-  found_none key old now e is past s same =
-      let lower : key_cmp key e.0 ≡ Less = keys_total.antisymm key e.0 ∙ ap ordering_reverse past in
-      let sorted : T (is_sorted key_cmp (e ∷ drop 1 now)) = subst (IsInOrder key_cmp) is s in
-      let under = below_from key e.0 (drop 1 now) lower (first (below_all key_cmp e.0 (drop 1 now)) (is_sorted key_cmp (drop 1 now)) sorted) in
-      sym (find_below keys_total exact_keys key (drop 1 now) under)
-      ∙ sym (ap (λ r. cond (is_eq r) (Some e.1) (find key_cmp key (drop 1 now))) lower)
-      ∙ sym (ap (find key_cmp key) is)
-      ∙ same key (own key)
-
-  pub found_end : (key : Key) (old now : List (Key × X)) → now ≡ [] → HasSameFrom key_cmp key old now → None ≡ find key_cmp key old
-  found_end key old now none same = sym (ap (find key_cmp key) none) ∙ same key (own key)
-
   -- two walks in sequence are one
   pub same_after : (key : Key) (all old new : List (Key × X)) → HasSameFrom key_cmp key all old → HasSameFrom key_cmp key old new → HasSameFrom key_cmp key all new
   same_after key all old new one other k past = other k past ∙ one k past

@@ -1,13 +1,8 @@
 //! Permits and start wishes of a state, looked up in the order of their keys.
 ghost use Rattle.std.specs.Prelude.{◌≡◌, ◌<◌, Some};
 ghost use Rattle.std.specs.List.{list_all};
-ghost use Rattle.std.specs.Option.{option_copied};
-ghost use Rattle.std.specs.FinMap.{find};
 ghost use Rattle.dac_origins.specs.declared.dot.Dot.{Dot as DotValue};
 ghost use Rattle.dac_lattice.specs.declared.flags.Flag.{Flag as FlagValue};
-ghost use Rattle.dac_lattice.specs.Search.{IsInOrder};
-ghost use Rattle.dac_store.specs.Parts.{HasSameFrom};
-ghost use Rattle.dac_wishes.specs.Keys.{key_cmp};
 ghost use Rattle.dac_wishes.specs.PermissionsValue.{is_permitting, is_permitted_by};
 ghost use Rattle.dac_config.specs.Table.{app_count};
 ghost use Rattle.dac_placement.specs.Placement.{is_drained_at, is_permitted_at, is_started_at};
@@ -19,8 +14,7 @@ use dac_config::Config;
 use dac_lattice::Flag;
 use dac_origins::Dot;
 use dac_state::{Key, State};
-use dac_store::{DotFun, DotSet, DotStore, Entries};
-use std::cmp::Ordering;
+use dac_store::{DotFun, DotSet, Entries};
 use std::marker::Model;
 
 /// A state, and the rest of its permits and start wishes. Lookups must come in the order of keys; together they pass
@@ -96,7 +90,7 @@ impl<'a> Walk<'a> {
         ensures before { IsBefore key self.new }
     {
         let default = config.default_permission(key.app);
-        match store_from(&mut self.permits, key) {
+        match self.permits.seek(key) {
             Some(permits) => permitted_by(default, permits.entries()),
             None => default,
         }
@@ -109,25 +103,8 @@ impl<'a> Walk<'a> {
         ensures state { self.new.state ≡ self.old.state }
         ensures before { IsBefore key self.new }
     {
-        store_from(&mut self.starts, key).is_some()
+        self.starts.seek(key).is_some()
     }
-}
-
-/// The store at a key, if there is one. Entries below the key are passed.
-fn store_from<'a, S: DotStore>(left: &mut Entries<'a, Key, S>, key: Key) -> Option<&'a S>
-    requires { IsInOrder key_cmp left.old }
-    ensures found { option_copied result ≡ find key_cmp key left.old }
-    ensures in_order { IsInOrder key_cmp left.new }
-    ensures same { HasSameFrom key_cmp key left.old left.new }
-{
-    while let Some((other, store)) = left.first() {
-        match other.cmp(&key) {
-            Ordering::Less => left.pass(),
-            Ordering::Equal => return Some(store),
-            Ordering::Greater => return None,
-        }
-    }
-    None
 }
 
 /// Whether a permit says true.

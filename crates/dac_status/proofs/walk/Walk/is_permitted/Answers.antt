@@ -12,7 +12,7 @@ returns-clause-value c =
     let key = c.args.key in
     let inside = c.self.inside in
     let was = before_inside key inside.state.now inside.permits inside.starts c.args.self.now c.self.view_is c.requires.before in
-    elim c.match-store_from.branch [
+    elim c.match-seek.branch [
       | in-Some w ↦
           w.result-is ∙ w.permitted_by.ensures
           ∙ (λ i. is_permitted_by (c.default_permission-default.ensures i) (w.entries.ensures i))
@@ -27,4 +27,4 @@ returns-clause-value c =
 pub returns-clause-before : goal.returns-clause-before
 returns-clause-before c =
     let inside = c.self.inside in
-    before_passed c.args.key inside.state.now inside.permits inside.starts c.args.self.now c.self.view_is c.store_from.new.left c.store_from.ensures.same c.requires.before
+    before_passed c.args.key inside.state.now inside.permits inside.starts c.args.self.now c.self.view_is c.seek.new.self c.seek.ensures.same c.requires.before

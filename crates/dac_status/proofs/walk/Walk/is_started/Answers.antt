@@ -9,6 +9,6 @@ returns-clause-value c =
     let key = c.args.key in
     let inside = c.self.inside in
     let was = before_inside key inside.state.now inside.permits inside.starts c.args.self.now c.self.view_is c.requires.before in
-    c.is_some.ensures ∙ is_some-copied c.store_from.result ∙ ap is_some c.store_from.ensures.found
+    c.is_some.ensures ∙ is_some-copied c.seek.result ∙ ap is_some c.seek.ensures.found
     ∙ started_left key inside.state.now inside.starts was.starts
     ∙ ap (λ (v : WalkValue). is_started_at v.state key) c.self.view_is
