@@ -17,7 +17,6 @@ pub use dac_origins::{Dot, MapKey, NoMemory, Origin, keys};
 pub use filter::DotFilter;
 pub use filtered::FilteredContext;
 pub use row::{Further, FurtherIter};
-pub use shared::SharedContext;
 
 mod context;
 mod counters;
@@ -26,5 +25,4 @@ mod filtered;
 mod parts;
 mod row;
 mod rows;
-mod shared;
 mod spans;

@@ -11,7 +11,7 @@ ghost use Rattle.dac_state.specs.Heard.{heard_given};
 use crate::heard::Heard;
 use dac_base::NoMemory;
 use dac_chains::{Claims, Lives};
-use dac_dots::{Context, SharedContext};
+use dac_dots::Context;
 use dac_lattice::Piece;
 use dac_meaning::{Act, Op, laws};
 use dac_origins::Origin;
@@ -95,7 +95,7 @@ pub(crate) fn permissions_by(
     alloc: Global,
     op: &Op,
     over: DotList,
-    known: &SharedContext,
+    known: &Context,
 ) -> Result<(Permissions, DotList), NoMemory>
     requires over { over ≡ over_list op.now.act }
     requires known { known.now ≡ (meaning_of (op.now ∷ [])).known }
@@ -165,7 +165,7 @@ pub(crate) fn drains_by(
     alloc: Global,
     op: &Op,
     over: DotList,
-    known: &SharedContext,
+    known: &Context,
 ) -> Result<Drains, NoMemory>
     requires over { over ≡ over_list op.now.act }
     requires known { known.now ≡ (meaning_of (op.now ∷ [])).known }

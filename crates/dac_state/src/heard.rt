@@ -5,7 +5,7 @@ ghost use Rattle.dac_origins.specs.Dots.{IsSubset};
 ghost use Rattle.dac_state.specs.Heard.{heard_given};
 
 use dac_base::NoMemory;
-use dac_dots::{Context, SharedContext};
+use dac_dots::Context;
 
 /// The dots heard, a subset of the dots known.
 #[derive(Drop)]
@@ -73,7 +73,7 @@ impl Heard {
         known: &Context,
         other: &Self,
         other_known: &Context,
-    ) -> Result<(SharedContext, Heard), NoMemory>
+    ) -> Result<(Context, Heard), NoMemory>
         requires mine { IsSubset (heard_given self.now known.now) known.now }
         requires theirs { IsSubset (heard_given other.now other_known.now) other_known.now }
         ensures known { IfOk result (λ dots. dots.0 ≡ set.union known.now other_known.now) }
@@ -83,12 +83,10 @@ impl Heard {
     {
         let heard = self.beside(known).union(other.beside(other_known))?;
         if self.both_know_no_more(known, other, other_known, &heard) {
-            let all = SharedContext::new(heard)?;
-            return Ok((all, Heard::All));
+            return Ok((heard, Heard::All));
         }
         let both = known.union(other_known)?;
-        let shared = SharedContext::new(both)?;
-        Ok((shared, Heard::These(heard)))
+        Ok((both, Heard::These(heard)))
     }
 
     /// Whether all of `dots`, which are known, were heard.

@@ -10,7 +10,7 @@ ghost use Rattle.dac_state.specs.Parts.{AreParts, state_of_parts};
 use crate::heard::Heard;
 use dac_base::NoMemory;
 use dac_chains::{Claims, Lives};
-use dac_dots::{Context, SharedContext};
+use dac_dots::Context;
 use dac_lattice::Lattice;
 use dac_wishes::{Drains, Permissions, Wishes};
 use std::alloc::Global;
@@ -276,7 +276,7 @@ fn absorb_standing(
     wishes: &mut Wishes,
     other_permissions: &Permissions,
     other_wishes: &Wishes,
-    union: SharedContext,
+    union: Context,
 ) -> Result<(), NoMemory>
     requires permits { union ≡ set.union permissions.old.known other_permissions.now.known }
     requires starts { union ≡ set.union wishes.old.known other_wishes.now.known }

@@ -67,10 +67,10 @@ impl State {
         let over = replaced_by(alloc, op)?;
         let (wishes, over) = wishes_by(alloc, op, over)?;
         let heard = heard_by(alloc, op, wishes.context())?;
-        let (permissions, over) = permissions_by(alloc, op, over, wishes.shared_context())?;
+        let (permissions, over) = permissions_by(alloc, op, over, wishes.context())?;
         let lives = lives_by(alloc, op)?;
         let claims = claims_by(alloc, op)?;
-        let drains = drains_by(alloc, op, over, wishes.shared_context())?;
+        let drains = drains_by(alloc, op, over, wishes.context())?;
         let parts = Parts::beside(alloc, heard, permissions, wishes, lives, claims, drains);
         let state = State::of(parts)?;
         Ok(state)

@@ -5,7 +5,7 @@ ghost use Rattle.dac_origins.specs.Dots.{IsSubset};
 ghost use Rattle.dac_store.specs.Stores.{IsHeld, IsStoredBelow, IsUnheard, join_stored};
 
 use crate::DotStore;
-use dac_dots::{Context, FilteredContext, SharedContext};
+use dac_dots::{Context, FilteredContext};
 use dac_lattice::{Bottom, Lattice};
 use dac_origins::NoMemory;
 use std::alloc::Global;
@@ -18,11 +18,11 @@ const MOST_LOOKED_UP: usize = 16;
 /// given the contexts.
 ///
 /// A join copies one side's store if that is known to stay unchanged, because the other's is empty and has a small
-/// context. Values with equal contexts can share one.
+/// context. Values with equal contexts can share one, because copies of a context do.
 #[derive(Drop)]
 pub struct Causal<S: DotStore> {
     store: S,
-    context: SharedContext,
+    context: Context,
 }
 
 impl<S: DotStore> Model for Causal<S> {
@@ -52,26 +52,6 @@ impl<S: DotStore> Causal<S> {
     {
         store.tells_invariant();
         if store.within(&context) {
-            let shared = SharedContext::of(context);
-            Ok(Causal {
-                store,
-                context: shared,
-            })
-        } else {
-            Err((store, context))
-        }
-    }
-
-    /// Pairs a store with a context that others can share. Fails, and returns both, if the store has a dot that isn't
-    /// in the context.
-    pub fn with_shared(store: S, context: SharedContext) -> Result<Self, (S, SharedContext)>
-        ensures ok { IfOk result (λ causal. (causal ≡ record { store = store; context = context })
-            × IsHeld (S.has store) context) }
-        ensures err { IfErr result
-            (λ back. (back ≡ (store, context)) × ¬ (IsHeld (S.has store) context)) }
-    {
-        store.tells_invariant();
-        if store.within(context.context()) {
             Ok(Causal { store, context })
         } else {
             Err((store, context))
@@ -89,18 +69,11 @@ impl<S: DotStore> Causal<S> {
     pub fn context(&self) -> &Context
         ensures { result.now ≡ self.now.context }
     {
-        self.context.context()
-    }
-
-    /// The causal context, in the form that others can share.
-    pub fn shared_context(&self) -> &SharedContext
-        ensures { result.now ≡ self.now.context }
-    {
         &self.context
     }
 
     /// The join with the other value. It shares `union`, the union of both contexts.
-    pub fn join_with_context(&self, other: &Self, union: &SharedContext) -> Result<Self, NoMemory>
+    pub fn join_with_context(&self, other: &Self, union: &Context) -> Result<Self, NoMemory>
         requires { union.now ≡ set.union self.now.context other.now.context }
         ensures { IfOk result (λ joined. joined ≡ join_stored S.join self.now other.now) }
     {
@@ -113,11 +86,7 @@ impl<S: DotStore> Causal<S> {
 
     /// Joins the other value into this one, in place where possible. Takes `union`, the union of both contexts. After
     /// [`NoMemory`] this value is unchanged.
-    pub fn absorb_with_context(
-        &mut self,
-        other: &Self,
-        union: SharedContext,
-    ) -> Result<(), NoMemory>
+    pub fn absorb_with_context(&mut self, other: &Self, union: Context) -> Result<(), NoMemory>
         requires { union ≡ set.union self.old.context other.now.context }
         ensures ok { OnOk result (self.new ≡ join_stored S.join self.old other.now) }
         ensures err { OnErr result (self.new ≡ self.old) }
@@ -131,8 +100,8 @@ impl<S: DotStore> Causal<S> {
         if self.leaves(other) || self.is_much_smaller(other) {
             self.store = self.join_stores(other)?;
         } else {
-            let heard = self.context.context();
-            self.store.absorb_in(heard, &other.store, other.context())?;
+            self.store
+                .absorb_in(&self.context, &other.store, other.context())?;
         }
         self.context = union;
         Ok(())
@@ -272,7 +241,7 @@ impl<S: DotStore> Bottom for Causal<S> {
     fn bottom(alloc: Global) -> Self {
         Causal {
             store: S::empty(alloc),
-            context: SharedContext::of(Context::empty(alloc)),
+            context: Context::empty(alloc),
         }
     }
 }

@@ -16,7 +16,7 @@
 #![tactic(auto)]
 
 pub use causal::Causal;
-pub use dac_dots::{Context, DotFilter, FilteredContext, SharedContext};
+pub use dac_dots::{Context, DotFilter, FilteredContext};
 pub use dot_fun::DotFun;
 pub use dot_map::DotMap;
 pub use dot_set::DotSet;

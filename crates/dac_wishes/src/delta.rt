@@ -5,7 +5,7 @@ ghost use Rattle.dac_store.specs.Stores.{IsHeld};
 
 use dac_base::NoMemory;
 use dac_origins::Dot;
-use dac_store::{Causal, Context, DotStore, SharedContext};
+use dac_store::{Causal, Context, DotStore};
 use std::alloc::Global;
 
 /// The dots that an operation names: its own, and those that it replaces.
@@ -18,23 +18,6 @@ pub(crate) fn named_by(alloc: Global, dot: Dot, over: &[Dot]) -> Result<Context,
         named.insert(*replaced)?;
     }
     Ok(named)
-}
-
-/// The dots that an operation names, in a form that its deltas share.
-pub(crate) fn shared_names(alloc: Global, dot: Dot, over: &[Dot]) -> Result<SharedContext, NoMemory>
-    ensures { IfOk result (λ named. named ≡ set.from_list (dot ∷ over.now)) }
-{
-    let named = named_by(alloc, dot, over)?;
-    let shared = SharedContext::new(named)?;
-    Ok(shared)
-}
-
-/// A store paired with a shared context that contains its dots.
-pub(crate) fn paired_shared<S: DotStore>(store: S, context: SharedContext) -> Causal<S>
-    requires { IsHeld (S.has store) context }
-    ensures { result ≡ record { store = store; context = context } }
-{
-    Causal::with_shared(store, context).unwrap()
 }
 
 /// A store paired with a context that contains its dots.

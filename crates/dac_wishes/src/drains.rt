@@ -8,13 +8,13 @@ ghost use Rattle.dac_origins.specs.declared.dot.Dot.{Dot as DotValue};
 ghost use Rattle.dac_wishes.specs.DrainsValue.{join_drains, AreDrainsBelow, origin, says_drained, is_drained, IsDrained, drains_at};
 ghost use Rattle.dac_wishes.specs.DrainMeaning.{drain_delta};
 
-use crate::delta::{beside, shared_names};
+use crate::delta::{beside, named_by};
 use crate::drain_act::DrainAct;
 use crate::votes::{kept_at, stored_delta};
 use dac_base::{NoMemory, NodeId};
 use dac_lattice::{Bottom, Flag, Lattice, Piece};
 use dac_origins::{Dot, Origin};
-use dac_store::{Causal, Context, DotFun, DotMap, DotStore, Entries, SharedContext};
+use dac_store::{Causal, Context, DotFun, DotMap, DotStore, Entries};
 use std::alloc::Global;
 use std::marker::Model;
 
@@ -103,16 +103,9 @@ impl Drains {
         self.causal.context()
     }
 
-    /// The known dots, in the form that others can share.
-    pub fn shared_context(&self) -> &SharedContext
-        ensures { result.now ≡ self.now.known }
-    {
-        self.causal.shared_context()
-    }
-
     /// The join with the other value. It shares `union`, the union of the known dots of both.
     #[inline(always)]
-    pub fn join_with_context(&self, other: &Self, union: &SharedContext) -> Result<Self, NoMemory>
+    pub fn join_with_context(&self, other: &Self, union: &Context) -> Result<Self, NoMemory>
         requires { union.now ≡ set.union self.now.known other.now.known }
         ensures { IfOk result (λ joined. joined ≡ join_drains self.now other.now) }
     {
@@ -122,11 +115,7 @@ impl Drains {
 
     /// Joins the other value into this one, in place where possible. Takes `union`, the union of the known dots of both.
     /// After [`NoMemory`] this value is unchanged.
-    pub fn absorb_with_context(
-        &mut self,
-        other: &Self,
-        union: SharedContext,
-    ) -> Result<(), NoMemory>
+    pub fn absorb_with_context(&mut self, other: &Self, union: Context) -> Result<(), NoMemory>
         requires { union ≡ set.union self.old.known other.now.known }
         ensures ok { OnOk result (self.new ≡ join_drains self.old other.now) }
         ensures err { OnErr result (self.new ≡ self.old) }
@@ -140,7 +129,7 @@ impl Drains {
         alloc: Global,
         dot: Dot,
         act: &DrainAct,
-        named: &SharedContext,
+        named: &Context,
     ) -> Result<Self, NoMemory>
         requires { named.now ≡ (drain_delta dot act.now).known }
         ensures { IfOk result (λ delta. delta ≡ drain_delta dot act.now) }
@@ -243,7 +232,7 @@ impl Piece for Drains {
     ghost piece_laws = { drain_piece };
 
     fn delta(alloc: Global, dot: Dot, act: &DrainAct) -> Result<Self, NoMemory> {
-        let named = shared_names(alloc, dot, act.over())?;
+        let named = named_by(alloc, dot, act.over())?;
         let delta = Self::delta_with_context(alloc, dot, act, &named)?;
         Ok(delta)
     }

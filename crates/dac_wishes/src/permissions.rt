@@ -8,14 +8,14 @@ ghost use Rattle.dac_origins.specs.declared.dot.Dot.{Dot as DotValue};
 ghost use Rattle.dac_wishes.specs.PermissionsValue.{join_permissions, IsPermissionsBelow, is_permitting, is_permitted, is_permitted_by, IsPermitted, permits_at};
 ghost use Rattle.dac_wishes.specs.PermitMeaning.{permit_delta};
 
-use crate::delta::shared_names;
+use crate::delta::named_by;
 use crate::key::Key;
 use crate::permit_act::PermitAct;
 use crate::votes::{kept_at, stored_delta};
 use dac_base::NoMemory;
 use dac_lattice::{Bottom, Flag, Lattice, Piece};
 use dac_origins::Dot;
-use dac_store::{Causal, Context, DotFun, DotMap, Entries, SharedContext};
+use dac_store::{Causal, Context, DotFun, DotMap, Entries};
 use std::alloc::Global;
 use std::marker::Model;
 
@@ -95,15 +95,8 @@ impl Permissions {
         self.causal.context()
     }
 
-    /// The known dots, in the form that others can share.
-    pub fn shared_context(&self) -> &SharedContext
-        ensures { result.now ≡ self.now.known }
-    {
-        self.causal.shared_context()
-    }
-
     /// The join with the other value. It shares `union`, the union of the known dots of both.
-    pub fn join_with_context(&self, other: &Self, union: &SharedContext) -> Result<Self, NoMemory>
+    pub fn join_with_context(&self, other: &Self, union: &Context) -> Result<Self, NoMemory>
         requires { union.now ≡ set.union self.now.known other.now.known }
         ensures { IfOk result (λ joined. joined ≡ join_permissions self.now other.now) }
     {
@@ -113,11 +106,7 @@ impl Permissions {
 
     /// Joins the other value into this one, in place where possible. Takes `union`, the union of the known dots of both.
     /// After [`NoMemory`] this value is unchanged.
-    pub fn absorb_with_context(
-        &mut self,
-        other: &Self,
-        union: SharedContext,
-    ) -> Result<(), NoMemory>
+    pub fn absorb_with_context(&mut self, other: &Self, union: Context) -> Result<(), NoMemory>
         requires { union ≡ set.union self.old.known other.now.known }
         ensures ok { OnOk result (self.new ≡ join_permissions self.old other.now) }
         ensures err { OnErr result (self.new ≡ self.old) }
@@ -131,7 +120,7 @@ impl Permissions {
         alloc: Global,
         dot: Dot,
         act: &PermitAct,
-        named: &SharedContext,
+        named: &Context,
     ) -> Result<Self, NoMemory>
         requires { named.now ≡ (permit_delta dot act.now).known }
         ensures { IfOk result (λ delta. delta ≡ permit_delta dot act.now) }
@@ -245,7 +234,7 @@ impl Piece for Permissions {
     ghost piece_laws = { permit_piece };
 
     fn delta(alloc: Global, dot: Dot, act: &PermitAct) -> Result<Self, NoMemory> {
-        let named = shared_names(alloc, dot, act.over())?;
+        let named = named_by(alloc, dot, act.over())?;
         let delta = Self::delta_with_context(alloc, dot, act, &named)?;
         Ok(delta)
     }

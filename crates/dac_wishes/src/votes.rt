@@ -6,11 +6,11 @@ ghost use Rattle.dac_store.specs.DotMaps.{has_in, store_at};
 ghost use Rattle.dac_store.specs.Stores.{IsHeld};
 ghost use Rattle.dac_wishes.specs.StoredVotes.{stored_vote};
 
-use crate::delta::paired_shared;
+use crate::delta::beside;
 use dac_base::NoMemory;
 use dac_lattice::Flag;
 use dac_origins::{Dot, MapKey};
-use dac_store::{Causal, DotFun, DotMap, DotStore, SharedContext};
+use dac_store::{Causal, Context, DotFun, DotMap, DotStore};
 use std::alloc::Global;
 
 /// The votes stored at a key.
@@ -46,7 +46,7 @@ pub(crate) fn stored_delta<K: MapKey>(
     alloc: Global,
     dot: Dot,
     vote: Option<(K, Flag)>,
-    named: &SharedContext,
+    named: &Context,
 ) -> Result<Causal<DotMap<K, DotFun<Flag>>>, NoMemory>
     requires { IsHeld (has_in has_dot (stored_vote dot vote)) named.now }
     ensures { IfOk result
@@ -54,6 +54,6 @@ pub(crate) fn stored_delta<K: MapKey>(
 {
     let store = kept_alone(alloc, dot, vote)?;
     let context = named.copy()?;
-    let causal = paired_shared(store, context);
+    let causal = beside(store, context);
     Ok(causal)
 }

@@ -8,13 +8,13 @@ ghost use Rattle.dac_wishes.specs.WishesValue.{join_wishes, AreWishesBelow, is_w
 ghost use Rattle.dac_wishes.specs.StoredDeltas.{stored_start};
 ghost use Rattle.dac_wishes.specs.WishMeaning.{wish_delta};
 
-use crate::delta::{paired_shared, shared_names};
+use crate::delta::{beside, named_by};
 use crate::key::Key;
 use crate::wish_act::WishAct;
 use dac_base::NoMemory;
 use dac_lattice::{Bottom, Lattice, Piece};
 use dac_origins::Dot;
-use dac_store::{Causal, Context, DotMap, DotSet, DotStore, Entries, SharedContext};
+use dac_store::{Causal, Context, DotMap, DotSet, DotStore, Entries};
 use std::alloc::Global;
 use std::marker::Model;
 
@@ -95,15 +95,8 @@ impl Wishes {
         self.causal.context()
     }
 
-    /// The known dots, in the form that others can share.
-    pub fn shared_context(&self) -> &SharedContext
-        ensures { result.now ≡ self.now.known }
-    {
-        self.causal.shared_context()
-    }
-
     /// The join with the other value. It shares `union`, the union of the known dots of both.
-    pub fn join_with_context(&self, other: &Self, union: &SharedContext) -> Result<Self, NoMemory>
+    pub fn join_with_context(&self, other: &Self, union: &Context) -> Result<Self, NoMemory>
         requires { union.now ≡ set.union self.now.known other.now.known }
         ensures { IfOk result (λ joined. joined ≡ join_wishes self.now other.now) }
     {
@@ -113,11 +106,7 @@ impl Wishes {
 
     /// Joins the other value into this one, in place where possible. Takes `union`, the union of the known dots of both.
     /// After [`NoMemory`] this value is unchanged.
-    pub fn absorb_with_context(
-        &mut self,
-        other: &Self,
-        union: SharedContext,
-    ) -> Result<(), NoMemory>
+    pub fn absorb_with_context(&mut self, other: &Self, union: Context) -> Result<(), NoMemory>
         requires { union ≡ set.union self.old.known other.now.known }
         ensures ok { OnOk result (self.new ≡ join_wishes self.old other.now) }
         ensures err { OnErr result (self.new ≡ self.old) }
@@ -131,14 +120,14 @@ impl Wishes {
         alloc: Global,
         dot: Dot,
         act: &WishAct,
-        named: &SharedContext,
+        named: &Context,
     ) -> Result<Self, NoMemory>
         requires { named.now ≡ (wish_delta dot act.now).known }
         ensures { IfOk result (λ delta. delta ≡ wish_delta dot act.now) }
     {
         let store = start_in(alloc, dot, act)?;
         let context = named.copy()?;
-        let causal = paired_shared(store, context);
+        let causal = beside(store, context);
         Ok(Wishes { causal })
     }
 
@@ -233,7 +222,7 @@ impl Piece for Wishes {
     ghost piece_laws = { wish_piece };
 
     fn delta(alloc: Global, dot: Dot, act: &WishAct) -> Result<Self, NoMemory> {
-        let named = shared_names(alloc, dot, act.over())?;
+        let named = named_by(alloc, dot, act.over())?;
         let delta = Self::delta_with_context(alloc, dot, act, &named)?;
         Ok(delta)
     }

@@ -76,8 +76,6 @@ pub const CALLS: &[(&str, Call)] = &[
     ("Context::insert", Call::Context(OfContext::Insert)),
     ("Context::union", Call::Context(OfContext::Union)),
     ("Context::copy", Call::Context(OfContext::Copy)),
-    ("SharedContext::copy", Call::Context(OfContext::Share)),
-    ("SharedContext::union", Call::Context(OfContext::ShareUnion)),
     ("Context::dots", Call::Context(OfContext::Dots)),
     ("Context::push_row", Call::Context(OfContext::PushRow)),
     ("Further::list", Call::Context(OfContext::Further)),

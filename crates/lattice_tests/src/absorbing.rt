@@ -459,7 +459,7 @@ fn is_causal_absorbed<S: DotStore>(
     } else {
         None
     };
-    let union = causal.shared_context().union(other.shared_context())?;
+    let union = causal.context().union(other.context())?;
     causal.absorb_with_context(other, union)?;
     let is_left = match &kept {
         Some(kept) => kept.equal(equal),

@@ -136,7 +136,7 @@ fn a_stop_is_absorbed(alloc: Global) -> Result<bool, NoMemory> {
     let mut wishes = start_of(alloc, dot(0, 2))?;
     let stop = stop_of(alloc, dot(0, 3), dot(0, 2))?;
     let joined = start_of(alloc, dot(0, 2))?.join(&stop)?;
-    let union = wishes.shared_context().union(stop.shared_context())?;
+    let union = wishes.context().union(stop.context())?;
     wishes.absorb_with_context(&stop, union)?;
     Ok(wishes.equal(&joined) && has(&wishes, &[], 2))
 }
@@ -146,7 +146,7 @@ fn a_permit_is_absorbed(alloc: Global) -> Result<bool, NoMemory> {
     let mut permissions = permit_of(alloc, dot(0, 2), true)?;
     let denied = permit_of(alloc, dot(1, 2), false)?;
     let joined = permit_of(alloc, dot(0, 2), true)?.join(&denied)?;
-    let union = permissions.shared_context().union(denied.shared_context())?;
+    let union = permissions.context().union(denied.context())?;
     permissions.absorb_with_context(&denied, union)?;
     Ok(permissions.equal(&joined) && has_two(&permissions))
 }
@@ -163,7 +163,7 @@ fn a_drain_is_absorbed(alloc: Global) -> Result<bool, NoMemory> {
     let mut drains = drain_of(alloc, dot(0, 2), true, &[])?;
     let ended = drain_of(alloc, dot(0, 3), false, &[dot(0, 2)])?;
     let joined = drain_of(alloc, dot(0, 2), true, &[])?.join(&ended)?;
-    let union = drains.shared_context().union(ended.shared_context())?;
+    let union = drains.context().union(ended.context())?;
     drains.absorb_with_context(&ended, union)?;
     Ok(drains.equal(&joined) && drains.dots(NodeId(1), 1).len() == 1)
 }

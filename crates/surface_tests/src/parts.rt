@@ -3,7 +3,7 @@ use crate::lattices::{FIRST, ORIGIN, SECOND};
 use crate::texts::TWO;
 use dac_chains::{Claim, Claims, How, Lives};
 use dac_config::{AppId, Config, NoMemory, NodeId, read_config};
-use dac_dots::{Context, Dot, SharedContext};
+use dac_dots::{Context, Dot};
 use dac_lattice::{Bottom, Flag, Lattice, Piece};
 use dac_state::{Act, DotList, Op, OpFault, State, StateFault, StateFaultKind};
 use dac_wishes::{Drains, Key, Permissions, Wishes};
@@ -91,7 +91,7 @@ fn is_absorbed(alloc: Global) -> Option<bool> {
 /// True if wishes that absorb others equal these, from none.
 fn are_wishes_absorbed(alloc: Global, other: &Wishes) -> Result<bool, NoMemory> {
     let mut wishes = Wishes::bottom(alloc);
-    let union: SharedContext = wishes.shared_context().union(other.shared_context())?;
+    let union: Context = wishes.context().union(other.context())?;
     wishes.absorb_with_context(other, union)?;
     Ok(wishes.equal(other))
 }
@@ -99,7 +99,7 @@ fn are_wishes_absorbed(alloc: Global, other: &Wishes) -> Result<bool, NoMemory> 
 /// The same of permissions.
 fn are_permissions_absorbed(alloc: Global, other: &Permissions) -> Result<bool, NoMemory> {
     let mut permissions = Permissions::bottom(alloc);
-    let union: SharedContext = permissions.shared_context().union(other.shared_context())?;
+    let union: Context = permissions.context().union(other.context())?;
     permissions.absorb_with_context(other, union)?;
     Ok(permissions.equal(other))
 }
@@ -107,7 +107,7 @@ fn are_permissions_absorbed(alloc: Global, other: &Permissions) -> Result<bool, 
 /// The same of drains.
 fn are_drains_absorbed(alloc: Global, other: &Drains) -> Result<bool, NoMemory> {
     let mut drains = Drains::bottom(alloc);
-    let union: SharedContext = drains.shared_context().union(other.shared_context())?;
+    let union: Context = drains.context().union(other.context())?;
     drains.absorb_with_context(other, union)?;
     Ok(drains.equal(other))
 }

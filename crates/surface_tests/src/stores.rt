@@ -2,7 +2,7 @@
 use crate::lattices::{FIRST, ORIGIN, SECOND, first_alone};
 use dac_config::NoMemory;
 use dac_deltas::{Acks, Buffer, Staged};
-use dac_dots::{Context, SharedContext};
+use dac_dots::Context;
 use dac_lattice::{Lattice, Max};
 use dac_store::{Causal, DotFun, DotMap, DotSet, DotStore};
 use std::alloc::Global;
@@ -64,7 +64,7 @@ fn first_causal(alloc: Global) -> Option<Causal<DotSet>> {
 
 /// Joins another value into this one.
 fn absorb(causal: &mut Causal<DotSet>, other: &Causal<DotSet>) -> Result<(), NoMemory> {
-    let union: SharedContext = causal.shared_context().union(other.shared_context())?;
+    let union: Context = causal.context().union(other.context())?;
     causal.absorb_with_context(other, union)
 }
 

@@ -222,8 +222,8 @@ pub fn absorbing(alloc: Global) -> Option<AbsorbFixture> {
 impl AbsorbFixture {
     /// Makes the union of both contexts, and joins the other value into the first.
     fn absorb(&mut self) -> Result<(), NoMemory> {
-        let shared = self.one.shared_context();
-        let union = shared.union(self.other.shared_context())?;
+        let shared = self.one.context();
+        let union = shared.union(self.other.context())?;
         self.one.absorb_with_context(&self.other, union)
     }
 }

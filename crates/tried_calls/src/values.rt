@@ -6,7 +6,7 @@ use dac_base::NoMemory;
 use dac_bytes::{ByteReader, ByteWriter, ReadFaultKind, Version};
 use dac_config::{Config, FaultKind, printed_name, read_config};
 use dac_deltas::{Acks, Buffer};
-use dac_dots::{Context, SharedContext};
+use dac_dots::Context;
 use dac_lattice::{MapOf, Max};
 use dac_origins::Origin;
 use dac_origins::keys::insert_key;
@@ -77,8 +77,6 @@ pub enum OfContext {
     Further,
     Write,
     Read,
-    Share,
-    ShareUnion,
 }
 
 /// A context, one to unite with it, and its bytes. The other contexts don't share its rows, so they show changes of it.
@@ -89,8 +87,6 @@ pub struct ContextFixture {
     context: Context,
     kept: Context,
     other: Context,
-    shared: SharedContext,
-    other_shared: SharedContext,
     bytes: Vec<u8>,
 }
 
@@ -110,19 +106,9 @@ pub fn contexts(alloc: Global, asked: OfContext) -> Option<ContextFixture> {
         asked,
         kept: context(alloc, &mine).ok()?,
         other: context(alloc, &theirs).ok()?,
-        shared: SharedContext::of(context(alloc, &mine).ok()?),
-        other_shared: SharedContext::of(context(alloc, &theirs).ok()?),
         bytes: bytes_of(alloc, &all).ok()?,
         context: all,
     })
-}
-
-/// The outcome of a call that returns a shared context.
-fn of_shared(answer: Result<SharedContext, NoMemory>) -> Said {
-    match answer {
-        Ok(shared) => Said::Well(short(shared.context().len())),
-        Err(_) => Said::NoMemory,
-    }
 }
 
 /// The outcome of a call that returns a context.
@@ -178,8 +164,6 @@ impl Fixture for ContextFixture {
             OfContext::Further => self.further(),
             OfContext::Write => of_bytes(bytes_of(self.alloc, &self.context)),
             OfContext::Read => self.read(),
-            OfContext::Share => of_shared(self.shared.copy()),
-            OfContext::ShareUnion => of_shared(self.shared.union(&self.other_shared)),
         }
     }
 

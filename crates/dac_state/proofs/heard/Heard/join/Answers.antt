@@ -13,13 +13,13 @@ pub returns-then-both_know_no_more-clause-known : goal.returns-then-both_know_no
 returns-then-both_know_no_more-clause-known c =
     let heard = rw (c.beside.ensures, c.beside-2.ensures) at c.in_ok-heard.ensures in
     let both = rw heard at (c.both_know_no_more.ensures c.if-both_know_no_more.true) in
-    c.in_ok-all.ensures ∙ heard ∙ all_heard _ _ _ _ c.requires.mine c.requires.theirs both.0 both.1
+    heard ∙ all_heard _ _ _ _ c.requires.mine c.requires.theirs both.0 both.1
 
 pub returns-then-both_know_no_more-clause-heard : goal.returns-then-both_know_no_more-clause-heard
-returns-then-both_know_no_more-clause-heard c = c.in_ok-all.ensures ∙ (rw (c.beside.ensures, c.beside-2.ensures) at c.in_ok-heard.ensures)
+returns-then-both_know_no_more-clause-heard c = rw (c.beside.ensures, c.beside-2.ensures) at c.in_ok-heard.ensures
 
 pub returns-clause-known : goal.returns-clause-known
-returns-clause-known c = c.in_ok-shared.ensures ∙ c.in_ok-both.ensures
+returns-clause-known c = c.in_ok-both.ensures
 
 pub returns-clause-heard : goal.returns-clause-heard
 returns-clause-heard c = rw (c.beside.ensures, c.beside-2.ensures) at c.in_ok-heard.ensures

@@ -21,7 +21,7 @@ pub heard_by-requires : goal.heard_by-requires
 heard_by-requires c = c.context.ensures ∙ ap (λ (v : WishesValue). v.known) c.in_ok-wishes.ensures.wishes
 
 pub permissions_by-requires-clause-known : goal.permissions_by-requires-clause-known
-permissions_by-requires-clause-known c = c.shared_context.ensures ∙ ap (λ (v : WishesValue). v.known) c.in_ok-wishes.ensures.wishes
+permissions_by-requires-clause-known c = c.context-2.ensures ∙ ap (λ (v : WishesValue). v.known) c.in_ok-wishes.ensures.wishes
 
 pub drains_by-requires-clause-known : goal.drains_by-requires-clause-known
-drains_by-requires-clause-known c = c.shared_context-2.ensures ∙ ap (λ (v : WishesValue). v.known) c.in_ok-wishes.ensures.wishes
+drains_by-requires-clause-known c = c.context-3.ensures ∙ ap (λ (v : WishesValue). v.known) c.in_ok-wishes.ensures.wishes
