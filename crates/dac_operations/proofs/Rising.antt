@@ -1,17 +1,12 @@
 -- Strictly sorted lists, one element after another.
-use Rattle.std.proofs.Common.{◌≡◌, ℕ, ◌+◌, ◌<◌, ◌≤◌, Bool, true, false, ◌&&◌, List, [], ◌∷◌, length, get_or, drop, refl, sym, ap, ◌∙◌, arith, length-drop}
+use Rattle.std.proofs.Common.{◌≡◌, ℕ, ◌+◌, ◌<◌, ◌≤◌, Bool, true, false, ◌&&◌, List, ◌∷◌, length, get_or, drop, sym, ap, ◌∙◌, arith, length-drop, [], refl}
 use Rattle.std.specs.declared.cmp.Ordering.{Ordering}
-use Rattle.std.specs.declared.cmp.Ordering.TheVariants.{Less, Equal, Greater}
 use Rattle.std.specs.Ordering.{is_lt}
 use Rattle.std.specs.Cmp.{IsTotalOrder}
-use Rattle.std.proofs.lemmas.Bool.{and_parts, and_from, and_left, false≢true}
+use Rattle.std.proofs.lemmas.Bool.{and_left, false≢true}
 use Rattle.std.proofs.lemmas.List.{drop_more}
 use Rattle.dac_origins.specs.Keys.{is_below_all, is_rising}
-
-less : (r : Ordering) → is_lt r ≡ true → r ≡ Less
-less Less p = refl
-less Equal p = absurd (false≢true p)
-less Greater p = absurd (false≢true p)
+use Rattle.dac_origins.specs.laws.InOrder.{less, below_more}
 
 -- a conjunct that follows from the next one can be dropped
 and_follows : (x y z : Bool) → (y ≡ true → x ≡ true) → (x && (y && z)) ≡ (y && z)
@@ -20,15 +15,11 @@ and_follows false true z h = absurd (false≢true (h refl))
 and_follows false false z h = refl
 
 module _ {K : Type 0} {R : K → K → Ordering} (o : IsTotalOrder R) where
-  below_more : (x y : K) (ks : List K) → R x y ≡ Less → is_below_all R y ks ≡ true → is_below_all R x ks ≡ true
-  below_more x y [] p h = refl
-  below_more x y (k ∷ ks) p h = and_from _ _ (ap is_lt (o.trans x y k p (less _ (and_parts _ _ h).0))) (below_more x y ks p (and_parts _ _ h).1)
-
   -- a first element below the second one doesn't change whether the list is sorted
   rising_next : (x y : K) (ks : List K) → is_lt (R x y) ≡ true → is_rising R (x ∷ y ∷ ks) ≡ is_rising R (y ∷ ks)
   rising_next x y ks p =
       ap (λ b. (b && is_below_all R x ks) && (is_below_all R y ks && is_rising R ks)) p
-      ∙ and_follows (is_below_all R x ks) (is_below_all R y ks) (is_rising R ks) (below_more x y ks (less _ p))
+      ∙ and_follows (is_below_all R x ks) (is_below_all R y ks) (is_rising R ks) (below_more o x y ks (less _ p))
 
   two_at : (ks : List K) (i j : ℕ) (e : K) → j ≡ i + 1 → j < length ks → drop i ks ≡ get_or ks i e ∷ get_or ks j e ∷ drop (j + 1) ks
   two_at ks i j e is p = drop_more ks i e (omega arith) ∙ ap (λ n. get_or ks i e ∷ drop n ks) (sym is) ∙ ap (λ l. get_or ks i e ∷ l) (drop_more ks j e p)

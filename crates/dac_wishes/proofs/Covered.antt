@@ -1,7 +1,7 @@
 -- A value is above an operation's delta exactly if it knows the dots that the operation names, and each of its standing
 -- writes is one that such a value can contain.
 use Rattle.std.proofs.Common.{◌≡◌, Bool, true, false, not, cond, ◌&&◌, ◌||◌, List, [], ◌∷◌, Option, None, Some, is_some, ◌↔◌, refl, sym, ap, subst, ◌∙◌, inl, inr}
-use Rattle.std.specs.Prelude.{T, unwrap_or}
+use Rattle.std.specs.Prelude.{T}
 use Rattle.std.specs.declared.cmp.Ordering.{Ordering}
 use Rattle.std.specs.Ordering.{eq_by_cmp, is_eq}
 use Rattle.std.specs.Cmp.{IsTotalOrder}
@@ -12,6 +12,7 @@ use Rattle.std.specs.FinMap.{find, is_sorted}
 use Rattle.std.proofs.lemmas.Bool.{true≢false, false≢true, and_parts, and_from, or_cases, or_left, or_right}
 use Rattle.std.proofs.lemmas.Cmp.{tied_itself}
 use Rattle.std.proofs.lemmas.Map.Lookups.{CmpEqualImpliesEq}
+use Rattle.std.proofs.lemmas.Option.{same_Some}
 use Rattle.dac_origins.specs.declared.dot.Dot.{Dot}
 use Rattle.dac_origins.specs.declared.dot.Origin.{Origin}
 use Rattle.dac_origins.specs.Dots.{Dots, IsSubset, dot_cmp, origin_cmp}
@@ -20,7 +21,6 @@ use Rattle.dac_origins.specs.Keys.{has_key}
 use Rattle.dac_origins.specs.InOrder.{in_order}
 use Rattle.dac_origins.specs.laws.InOrder.{has_key-in_order}
 use Rattle.dac_lattice.specs.declared.flags.Flag.{Flag}
-use Rattle.dac_lattice.specs.declared.flags.Flag.TheVariants.{Up, Down}
 use Rattle.dac_lattice.specs.Chains.{IsAny}
 use Rattle.dac_lattice.specs.Maps.{IsMap}
 use Rattle.dac_lattice.specs.Flags.{IsFlagBelow}
@@ -51,11 +51,9 @@ use Rattle.dac_wishes.specs.laws.WishMeaning.{contains-delta}
 use Rattle.dac_wishes.specs.StartsByKey.{starts_by_key}
 use Rattle.dac_wishes.specs.laws.StartsByKey.{contains-writes_of, are_starts, writes_again}
 use Rattle.dac_wishes.specs.Covering.{permit_act, drain_act, wish_act, is_flag_at_most, lets_stand, let_stand, is_wish_of, lets_wish, let_wishes}
+use Rattle.dac_lattice.specs.declared.flags.Flag.TheVariants.{Up, Down}
 
 -- ---- a test of all entries of a list
-
-some_same : {X : Type 0} (x y : X) → Some x ≡ Some y → x ≡ y
-some_same x y e = ap (λ o. unwrap_or o x) e
 
 module _ {K X : Type 0} {R : K → K → Ordering} (exact : CmpEqualImpliesEq R) (p : K × X → Bool) where
   -- if each entry passes, so does one that a search finds
@@ -64,7 +62,7 @@ module _ {K X : Type 0} {R : K → K → Ordering} (exact : CmpEqualImpliesEq R)
   found_passes (e ∷ m) k x h is =
       let both = and_parts (p e) (list_all p m) h in
       elim (eq_by_cmp R k e.0) as (λ b. eq_by_cmp R k e.0 ≡ b → cond b (Some e.1) (find R k m) ≡ Some x → p (k, x) ≡ true) [
-        | true ↦ λ t there. (λ i. p (tied_is exact k e.0 t i, sym (some_same e.1 x there) i)) ∙ both.0
+        | true ↦ λ t there. (λ i. p (tied_is exact k e.0 t i, sym (same_Some e.1 x there) i)) ∙ both.0
         | false ↦ λ t there. found_passes m k x both.1 there
       ] refl is
 

@@ -4,7 +4,8 @@ use Rattle.std.proofs.Common.{sym, ap, ◌∙◌}
 use Rattle.std.specs.Ordering.{eq_by_cmp}
 use Rattle.std.specs.FinSet as set
 use Rattle.std.specs.FinMap.{find}
-use Rattle.std.proofs.lemmas.Bool.{false≢true, or_left}
+use Rattle.std.proofs.lemmas.Bool.{or_left, false≢true}
+use Rattle.std.proofs.Math.Bool.{or-false}
 use Rattle.dac_origins.specs.declared.dot.Dot.{Dot}
 use Rattle.dac_origins.specs.Dots.{dot_cmp}
 use Rattle.dac_origins.specs.laws.Dots.{dots_total}
@@ -26,15 +27,11 @@ use Rattle.dac_wishes.specs.laws.WishMeaning.{contains-delta}
 use Rattle.dac_wishes.specs.WishMeaning as wish
 use Rattle.dac_wishes.specs.StoredDeltas.{stored_start}
 
-or_false : (b : Bool) → (b || false) ≡ b
-or_false true = refl
-or_false false = refl
-
 -- ---- starts
 
 -- the set of one dot
 one_dot : (d x : Dot) → set.contains (set.insert (set.empty {R = dot_cmp}) d) x ≡ same_dot x d
-one_dot d x = set.contains-insert dots_total set.empty d x ∙ ap (λ b. same_dot x d || b) (set.contains-empty dot_cmp x) ∙ or_false (same_dot x d)
+one_dot d x = set.contains-insert dots_total set.empty d x ∙ ap (λ b. same_dot x d || b) (set.contains-empty dot_cmp x) ∙ or-false (same_dot x d)
 
 pub one_not_empty : (d : Dot) → is_empty_set (set.insert (set.empty {R = dot_cmp}) d) ≡ false
 one_not_empty d =
@@ -51,7 +48,7 @@ start_keyed d (Start key over) = record { in_order = tt; stores = λ k. start_ke
 start_keyed d (OtherWish over) = record { in_order = tt; stores = λ k. tt }
 
 start_held : (d : Dot) (a : WishAct) (x : Dot) → has_in set.contains (stored_start d a) x ≡ true → same_dot x d ≡ true
-start_held d (Start key over) x e = sym (one_dot d x) ∙ sym (or_false _) ∙ e
+start_held d (Start key over) x e = sym (one_dot d x) ∙ sym (or-false _) ∙ e
 start_held d (OtherWish over) x e = absurd (false≢true e)
 
 -- a delta's dot is known

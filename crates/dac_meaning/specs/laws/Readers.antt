@@ -1,18 +1,18 @@
 -- The parts of a meaning, one by one.
-use Rattle.std.proofs.Common.{◌≡◌, Bool, true, false, not, cond, ◌&&◌, ◌||◌, List, [], ◌∷◌, Option, None, Some, map as list_map, refl, sym, ap, ◌∙◌}
+use Rattle.std.proofs.Common.{◌≡◌, Bool, true, false, not, cond, ◌&&◌, ◌||◌, List, ◌∷◌, Option, None, map as list_map, refl, sym, ap, ◌∙◌, Some}
 use Rattle.std.specs.List.{list_any, flat_map}
 use Rattle.std.specs.declared.cmp.Ordering.{Ordering}
 use Rattle.std.specs.Ordering.{eq_by_cmp}
 use Rattle.std.specs.Cmp.{IsTotalOrder}
 use Rattle.std.specs.FinSet as set
 use Rattle.std.specs.FinMap as map
-use Rattle.std.proofs.lemmas.Bool.{false≢true, and_parts, and_from, or_left}
-use Rattle.std.proofs.lemmas.List.Folds.{list_any-append}
 use Rattle.std.proofs.lemmas.Map.Lookups.{CmpEqualImpliesEq}
+use Rattle.std.proofs.lemmas.Bool.{false≢true, and_parts, and_from, or_left}
 use Rattle.dac_origins.specs.declared.dot.Dot.{Dot}
 use Rattle.dac_origins.specs.laws.Dots.{dots_total, origins_total, exact_origins}
 use Rattle.dac_lattice.specs.declared.flags.Flag.{Flag}
 use Rattle.dac_base.specs.laws.Ids.{nodes_total, exact_nodes, apps_total, exact_apps}
+use Rattle.dac_origins.specs.laws.Basics.{list_any-list_map, list_any-flat_map}
 use Rattle.dac_lattice.specs.Flags.{flag_cmp}
 use Rattle.dac_lattice.specs.laws.Flags.{flags_exact}
 use Rattle.dac_chains.specs.Greatest.{AreGreatest}
@@ -21,26 +21,18 @@ use Rattle.dac_chains.specs.laws.Lives.{lives_total, exact_lives}
 use Rattle.dac_chains.specs.Claims.{claim_cmp, how_cmp}
 use Rattle.dac_chains.specs.laws.Claims.{claims_total, exact_hows, exact_claims}
 use Rattle.dac_wishes.specs.laws.Keys.{keys_total, exact_keys}
-use Rattle.dac_wishes.specs.KeyedWrites.{KeyedWrite, keyed_write, keyed_write_cmp}
+use Rattle.dac_wishes.specs.KeyedWrites.{KeyedWrite, keyed_write_cmp, keyed_write}
 use Rattle.dac_wishes.specs.laws.KeyedWrites.{keyed_writes_total, exact_keyed_writes, same_keyed_write}
 use Rattle.dac_wishes.specs.Writes.{Write, write_cmp, same_dot}
 use Rattle.dac_wishes.specs.laws.Writes.{writes_total, exact_writes, same_write, list_any-alike}
 use Rattle.dac_wishes.specs.DrainsValue.{DrainWrite}
 use Rattle.dac_operations.specs.declared.act.Act.{Act}
-use Rattle.dac_operations.specs.declared.act.Act.TheVariants.{Up, Down, Permit, Start, Stop, Drain, Claim}
 use Rattle.dac_operations.specs.Operations.{Operation, over_list}
 use Rattle.dac_meaning.specs.laws.Tables.{get-table, given_or_none}
-use Rattle.dac_meaning.specs.Meaning.{meaning_of, has_dot, is_replaced, names, starts_in, wishes, is_start, is_same, flag_written, vote_says, writes_by_vote, is_vote, vote_at, votes_of, permit_vote, permit_at, drain_vote, drain_at, pairs, life_said, claim_said, lives_of, claims_of}
+use Rattle.dac_meaning.specs.Meaning.{meaning_of, has_dot, is_replaced, names, starts_in, wishes, is_start, flag_written, vote_says, writes_by_vote, is_vote, vote_at, votes_of, permit_vote, permit_at, drain_vote, drain_at, pairs, life_said, claim_said, lives_of, claims_of, is_same}
 use Rattle.dac_meaning.specs.laws.Members.{list_any-narrower}
 use Rattle.dac_meaning.specs.laws.Chained.{are_greatest}
-
-list_any-list_map : {X Y : Type 0} (p : Y → Bool) (f : X → Y) (xs : List X) → list_any p (list_map f xs) ≡ list_any (λ x. p (f x)) xs
-list_any-list_map p f [] = refl
-list_any-list_map p f (x ∷ xs) = ap (λ b. p (f x) || b) (list_any-list_map p f xs)
-
-list_any-flat_map : {X Y : Type 0} (p : Y → Bool) (f : X → List Y) (xs : List X) → list_any p (flat_map f xs) ≡ list_any (λ x. list_any p (f x)) xs
-list_any-flat_map p f [] = refl
-list_any-flat_map p f (x ∷ xs) = list_any-append p (f x) (flat_map f xs) ∙ ap (λ b. list_any p (f x) || b) (list_any-flat_map p f xs)
+use Rattle.dac_operations.specs.declared.act.Act.TheVariants.{Up, Down, Permit, Start, Stop, Drain, Claim}
 
 pub or-false : (b : Bool) → (b || false) ≡ b
 or-false true = refl

@@ -1,5 +1,5 @@
 -- Laws of the definitions in `ByKey`.
-use Rattle.std.specs.Prelude.{◌≡◌, Bool, true, false, not, cond, ◌||◌, ◌&&◌, T, List, [], ◌∷◌, Option, None, Some, refl, filter, map as list_map}
+use Rattle.std.specs.Prelude.{◌≡◌, Bool, true, false, not, cond, ◌||◌, T, List, [], ◌∷◌, Option, None, Some, refl, filter, map as list_map}
 use Rattle.std.proofs.Common.{sym, ap, subst, ◌∙◌}
 use Rattle.std.specs.declared.cmp.Ordering.{Ordering}
 use Rattle.std.specs.Ordering.{eq_by_cmp}
@@ -15,12 +15,10 @@ use Rattle.std.specs.List.{list_any}
 use Rattle.std.specs.Cmp.{IsTotalOrder}
 use Rattle.std.specs.FinSet as set
 use Rattle.std.proofs.lemmas.Cmp.{eq_by_cmp_equiv}
+use Rattle.std.proofs.Math.Facts.{yes_and}
 use Rattle.dac_origins.specs.laws.InOrder.{in_order-rising, has_key-in_order}
+use Rattle.dac_origins.specs.laws.Basics.{list_any-list_map}
 use Rattle.dac_store.specs.DotFuns.{is_empty_list}
-
-list_any-list_map : {X Y : Type 0} (p : Y → Bool) (f : X → Y) (xs : List X) → list_any p (list_map f xs) ≡ list_any (λ x. p (f x)) xs
-list_any-list_map p f [] = refl
-list_any-list_map p f (x ∷ xs) = ap (λ b. p (f x) || b) (list_any-list_map p f xs)
 
 module _ {K X : Type 0} {R : K → K → Ordering} (keys_total : IsTotalOrder R) (exact_keys : CmpEqualImpliesEq R) (key : X → K) where
   -- the elements at a key
@@ -56,10 +54,6 @@ module _ {K X : Type 0} {R : K → K → Ordering} (keys_total : IsTotalOrder R)
       mapped [] = refl
       mapped (y ∷ ys) = refl
 
-both : (a b : Bool) → T a → T b → T (a && b)
-both true b p q = q
-both false b p q = p
-
 module _ {K S : Type 0} {R : K → K → Ordering} (exact_keys : CmpEqualImpliesEq R) (at : K → S) where
   find-by_key : (ks : List K) (q : K) → find R q (by_key at ks) ≡ cond (has_key R ks q) (Some (at q)) None
   find-by_key [] q = refl
@@ -70,11 +64,11 @@ module _ {K S : Type 0} {R : K → K → Ordering} (exact_keys : CmpEqualImplies
 
   below_by_key : (x : K) (ks : List K) → is_below_all R x ks ≡ true → T (below_all R x (by_key at ks))
   below_by_key x [] h = tt
-  below_by_key x (k ∷ ks) h = both _ _ (subst T (sym (and_parts _ _ h).0) tt) (below_by_key x ks (and_parts _ _ h).1)
+  below_by_key x (k ∷ ks) h = yes_and _ _ (subst T (sym (and_parts _ _ h).0) tt) (below_by_key x ks (and_parts _ _ h).1)
 
   pub sorted_by_key : (ks : List K) → IsRising R ks → T (is_sorted R (by_key at ks))
   sorted_by_key [] h = tt
-  sorted_by_key (k ∷ ks) h = both _ _ (below_by_key k ks (and_parts _ _ h).0) (sorted_by_key ks (and_parts _ _ h).1)
+  sorted_by_key (k ∷ ks) h = yes_and _ _ (below_by_key k ks (and_parts _ _ h).0) (sorted_by_key ks (and_parts _ _ h).1)
 
   module _ (is_empty : S → Bool) where
     -- a search returns the value at the key, unless it is empty

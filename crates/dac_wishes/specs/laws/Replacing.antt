@@ -8,17 +8,12 @@ use Rattle.dac_lattice.specs.Pieces.{IsGivenIn, AreOperations}
 use Rattle.dac_wishes.specs.laws.KeyedWrites.{same_dot_is}
 use Rattle.dac_wishes.specs.Replacing.{is_under, replaces, is_replaced, names, ExcludesOwnDot, named_by, AreNamedIn}
 use Rattle.std.specs.FinSet as set
+use Rattle.std.proofs.Math.Bool.{or_comm}
 use Rattle.dac_origins.specs.Dots.{Dots, dot_cmp}
 use Rattle.dac_origins.specs.laws.Dots.{dots_total}
 use Rattle.dac_origins.specs.Keys.{has_key}
 
 module _ {A : Type 0} (over : A → List Dot) where
-  or_turn : (a b : Bool) → (a || b) ≡ (b || a)
-  or_turn true true = refl
-  or_turn true false = refl
-  or_turn false true = refl
-  or_turn false false = refl
-
   pub contains-named_by : (d : Dot) (a : A) (x : Dot) → set.contains (named_by over d a) x ≡ names over x (d, a)
   contains-named_by d a x = set.contains-from_list dots_total (d ∷ over a) x
 
@@ -27,7 +22,7 @@ module _ {A : Type 0} (over : A → List Dot) where
   known_more os o known h x =
       set.contains-union dots_total known (named_by over o.0 o.1) x
       ∙ (λ i. h x i || contains-named_by o.0 o.1 x i)
-      ∙ or_turn (list_any (names over x) os) (names over x o)
+      ∙ or_comm (list_any (names over x) os) (names over x o)
 
   -- a dot is named exactly if it is replaced or an operation's own
   pub names-or : (x : Dot) (os : List (Dot × A)) → list_any (names over x) os ≡ (is_replaced over x os || list_any (is_under x) os)

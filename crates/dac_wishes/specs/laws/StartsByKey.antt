@@ -1,18 +1,18 @@
 -- Laws of the definitions in `StartsByKey`.
-use Rattle.std.specs.Prelude.{◌≡◌, Bool, true, false, not, cond, ◌&&◌, ◌||◌, T, List, [], ◌∷◌, None, Some, nat_eq, map as list_map, refl}
+use Rattle.std.specs.Prelude.{◌≡◌, Bool, true, false, not, cond, ◌&&◌, ◌||◌, T, List, [], ◌∷◌, None, Some, nat_eq, refl}
 use Rattle.std.proofs.Common.{sym, ap, ◌∙◌}
 use Rattle.std.specs.List.{list_any, flat_map}
 use Rattle.std.specs.Ordering.{eq_by_cmp, is_eq}
-use Rattle.std.specs.Cmp.{tied_itself}
 use Rattle.std.specs.FinSet as set
 use Rattle.std.specs.FinMap.{find, is_sorted}
 use Rattle.std.specs.FinMap.Entries.{same_entries}
-use Rattle.std.proofs.lemmas.Bool.{false≢true, or_left, eqb-true, false_from_ne_true}
-use Rattle.std.proofs.lemmas.List.Folds.{list_any-append}
+use Rattle.std.specs.Cmp.{tied_itself}
+use Rattle.std.proofs.lemmas.Bool.{eqb-true, false_from_ne_true, false≢true, or_left}
 use Rattle.dac_origins.specs.declared.dot.Dot.{Dot}
 use Rattle.dac_origins.specs.Dots.{Dots, dot_cmp}
 use Rattle.dac_origins.specs.laws.Dots.{dots_total, exact_dots}
 use Rattle.dac_origins.specs.Keys.{has_key}
+use Rattle.dac_origins.specs.laws.Basics.{list_any-list_map, list_any-flat_map}
 use Rattle.dac_lattice.specs.Chains.{IsAny}
 use Rattle.dac_lattice.specs.laws.Entries.{find_below}
 use Rattle.dac_lattice.specs.laws.EntryLaws.{first, second}
@@ -29,14 +29,6 @@ use Rattle.dac_wishes.specs.laws.ByKey.{keys_in-rising, none_if_absent, find_kep
 use Rattle.dac_wishes.specs.StartsByKey.{AreStarts, keys_of, starts_by_key}
 
 -- ---- standing wishes
-
-pub list_any-list_map : {X Y : Type 0} (p : Y → Bool) (f : X → Y) (xs : List X) → list_any p (list_map f xs) ≡ list_any (λ x. p (f x)) xs
-list_any-list_map p f [] = refl
-list_any-list_map p f (x ∷ xs) = ap (λ b. p (f x) || b) (list_any-list_map p f xs)
-
-pub list_any-flat_map : {X Y : Type 0} (p : Y → Bool) (f : X → List Y) (xs : List X) → list_any p (flat_map f xs) ≡ list_any (λ x. list_any p (f x)) xs
-list_any-flat_map p f [] = refl
-list_any-flat_map p f (x ∷ xs) = list_any-append p (f x) (flat_map f xs) ∙ ap (λ b. list_any p (f x) || b) (list_any-flat_map p f xs)
 
 list_any-and : {X : Type 0} (b : Bool) (p : X → Bool) (xs : List X) → list_any (λ x. b && p x) xs ≡ (b && list_any p xs)
 list_any-and true p xs = refl

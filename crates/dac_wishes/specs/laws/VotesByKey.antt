@@ -1,5 +1,5 @@
 -- Laws of the definitions in `VotesByKey`.
-use Rattle.std.specs.Prelude.{◌≡◌, Bool, true, false, not, cond, ◌&&◌, T, List, [], ◌∷◌, ◌++◌, Option, None, Some, filter, map as list_map, refl}
+use Rattle.std.specs.Prelude.{◌≡◌, true, false, not, cond, ◌&&◌, T, List, [], ◌∷◌, ◌++◌, Option, None, Some, filter, map as list_map, refl}
 use Rattle.std.proofs.Common.{sym, ap, subst, ◌∙◌}
 use Rattle.std.specs.declared.cmp.Ordering.{Ordering}
 use Rattle.std.specs.declared.cmp.Ordering.TheVariants.{Equal}
@@ -10,6 +10,7 @@ use Rattle.std.specs.FinMap as map
 use Rattle.std.specs.FinMap.{find, is_sorted}
 use Rattle.std.specs.FinMap.Entries.{below_all, same_entries}
 use Rattle.std.proofs.lemmas.Map.Lookups.{CmpEqualImpliesEq}
+use Rattle.std.proofs.Math.Facts.{yes_and}
 use Rattle.dac_origins.specs.declared.dot.Dot.{Dot}
 use Rattle.dac_origins.specs.Dots.{dot_cmp}
 use Rattle.dac_origins.specs.laws.Dots.{dots_total, exact_dots}
@@ -40,10 +41,6 @@ find-append R q (e ∷ es) fs = elim (eq_by_cmp R q e.0) as (λ t. cond t (Some 
   | true ↦ refl
   | false ↦ find-append R q es fs
 ]
-
-both : (a b : Bool) → T a → T b → T (a && b)
-both true b p q = q
-both false b p q = p
 
 any_flag : (v : Option Flag) → IsOptionOf {T = Flag} IsAny v
 any_flag None = tt
@@ -98,14 +95,14 @@ module _ {K : Type 0} {R : K → K → Ordering} (keys_total : IsTotalOrder R) (
   below_among : (key : K) (w : KeyedWrite K) (es : List (KeyedWrite K × Flag)) → eq_by_cmp R w.key key ≡ true → T (below_all (keyed_write_cmp R) w es) → T (below_all dot_cmp w.dot (votes_among R key es))
   below_among key w [] s h = tt
   below_among key w (e ∷ es) s h = elim (eq_by_cmp R e.0.key key) as (λ b. eq_by_cmp R e.0.key key ≡ b → T (below_all dot_cmp w.dot (list_map (λ (e : KeyedWrite K × Flag). (e.0.dot, e.1)) (cond b (e ∷ filter (λ (e : KeyedWrite K × Flag). eq_by_cmp R e.0.key key) es) (filter (λ (e : KeyedWrite K × Flag). eq_by_cmp R e.0.key key) es))))) [
-    | true ↦ λ t. both _ _ (subst (λ r. T (is_lt r)) (one_key key w e.0 s t) (first _ _ h)) (below_among key w es s (second _ _ h))
+    | true ↦ λ t. yes_and _ _ (subst (λ r. T (is_lt r)) (one_key key w e.0 s t) (first _ _ h)) (below_among key w es s (second _ _ h))
     | false ↦ λ t. below_among key w es s (second _ _ h)
   ] refl
 
   sorted_among : (key : K) (es : List (KeyedWrite K × Flag)) → T (is_sorted (keyed_write_cmp R) es) → T (is_sorted dot_cmp (votes_among R key es))
   sorted_among key [] h = tt
   sorted_among key (e ∷ es) h = elim (eq_by_cmp R e.0.key key) as (λ b. eq_by_cmp R e.0.key key ≡ b → T (is_sorted dot_cmp (list_map (λ (e : KeyedWrite K × Flag). (e.0.dot, e.1)) (cond b (e ∷ filter (λ (e : KeyedWrite K × Flag). eq_by_cmp R e.0.key key) es) (filter (λ (e : KeyedWrite K × Flag). eq_by_cmp R e.0.key key) es))))) [
-    | true ↦ λ t. both _ _ (below_among key e.0 es t (first _ _ h)) (sorted_among key es (second _ _ h))
+    | true ↦ λ t. yes_and _ _ (below_among key e.0 es t (first _ _ h)) (sorted_among key es (second _ _ h))
     | false ↦ λ t. sorted_among key es (second _ _ h)
   ] refl
 

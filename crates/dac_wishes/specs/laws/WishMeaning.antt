@@ -4,7 +4,8 @@ use Rattle.std.proofs.Common.{sym, ap, ◌∙◌, inl, inr}
 use Rattle.std.specs.List.{list_any}
 use Rattle.std.specs.Ordering.{eq_by_cmp}
 use Rattle.std.specs.FinSet as set
-use Rattle.std.proofs.lemmas.Bool.{false≢true, true≢false, and_parts, or_left}
+use Rattle.std.proofs.lemmas.Bool.{and_parts, or_left, false≢true, true≢false}
+use Rattle.std.proofs.Math.Bool.{or-false}
 use Rattle.dac_origins.specs.declared.dot.Dot.{Dot}
 use Rattle.dac_origins.specs.Dots.{Dots, dot_cmp}
 use Rattle.dac_lattice.specs.Pieces.{AreOperations, IsPiece}
@@ -22,15 +23,11 @@ use Rattle.dac_wishes.specs.WishMeaning.{IsMeaning, is_start, over_of, starts_in
 
 -- ---- the joined deltas of operations are their meaning
 
-or_false : (b : Bool) → (b || false) ≡ b
-or_false true = refl
-or_false false = refl
-
 pub contains-delta : (d : Dot) (a : WishAct) (w : Write) → set.contains (wish_delta d a).standing w ≡ is_start w (d, a)
 contains-delta d a w = set.contains-from_list writes_total (starts_in d a) w ∙ in_starts a
   where
     in_starts : (a : WishAct) → list_any (eq_by_cmp write_cmp w) (starts_in d a) ≡ is_start w (d, a)
-    in_starts (Start key over) = or_false _ ∙ same_write w key d
+    in_starts (Start key over) = or-false _ ∙ same_write w key d
     in_starts (Other over) = refl
 
 -- k, e, o: the operation starts the key, has the dot, replaces it. st, dt, ov: among the earlier ones, some writes the
