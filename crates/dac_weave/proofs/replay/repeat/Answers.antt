@@ -1,5 +1,5 @@
 use Rattle.std.proofs.Common.{Ok, Err, sym, subst}
-use Rattle.dac_messages.specs.declared.reply.Reply.{Reply}
+use Rattle.dac_weave.specs.laws.Common.{Reply}
 use Rattle.dac_journal.specs.NodeValue.{NodeValue}
 use Rattle.dac_journal.specs.Step.{Steps}
 use Rattle.dac_journal.specs.laws.Steps.{steps, answered_steps}
