@@ -52,11 +52,10 @@ wait_spells (Ms n) can = (can, tt)
 
 put_spells : (w : Written) (param : Param) → CanSpell param → Each CanSpell (said_params w) → Each CanSpell (said_params (put w param))
 put_spells w (Distributed apps) can h = (can, h.1)
-put_spells w (Permissions permissions) can h = h
 put_spells w (Mandatory names) can h = (h.0, (can, h.1.1))
 put_spells w (Optional names) can h = (h.0, (h.1.0, (can, h.1.1.1)))
 put_spells w (Timeout wait) can h = (h.0, (h.1.0, (h.1.1.0, wait_spells wait can)))
-put_spells w Param.Other can h = h
+put_spells w _ can h = h
 
 all_spell : (w : Written) (params : List Param) → Each CanSpell params → Each CanSpell (said_params w) → Each CanSpell (said_params (put_all w params))
 all_spell w [] can h = h
@@ -69,8 +68,7 @@ abbrev Says : List ℕ → ParamName → Written → Type 0
 Says name named.Distributed w = is_among name (joined (map names_of_app w.apps)) ≡ true
 Says name named.Mandatory w = is_among name w.mandatory ≡ true
 Says name named.Optional w = is_among name w.optional ≡ true
-Says name named.Timeout w = ⊥
-Says name named.Permissions w = ⊥
+Says name _ w = ⊥
 
 abbrev count_of : ParamName → List Param → ℕ
 count_of n params = count_by (λ param. is_named n (name_of param)) params
@@ -107,8 +105,7 @@ says_names name n w h =
     by named.Distributed k = or_left _ _ k
     by named.Mandatory k = or_right _ _ (or_left _ _ k)
     by named.Optional k = or_right _ _ (or_right _ _ k)
-    by named.Timeout k = absurd k
-    by named.Permissions k = absurd k
+    by _ k = absurd k
 
 -- if each parameter occurs once, every node in a parameter is in the draft
 all_said : (name : List ℕ) (w : Written) (params : List Param) → ((n : ParamName) → count_of n params ≤ 1) → is_among name (joined (map names_of_param params)) ≡ true → is_among name (said_names (put_all w params)) ≡ true
@@ -273,8 +270,7 @@ module _ (w : Written) (know : Known w) where
 
   no_names : (wait : SyncWait) → joined (map names_of_param (wait_params wait ++ [])) ≡ []
   no_names NoSync = refl
-  no_names Forever = refl
-  no_names (Ms n) = refl
+  no_names _ = refl
 
   -- a name in the draft is a node
   and_known : (a b : Bool) → (b ≡ true → a ≡ true) → (a && b) ≡ b
@@ -312,8 +308,7 @@ module _ (w : Written) (know : Known w) where
 
   wait_within : (wait : SyncWait) → Each IsValueWithin (wait_params wait ++ [])
   wait_within NoSync = tt
-  wait_within Forever = (tt, tt)
-  wait_within (Ms n) = (tt, tt)
+  wait_within _ = (tt, tt)
 
   once : (wait : SyncWait) (n : ParamName) (apps : List App) (bans : List Permission) (mandatory optional : List (List ℕ))
       → count_by (λ param. is_named n (name_of param)) (Distributed apps ∷ Permissions bans ∷ Mandatory mandatory ∷ Optional optional ∷ (wait_params wait ++ [])) ≤ 1
@@ -349,8 +344,7 @@ module _ (w : Written) (know : Known w) where
 
   waiting : (nodes : List (List ℕ)) (wait : SyncWait) → put_all (again nodes NoSync) (wait_params wait) ≡ again nodes wait
   waiting nodes NoSync = refl
-  waiting nodes Forever = refl
-  waiting nodes (Ms n) = refl
+  waiting nodes _ = refl
 
   -- a node remains in each list that contains it when the list is sorted
   stays : (group : List (List ℕ)) → All (λ name. is_among name group ≡ is_among name (named_in (sorted w) group)) (sorted w)
@@ -374,10 +368,9 @@ module _ (w : Written) (know : Known w) where
   ban_passes : (c e p m x : Bool) → (e ≡ true → c ≡ p) → x ≡ (p || not m) → cond c x (cond e false x) ≡ (p || not (e || m))
   ban_passes true true true m x same is = is
   ban_passes true true false m x same is = let h : true ≡ false = same refl in absurd cc
-  ban_passes true false p m x same is = is
   ban_passes false true true m x same is = let h : false ≡ true = same refl in absurd cc
   ban_passes false true false m x same is = refl
-  ban_passes false false p m x same is = is
+  ban_passes _ false p m x same is = is
 
   ban_split : (row : AppRow) (rest : List AppRow) (name : List ℕ) (c : Bool) → permitted (map ban (cond (not c) (row ∷ rest) rest)) name ≡ cond c (permitted (map ban rest) name) (cond (bytes_eq row.name name) false (permitted (map ban rest) name))
   ban_split row rest name true = refl

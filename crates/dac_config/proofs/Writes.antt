@@ -191,8 +191,7 @@ written_bans apps = map ban (filter (λ app. not app.permission) apps)
 
 abbrev pub wait_params : SyncWait → List Param
 wait_params NoSync = []
-wait_params Forever = Timeout Forever ∷ []
-wait_params (Ms n) = Timeout (Ms n) ∷ []
+wait_params w = Timeout w ∷ []
 
 abbrev pub params_of : Table → List Param
 params_of table =

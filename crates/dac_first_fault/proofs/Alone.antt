@@ -160,10 +160,7 @@ none_more (u ∷ a) l e = cc
 
 spoils_of : (w : Word) (ws : List Word) (k : FaultKind) → IsNoName w → Brings w ws k → Spoils ws k
 spoils_of (Name name) ws k no_name brings = absurd no_name
-spoils_of (Punctuation symbol) ws k no_name brings = brings
-spoils_of (Number negative digits) ws k no_name brings = brings
-spoils_of Text ws k no_name brings = brings
-spoils_of End ws k no_name brings = brings
+spoils_of _ ws k no_name brings = brings
 
 -- the last of a list of tokens is unique
 last_same : (a b : List Located) (o p : Located) → a ++ o ∷ [] ≡ b ++ p ∷ [] → o ≡ p

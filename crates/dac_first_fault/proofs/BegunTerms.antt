@@ -113,11 +113,7 @@ module _ (pass : Located → State → Result (Located × State) ConfigFault) (p
   term_by_sees Text offset n s short = shifted by_behind (λ own x. IsTerm own) (Text ∷ []) (words_in s) (texts_at n s) (weaker by_behind (λ own x. AreTexts own) (λ own x. IsTerm (Text ∷ own)) (λ own x all. Strings own all) (words_in s) (texts_at n s) (texts_see n s short))
   term_by_sees (Punctuation OpenList) offset n s short = shifted by_behind (λ own x. IsTerm own) (Punctuation OpenList ∷ []) (words_in s) (terms_in pass CloseList n s) (in_sees pass CloseList passes OpenList OfList n s short)
   term_by_sees (Punctuation OpenTuple) offset n s short = shifted by_behind (λ own x. IsTerm own) (Punctuation OpenTuple ∷ []) (words_in s) (terms_in pass CloseTuple n s) (in_sees pass CloseTuple passes OpenTuple OfTuple n s short)
-  term_by_sees (Punctuation CloseList) offset n s short = λ h. absurd h
-  term_by_sees (Punctuation CloseTuple) offset n s short = λ h. absurd h
-  term_by_sees (Punctuation Comma) offset n s short = λ h. absurd h
-  term_by_sees (Punctuation FullStop) offset n s short = λ h. absurd h
-  term_by_sees End offset n s short = λ h. absurd h
+  term_by_sees _ offset n s short = λ h. absurd h
 
 term_sees : (n : ℕ) (t : Located) (s : State) → IsShort s → Skipped IsTerm (t.word ∷ words_in s) (term_at n t s)
 unfolding term_at

@@ -27,8 +27,7 @@ module _ (A B : FaultKind → Type 0) (to : (kind : FaultKind) → A kind → B 
   value_fewer seen (Permissions permissions) k = all_to with_permission (PermissionKeeps B) (PermissionKeeps A) (λ before seen x short a. short (to NameTooLong a)) [] seen permissions k
   value_fewer seen (Mandatory names) k = nodes_fewer true seen names k
   value_fewer seen (Optional names) k = nodes_fewer true seen names k
-  value_fewer seen (Timeout wait) k = tt
-  value_fewer seen Param.Other k = tt
+  value_fewer seen _ k = tt
 
   param_fewer : (before : List Param) (seen : Seen) (p : Param) → ParamKeeps B before seen p → ParamKeeps A before seen p
   param_fewer before seen p k = record { once = λ a. k.once (to BadShape a); value = value_fewer seen p k.value }

@@ -40,17 +40,11 @@ use Rattle.dac_first_fault.proofs.HeldFile.{file_kept, file_begun}
 
 brings_by : (w : Word) (ws : List Word) (k : FaultKind) → Breaks ws k → (IsNoName w → Spoils ws k) → Brings w ws k
 brings_by (Name name) ws k breaks spoils = breaks
-brings_by (Punctuation symbol) ws k breaks spoils = spoils tt
-brings_by (Number negative digits) ws k breaks spoils = spoils tt
-brings_by Text ws k breaks spoils = spoils tt
-brings_by End ws k breaks spoils = spoils tt
+brings_by _ ws k breaks spoils = spoils tt
 
 quiet_name : (w : Word) → IsQuiet Quieted w → IsNoName w
 quiet_name (Name name) quiet = quiet
-quiet_name (Punctuation symbol) quiet = tt
-quiet_name (Number negative digits) quiet = tt
-quiet_name Text quiet = tt
-quiet_name End quiet = tt
+quiet_name _ quiet = tt
 
 quiet_names : (ws : List Word) → All (IsQuiet Quieted) ws → All IsNoName ws
 quiet_names [] all = All-nil IsNoName
@@ -123,11 +117,8 @@ no_end_behind [] b h = h
 no_end_behind (t ∷ a) b h = no_end_behind a b h.1
 
 no_end_word : (w : Word) (own rest : List ℕ) → Spells w own rest → is_end w ≡ false
-no_end_word (Punctuation symbol) own rest is = refl
-no_end_word (Name name) own rest is = refl
-no_end_word (Number negative digits) own rest is = refl
-no_end_word Text own rest is = refl
 no_end_word End own rest is = absurd is
+no_end_word _ own rest is = refl
 
 no_end_spelled : (offset : ℕ) (bytes : List ℕ) (ts : List Located) → AreSpelled offset bytes ts → NoEnd ts
 no_end_spelled offset bytes [] is = tt

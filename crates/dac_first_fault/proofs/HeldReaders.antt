@@ -85,10 +85,7 @@ module _ (Marks : Type 0) (bad : ℕ) (Bound : FaultKind → Type 0) (mode : Mar
   atom_by : (Q : Type 0) (w : Word) (offset : ℕ) → Shows Marks bad Bound Q (IsName w) (atom_of (record { word = w; at = offset }))
   unfolding atom_of
   atom_by Q (Name name) offset = refl
-  atom_by Q (Punctuation symbol) offset = λ h. absurd h
-  atom_by Q (Number negative digits) offset = λ h. absurd h
-  atom_by Q Text offset = λ h. absurd h
-  atom_by Q End offset = λ h. absurd h
+  atom_by Q _ offset = λ h. absurd h
 
   pub atom_shows : (Q : Type 0) (t : Located) → Shows Marks bad Bound Q (IsName t.word) (atom_of t)
   atom_shows Q t = atom_by Q t.word t.at
@@ -263,9 +260,7 @@ module _ (Marks : Type 0) (bad : ℕ) (Bound : FaultKind → Type 0) (mode : Mar
       w : Word
       w = Number negative digits
   timeout_held (Punctuation symbol) offset s over = record { own = []; whole = refl; is = (inl (refl, refl), refl); short = over }
-  timeout_held (Name name) offset s over = record { own = []; whole = refl; is = (inl (refl, refl), refl); short = over }
-  timeout_held Text offset s over = record { own = []; whole = refl; is = (inl (refl, refl), refl); short = over }
-  timeout_held End offset s over = record { own = []; whole = refl; is = (inl (refl, refl), refl); short = over }
+  timeout_held _ offset s over = record { own = []; whole = refl; is = (inl (refl, refl), refl); short = over }
 
   module _ (before : List App) (seen : Seen) (good : Good seen) where
     abbrev IsNamed : List ℕ → List Word → App → Seen → Type 0

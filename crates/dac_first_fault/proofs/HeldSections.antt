@@ -96,11 +96,7 @@ module _ (Marks : Type 0) (bad : ℕ) (Bound : FaultKind → Type 0) (mode : Mar
     term_by_stays Text offset n s e = texts_stay seen n s e
     term_by_stays (Punctuation OpenList) offset n s e = in_stay CloseList n s e
     term_by_stays (Punctuation OpenTuple) offset n s e = in_stay CloseTuple n s e
-    term_by_stays (Punctuation CloseList) offset n s e = no_stay behind seen offset
-    term_by_stays (Punctuation CloseTuple) offset n s e = no_stay behind seen offset
-    term_by_stays (Punctuation Comma) offset n s e = no_stay behind seen offset
-    term_by_stays (Punctuation FullStop) offset n s e = no_stay behind seen offset
-    term_by_stays End offset n s e = no_stay behind seen offset
+    term_by_stays _ offset n s e = no_stay behind seen offset
 
   term_stays : (seen : Seen) (n : ℕ) (t : Located) (s : State) → Steady seen s → Stays behind seen (term_at n t s)
   unfolding term_at
@@ -155,8 +151,7 @@ module _ (Marks : Type 0) (bad : ℕ) (Bound : FaultKind → Type 0) (mode : Mar
     wait_by (Name name) e =
         shows_if Marks bad Bound Q (λ wait. IsWait (loose Bound) (Name name ∷ []) wait) (bytes_eq name (codes "infinity")) (Ok Forever) (fails BadShape offset) (λ is. ap (λ (n : List ℕ). Name n ∷ []) (is_named name (codes "infinity") is)) (λ other h. absurd h)
     wait_by (Punctuation symbol) e = λ h. absurd h
-    wait_by Text e = λ h. absurd h
-    wait_by End e = λ h. absurd h
+    wait_by _ e = λ h. absurd h
 
   -- ---- values of parameters
 
@@ -255,11 +250,9 @@ module _ (Marks : Type 0) (bad : ℕ) (Bound : FaultKind → Type 0) (mode : Mar
 
   good_apps : (seen : Seen) (p : Param) → (Good Marks bad Bound mode) seen → ValueKeeps Bound seen p → (Good Marks bad Bound mode) (with_param seen p)
   good_apps seen (Distributed apps) good may = good_steps Marks bad Bound mode with_app (AppKeeps Bound) (good_app Marks bad Bound mode) [] seen apps good may
-  good_apps seen (Permissions permissions) good may = good
   good_apps seen (Mandatory names) good may = good_nodes Marks bad Bound mode true seen names good may
   good_apps seen (Optional names) good may = good_nodes Marks bad Bound mode true seen names good may
-  good_apps seen (Timeout wait) good may = good
-  good_apps seen Param.Other good may = good
+  good_apps seen _ good may = good
 
   good_param : (before : List Param) (seen : Seen) (p : Param) → (Good Marks bad Bound mode) seen → ParamKeeps Bound before seen p → (Good Marks bad Bound mode) (with_param seen p)
   good_param before seen p good may = good_apps seen p good may.value

@@ -26,10 +26,7 @@ fine_both Bad (t ∷ a) b f g = (f.0, fine_both Bad a b f.1 g)
 
 pub name_or_not : (w : Word) → ((name : List ℕ) × (w ≡ Name name)) ⊎ IsNoName w
 name_or_not (Name name) = inl (name, refl)
-name_or_not (Punctuation symbol) = inr tt
-name_or_not (Number negative digits) = inr tt
-name_or_not Text = inr tt
-name_or_not End = inr tt
+name_or_not _ = inr tt
 
 cons_tail : (v w : Word) (a b : List Word) → v ∷ a ≡ w ∷ b → a ≡ b
 cons_tail v w a b e = cc
@@ -138,17 +135,13 @@ digits_some (b ∷ bytes) is = omega arith
 
 -- a token has at least one byte
 own_some : (w : Word) (own rest : List ℕ) → Spells w own rest → 0 < length own
-own_some (Punctuation OpenList) own rest is = omega (arith, ap length is)
-own_some (Punctuation CloseList) own rest is = omega (arith, ap length is)
-own_some (Punctuation OpenTuple) own rest is = omega (arith, ap length is)
-own_some (Punctuation CloseTuple) own rest is = omega (arith, ap length is)
-own_some (Punctuation Comma) own rest is = omega (arith, ap length is)
 own_some (Punctuation FullStop) own rest is = omega (arith, ap length is.0)
 own_some (Name name) own rest is = name_some (Name name) name own rest refl is
 own_some (Number false digits) own rest is = omega (arith, ap length is.0.0, digits_some digits is.0.1.begins)
 own_some (Number true digits) own rest is = omega (arith, ap length is.0.0)
 own_some Text own rest is = omega (arith, ap length is.parts)
 own_some End own rest is = absurd is
+own_some _ own rest is = omega (arith, ap length is)
 
 -- consecutive tokens at increasing offsets
 abbrev Apart : ℕ → List Located → Type 0

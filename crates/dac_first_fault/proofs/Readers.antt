@@ -29,10 +29,7 @@ of w offset = record { word = w; at = offset }
 atom_here : (w : Word) (offset : ℕ) → Here (of w offset) (atom_of (of w offset))
 unfolding atom_of
 atom_here (Name name) offset = here_ok (of (Name name) offset) name
-atom_here (Punctuation symbol) offset = here_fails (of (Punctuation symbol) offset) BadShape tt
-atom_here (Number negative digits) offset = here_fails (of (Number negative digits) offset) BadShape tt
-atom_here Text offset = here_fails (of Text offset) BadShape tt
-atom_here End offset = here_fails (of End offset) BadShape tt
+atom_here w offset = here_fails (of w offset) BadShape tt
 
 atom_end : (t : Located) → t.word ≡ End → atom_of t ≡ fails BadShape t.at
 unfolding atom_of
@@ -44,10 +41,7 @@ atom_look = record { offset = λ t. atom_here t.word t.at; end = atom_end }
 name_is : (w : Word) (offset : ℕ) (name : List ℕ) → atom_of (of w offset) ≡ Ok name → w ≡ Name name
 unfolding atom_of
 name_is (Name other) offset name e = let same : other ≡ name = cc in ap Name same
-name_is (Punctuation symbol) offset name e = absurd cc
-name_is (Number negative digits) offset name e = absurd cc
-name_is Text offset name e = absurd cc
-name_is End offset name e = absurd cc
+name_is _ offset name e = absurd cc
 
 short_here : (t : Located) → Here t (short_name_of t)
 unfolding short_name_of
@@ -99,9 +93,7 @@ wait_here : (w : Word) (offset : ℕ) → Here (of w offset) (wait_of (of w offs
 unfolding wait_of
 wait_here (Number negative digits) offset = here_then (of (Number negative digits) offset) (milliseconds_of offset negative (value_from 0 digits)) (λ n. Ok (Ms n)) (timeout_here offset negative digits) (λ n is. here_ok (of (Number negative digits) offset) (Ms n))
 wait_here (Name name) offset = here_if (of (Name name) offset) _ _ _ (λ yes. here_ok (of (Name name) offset) Forever) (λ other. here_fails (of (Name name) offset) BadShape tt)
-wait_here (Punctuation symbol) offset = here_fails (of (Punctuation symbol) offset) BadShape tt
-wait_here Text offset = here_fails (of Text offset) BadShape tt
-wait_here End offset = here_fails (of End offset) BadShape tt
+wait_here w offset = here_fails (of w offset) BadShape tt
 
 wait_end : (t : Located) → t.word ≡ End → wait_of t ≡ fails BadShape t.at
 unfolding wait_of
@@ -306,10 +298,7 @@ module _ (name : List ℕ) where
   timed_other : (w : Word) (offset : ℕ) (s : State) → ((negative : Bool) (digits : List ℕ) → w ≡ Number negative digits → ⊥) → timed (of w offset) s ≡ (groups_at (of w offset) s >>= app_with 0)
   unfolding timeout_at
   timed_other (Number negative digits) offset s other = absurd (other negative digits refl)
-  timed_other (Punctuation symbol) offset s other = refl
-  timed_other (Name name') offset s other = refl
-  timed_other Text offset s other = refl
-  timed_other End offset s other = refl
+  timed_other _ offset s other = refl
 
   abbrev app_value : Reader App
   app_value s = token s >>= λ q. timed q.0 q.1
@@ -333,10 +322,7 @@ module _ (name : List ℕ) where
 
   value_by : (w : Word) (offset : ℕ) (b : List Located) (seen : Seen) → Gives app_value (of w offset ∷ b) seen
   value_by (Number negative digits) offset b seen = number_by negative digits offset b seen (milliseconds_of offset negative (value_from 0 digits)) refl
-  value_by (Punctuation symbol) offset b seen = other_by (Punctuation symbol) offset b seen (λ negative digits e. absurd cc)
-  value_by (Name name') offset b seen = other_by (Name name') offset b seen (λ negative digits e. absurd cc)
-  value_by Text offset b seen = other_by Text offset b seen (λ negative digits e. absurd cc)
-  value_by End offset b seen = other_by End offset b seen (λ negative digits e. absurd cc)
+  value_by w offset b seen = other_by w offset b seen (λ negative digits e. absurd cc)
 
   app_value_reader : IsReader (app_value_at name)
   unfolding app_value_at

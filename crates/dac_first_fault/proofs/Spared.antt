@@ -49,8 +49,7 @@ module _ (Kept : FaultKind → Type 0) (free : Free Kept) where
   value_so seen (Permissions permissions) = all_so with_permission (PermissionKeeps Kept) (λ before seen x k. absurd (free NameTooLong tt k)) [] seen permissions
   value_so seen (Mandatory names) = nodes_so true seen names
   value_so seen (Optional names) = nodes_so true seen names
-  value_so seen (Timeout wait) = tt
-  value_so seen Param.Other = tt
+  value_so seen _ = tt
 
   param_so : (before : List Param) (seen : Seen) (p : Param) → ParamKeeps Kept before seen p
   param_so before seen p = record { once = λ k. absurd (free BadShape tt k); value = value_so seen p }

@@ -44,10 +44,7 @@ module _ (Kept : FaultKind → Type 0) where
 
 spelled_so : (name : ParamName) → param_named (spelled name) ≡ Some name
 spelled_so named.Distributed = refl
-spelled_so named.Permissions = refl
-spelled_so named.Mandatory = refl
-spelled_so named.Optional = refl
-spelled_so named.Timeout = refl
+spelled_so _ = refl
 
 -- a name that differs from those of all parameters that are read
 unknown_so : (name : List ℕ) → ((known : ParamName) → name ≢ spelled known) → param_named name ≡ None
