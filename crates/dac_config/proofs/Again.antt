@@ -1,11 +1,8 @@
 -- The canonical text spells the same configuration: drafts can be spelled, each of their nodes occurs in a parameter,
 -- and the canonical draft has the same table.
 use Rattle.std.proofs.Common.{◌≡◌, ◌≢◌, ℕ, ◌+◌, ◌<◌, ◌≤◌, Bool, true, false, cond, not, ◌||◌, ◌&&◌, List, [], ◌∷◌, ◌++◌, length, map, get_or, filter, count_by, All, bytes_eq, ⊎_elim, refl, sym, ap, subst, ◌∙◌, arith, append_assoc, append-nil}
-use Rattle.std.specs.List.{AllByRecursion as Each, AllZip, IsDistinct}
-use Rattle.std.proofs.Math.Bool.{or-true, or-false, and-true, and-or_distrib_right}
-use Rattle.std.proofs.lemmas.Bool.{and_parts, and_from, cond_both, or_cases, or_left, or_right}
-use Rattle.std.proofs.lemmas.List.{length-map, length-append}
-use Rattle.std.proofs.lemmas.List.Elements.{All-head, All-tail, All-append, All-map, All-filter, All-weaker, All-from_recursion, recursion_from_All}
+use Rattle.dac_config.proofs.Common.{AllZip, IsDistinct, or-true, or-false, and-true, and-or_distrib_right, and_parts, and_from, cond_both, or_cases, or_left, or_right, length-map, length-append, All-head, All-tail, All-append, All-map, All-filter, All-weaker, All-from_recursion, recursion_from_All, App, Permission, Param, Distributed, Permissions, Mandatory, Optional, Timeout, Kernel, Written, name_of, put, put_all, unsaid, written, is_among, is_named, IsFile, IsTextOf, joined, params_in, names_of_app, names_of_param, names_in, nodes_in, AreAppsWithin, IsValueWithin, AreWithinLimits, IsWithinLimits, NodeRow, AppRow, Table, canonical_text, name_cmp, numbers_from, numbered_node, numbered_nodes, permitted, numbered_app, numbered, in_byte_order, IsGroup, IsDefaultPermission, IsApp, IsTableOf, IsConfigOf, IsSaid, By}
+use Rattle.std.specs.List.{AllByRecursion as Each}
 use Rattle.std.proofs.lemmas.List.Kept.{IsStrictlySortedBy-filter}
 use Rattle.std.proofs.lemmas.List.Sums.{sum_by-cons}
 use Rattle.std.proofs.lemmas.Map.Keys.{IsDistinct-from_sorted}
@@ -16,15 +13,7 @@ use Rattle.dac_shapes.specs.declared.draft.SyncWait.{SyncWait}
 use Rattle.dac_shapes.specs.declared.draft.SyncWait.TheVariants.{NoSync, Forever, Ms}
 use Rattle.dac_shapes.specs.declared.param.ParamName.{ParamName}
 use Rattle.dac_shapes.specs.declared.param.ParamName.TheVariants as named
-use Rattle.dac_shapes.specs.Written.{App, Permission, Param, Distributed, Permissions, Mandatory, Optional, Timeout, Kernel, Written, name_of, put, put_all, unsaid, written}
-use Rattle.dac_shapes.specs.Limits.{is_among, is_named}
-use Rattle.dac_shapes.specs.Grammar.{IsFile, IsTextOf}
-use Rattle.dac_shapes.specs.Within.{joined, params_in, names_of_app, names_of_param, names_in, nodes_in, AreAppsWithin, IsValueWithin, AreWithinLimits, IsWithinLimits}
 use Rattle.dac_shapes.specs.laws.Params.{put_params, nodes_stay}
-use Rattle.dac_config.specs.Table.{NodeRow, AppRow, Table}
-use Rattle.dac_config.specs.Canonical.{canonical_text}
-use Rattle.dac_config.specs.Numbering.{name_cmp, numbers_from, numbered_node, numbered_nodes, permitted, numbered_app, numbered, in_byte_order}
-use Rattle.dac_config.specs.Says.{IsGroup, IsDefaultPermission, IsApp, IsTableOf, IsConfigOf, IsSaid, By}
 use Rattle.dac_config.proofs.Names.{Within, first_among, later_among, among_append, among_all, all_among, named_in, among_named, all_parts, all_joined, joined_all, all_mapped, among_firsts, few_firsts, Differ, differ_joined, same_name}
 use Rattle.dac_config.proofs.Numbers.{group_numbered, permission_found, names_numbered, sorted_rising, sorted_names, numbered_says, table_same}
 use Rattle.dac_config.proofs.Writes.{CanSpellGroup, CanSpellApp, CanSpellWait, CanSpell, name_at, written_app, ban, written_bans, wait_params, params_of, file_written, file_spells}

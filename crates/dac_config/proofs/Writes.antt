@@ -2,12 +2,11 @@
 -- words.
 use Rattle.std.proofs.Common.{◌≡◌, ◌⊎◌, inl, inr, ℕ, ◌+◌, ◌-◌, ◌*◌, ◌/◌, ◌%◌, ◌<◌, ◌≤◌, Bool, true, false, cond, not, ◌&&◌, List, [], ◌∷◌, ◌++◌, length, map, filter, All, codes, decimal, unwrap_or, option_map, slice_get, bytes_eq, refl, sym, ap, subst, ◌∙◌, arith, append_assoc, append-nil}
 use Rattle.std.specs.Bool.{Decides}
-use Rattle.std.specs.List.{list_all, AllByRecursion as Each}
+use Rattle.dac_config.proofs.Common.{list_all, length-map, All-nil, All-cons, All-head, All-tail, All-push, App, Permission, Param, Distributed, Permissions, Mandatory, Optional, Timeout, Section, Kernel, spelled, params_in, Parted, between, IsListOf, IsPair, IsNode, IsItem, IsMs, IsPermission, strict, IsTimeout, IsAppValue, IsWait, IsParam, IsSection, IsFile, NodeRow, AppRow, Table, begins_small, is_bare, name_text, separated_after, parted, list_text, pair_text, node_name_text, group_text, app_text, forbidden_text, wait_texts, param_texts, canonical_text}
+use Rattle.std.specs.List.{AllByRecursion as Each}
 use Rattle.std.specs.Char.{IsAsciiDigit, IsAsciiLowercase}
 use Rattle.std.proofs.lemmas.Bool.Decides.{Decides-and, Decides-by_and, Decides-not}
 use Rattle.std.proofs.lemmas.Fmt.{decimal_by_steps}
-use Rattle.std.proofs.lemmas.List.{length-map}
-use Rattle.std.proofs.lemmas.List.Elements.{All-nil, All-cons, All-head, All-tail, All-push}
 use Rattle.std.proofs.lemmas.Slice.Eq.{bytes_eq-Decides}
 use Rattle.dac_tokens.specs.declared.token.Symbol.TheVariants.{OpenList, CloseList, OpenTuple, CloseTuple, Comma, FullStop}
 use Rattle.dac_tokens.specs.Digits.{value_from}
@@ -18,12 +17,8 @@ use Rattle.dac_tokens.specs.TokenGrammar.{Nothing, Blank, Closed, IsNameByte, Be
 use Rattle.dac_shapes.specs.declared.draft.SyncWait.{SyncWait}
 use Rattle.dac_shapes.specs.declared.draft.SyncWait.TheVariants.{NoSync, Forever, Ms}
 use Rattle.dac_shapes.specs.declared.param.ParamName.TheVariants as named
-use Rattle.dac_shapes.specs.Written.{App, Permission, Param, Distributed, Permissions, Mandatory, Optional, Timeout, Section, Kernel, spelled}
-use Rattle.dac_shapes.specs.Within.{params_in}
-use Rattle.dac_shapes.specs.Grammar.{Parted, between, IsListOf, IsPair, IsNode, IsItem, IsMs, IsPermission, strict, IsTimeout, IsAppValue, IsApp, IsWait, IsParam, IsSection, IsFile}
+use Rattle.dac_shapes.specs.Grammar.{IsApp}
 use Rattle.dac_shapes.specs.laws.Params.{each_append}
-use Rattle.dac_config.specs.Table.{NodeRow, AppRow, Table}
-use Rattle.dac_config.specs.Canonical.{begins_small, is_bare, name_text, separated_after, parted, list_text, pair_text, node_name_text, group_text, app_text, forbidden_text, wait_texts, param_texts, canonical_text}
 use Rattle.dac_config.proofs.Names.{each_parts}
 
 -- ---- spelling

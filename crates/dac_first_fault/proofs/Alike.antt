@@ -1,9 +1,6 @@
 -- Readers that, from some token, behave as another reader.
 use Rattle.std.proofs.Common.{◌≡◌, ℕ, ◌<◌, List, [], ◌∷◌, ◌++◌, length, Result, Ok, Err, refl, sym, ap, subst, ◌∙◌, arith}
-use Rattle.dac_tokens.specs.declared.fault.ConfigFault.{ConfigFault}
-use Rattle.dac_tokens.specs.Words.{Located}
-use Rattle.dac_shapes.specs.Limits.{Seen}
-use Rattle.dac_shapes.specs.Shape.{State}
+use Rattle.dac_shapes.specs.laws.Common.{ConfigFault, Located, Seen, State}
 use Rattle.dac_shapes.specs.laws.Splits.{at}
 use Rattle.dac_first_fault.proofs.Outcomes.{Wants, Fails, Outcome, Took, Failed, Asked, Reader, Gives}
 

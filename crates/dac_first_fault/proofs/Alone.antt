@@ -1,19 +1,8 @@
 -- The law of the first fault admits at most one fault of a text.
 use Rattle.std.proofs.Common.{◌≡◌, ℕ, zero, suc, ◌<◌, ◌≤◌, Bool, true, false, ltb, List, [], ◌∷◌, ◌++◌, length, Result, Ok, Err, refl, sym, ap, subst, ◌∙◌, append_assoc, append-nil, arith, inl, inr}
-use Rattle.std.specs.Prelude.{◌⊎◌, ◌↔◌}
-use Rattle.std.proofs.lemmas.Bool.{ltb-true, ltb-false}
-use Rattle.std.proofs.lemmas.List.Elements.{All-nil}
-use Rattle.dac_tokens.specs.declared.fault.FaultKind.{FaultKind}
+use Rattle.dac_shapes.specs.laws.Common.{◌⊎◌, ◌↔◌, ltb-true, ltb-false, All-nil, FaultKind, ConfigFault, Symbol, CloseList, CloseTuple, Word, Punctuation, Name, Number, Text, End, Located, Stream, stopped, AreTokensOf, StopAt, Section, IsFile}
 use Rattle.dac_tokens.specs.declared.fault.FaultKind.TheVariants as kind
-use Rattle.dac_tokens.specs.declared.fault.ConfigFault.{ConfigFault}
-use Rattle.dac_tokens.specs.declared.token.Symbol.{Symbol}
-use Rattle.dac_tokens.specs.declared.token.Symbol.TheVariants.{CloseList, CloseTuple}
-use Rattle.dac_tokens.specs.Words.{Word, Punctuation, Name, Number, Text, End, Located}
-use Rattle.dac_tokens.specs.Stream.{Stream, ended as ended_by, stopped}
-use Rattle.dac_tokens.specs.TokenGrammar.{AreTokensOf}
-use Rattle.dac_tokens.specs.TokenFaults.{StopAt}
-use Rattle.dac_shapes.specs.Written.{Section}
-use Rattle.dac_shapes.specs.Grammar.{IsFile}
+use Rattle.dac_tokens.specs.Stream.{ended as ended_by}
 use Rattle.dac_first_fault.specs.FirstFault.{IsLocatedAt, Itself, InList, InTuple, CanCause, words, IsWell, IsFileWithinLimits, IsNoName, Only, Before, IsOfName, Breaks, rank, BeginsWith, IsFaultOf, Long, NoToken, Token, Ends, Nobody, CanBeginLoosely, Spoils, Brings, apps_in}
 use Rattle.dac_first_fault.proofs.Order.{words_append, well_so_far}
 use Rattle.dac_first_fault.proofs.Offsets.{name_or_not}

@@ -1,13 +1,6 @@
 -- Words with which some item begins, and readers of words that end with a fault.
 use Rattle.std.proofs.Common.{◌≡◌, ℕ, Bool, true, false, cond, List, [], ◌∷◌, ◌++◌, map, Result, Ok, Err, refl, sym, ap, subst, ◌∙◌, append_assoc}
-use Rattle.dac_tokens.specs.declared.fault.ConfigFault.{ConfigFault}
-use Rattle.dac_tokens.specs.declared.fault.FaultKind.{FaultKind}
-use Rattle.dac_tokens.specs.declared.fault.FaultKind.TheVariants.{TooLong}
-use Rattle.dac_tokens.specs.declared.token.Symbol.TheVariants.{OpenTuple, CloseTuple, Comma}
-use Rattle.dac_tokens.specs.Gives.{◌>>=◌}
-use Rattle.dac_tokens.specs.Words.{Word, Punctuation, Name, End, Located}
-use Rattle.dac_shapes.specs.Limits.{nothing}
-use Rattle.dac_shapes.specs.Shape.{State, token}
+use Rattle.dac_shapes.specs.laws.Common.{ConfigFault, FaultKind, TooLong, OpenTuple, CloseTuple, Comma, ◌>>=◌, Word, Punctuation, Name, End, Located, nothing, State, token}
 use Rattle.dac_shapes.specs.laws.Splits.{at}
 
 -- A fault placed after the tokens. No reader returns this kind itself, so whoever returns it reached the end of the

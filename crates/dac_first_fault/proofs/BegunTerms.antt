@@ -1,15 +1,6 @@
 -- The reader that skips terms: if it reaches the end, a term begins so.
 use Rattle.std.proofs.Common.{◌≡◌, ℕ, zero, suc, cond, List, [], ◌∷◌, ◌++◌, Result, Ok, refl, sym, ap, subst, ◌∙◌, append_assoc}
-use Rattle.std.specs.Prelude.{All}
-use Rattle.std.proofs.lemmas.List.Elements.{All-nil, All-cons}
-use Rattle.dac_tokens.specs.declared.fault.ConfigFault.{ConfigFault}
-use Rattle.dac_tokens.specs.declared.fault.FaultKind.TheVariants.{BadShape}
-use Rattle.dac_tokens.specs.declared.token.Symbol.{Symbol}
-use Rattle.dac_tokens.specs.declared.token.Symbol.TheVariants.{OpenList, CloseList, OpenTuple, CloseTuple, Comma, FullStop}
-use Rattle.dac_tokens.specs.Gives.{◌>>=◌}
-use Rattle.dac_tokens.specs.Words.{Word, Punctuation, Name, Number, Text, End, Located}
-use Rattle.dac_shapes.specs.Shape.{State, fails, is_symbol, is_text, token, room, terms_at, terms_in, texts_at, term_by, term_at, passed_at}
-use Rattle.dac_shapes.specs.Grammar.{AreBrackets, IsTerm, AreTerms, OfList, OfTuple, Atom, Integer, Strings, Empty, Between, One, More}
+use Rattle.dac_shapes.specs.laws.Common.{All, All-nil, All-cons, ConfigFault, BadShape, Symbol, OpenList, CloseList, OpenTuple, CloseTuple, Comma, FullStop, ◌>>=◌, Word, Punctuation, Name, Number, Text, End, Located, State, fails, is_symbol, is_text, token, room, terms_at, terms_in, texts_at, term_by, term_at, passed_at, AreBrackets, IsTerm, AreTerms, OfList, OfTuple, Atom, Integer, Strings, Empty, Between, One, More}
 use Rattle.dac_shapes.specs.laws.Names.{mark_is, text_is}
 use Rattle.dac_first_fault.proofs.Begun.{IsShort, words_in, by_state, by_behind, Sees, blank, chosen, weaker, shifted, and_then, token_then, token_behind}
 

@@ -1,9 +1,6 @@
 -- Tokens after which only quiet ones follow a bad name.
 use Rattle.std.proofs.Common.{ℕ, suc, ◌+◌, ◌≤◌, List, [], ◌∷◌, ◌++◌, arith}
-use Rattle.std.proofs.lemmas.List.Elements.{All-nil}
-use Rattle.dac_tokens.specs.declared.fault.FaultKind.{FaultKind}
-use Rattle.dac_tokens.specs.declared.token.Symbol.TheVariants.{OpenList, CloseList, OpenTuple, CloseTuple, Comma, FullStop}
-use Rattle.dac_tokens.specs.Words.{Word, Punctuation, Name, Number, Text, End, Located}
+use Rattle.dac_shapes.specs.laws.Common.{All-nil, FaultKind, OpenList, CloseList, OpenTuple, CloseTuple, Comma, FullStop, Word, Punctuation, Name, Number, Text, End, Located}
 use Rattle.dac_first_fault.proofs.Held.{IsQuiet, QuietBehind, Lone}
 use Rattle.dac_first_fault.proofs.Offsets.{Clear}
 

@@ -1,23 +1,7 @@
 -- The fault of a whole file, and of a text.
 use Rattle.std.proofs.Common.{◌≡◌, ℕ, suc, ◌+◌, ◌≤◌, Bool, true, false, cond, eqb, ltb, List, [], ◌∷◌, ◌++◌, length, map, Result, Ok, Err, refl, sym, ap, subst, ◌∙◌, append_assoc, append-nil, arith, inl, inr}
-use Rattle.std.specs.Prelude.{◌⊎◌, ◌↔◌, IfOk, All}
-use Rattle.std.proofs.lemmas.List.Elements.{All-nil, All-cons, All-head, All-tail}
-use Rattle.std.proofs.lemmas.Bool.{ltb-true, ltb-false, eqb-true, eq-eqb}
-use Rattle.dac_tokens.specs.declared.fault.ConfigFault.{ConfigFault}
-use Rattle.dac_tokens.specs.declared.fault.FaultKind.{FaultKind}
-use Rattle.dac_tokens.specs.declared.fault.FaultKind.TheVariants.{BadShape, NoDistributed, TooLong, Unsupported, NumberTooLarge, NameTooLong, TwiceApp, TwiceInList, TooManyApps, TooManyNodes}
-use Rattle.dac_tokens.specs.declared.token.Symbol.TheVariants.{FullStop}
-use Rattle.dac_tokens.specs.Gives.{◌>>=◌}
-use Rattle.dac_tokens.specs.Words.{Word, Punctuation, Name, Number, Text, End, Located, is_end}
-use Rattle.dac_tokens.specs.Stream.{Stream, tokens_of, end_at as end_of, ended as ended_by, stopped}
-use Rattle.dac_tokens.specs.TokenGrammar.{AreTokensOf, AreSpelled, Spells, depth_after_word}
-use Rattle.dac_tokens.specs.TokenFaults.{StopAt}
-use Rattle.dac_shapes.specs.Written.{Section, Written, written}
-use Rattle.dac_shapes.specs.Limits.{Seen, nothing, steps, with_section, MaySections, Keeps, Every}
-use Rattle.dac_shapes.specs.Within.{AreWithinLimits, nodes_in}
-use Rattle.dac_shapes.specs.Grammar.{IsListOf, strict, IsSection, IsFile}
-use Rattle.dac_shapes.specs.Loose.{loose, IsLooseFile}
-use Rattle.dac_shapes.specs.Shape.{State, fails, is_symbol, list_of, section_at, end_at, file_at, draft_at}
+use Rattle.dac_shapes.specs.laws.Common.{◌⊎◌, ◌↔◌, IfOk, All, All-nil, All-cons, All-head, All-tail, ltb-true, ltb-false, eqb-true, eq-eqb, ConfigFault, FaultKind, BadShape, NoDistributed, TooLong, Unsupported, NumberTooLarge, NameTooLong, TwiceApp, TwiceInList, TooManyApps, TooManyNodes, FullStop, ◌>>=◌, Word, Punctuation, Name, Number, Text, End, Located, is_end, Stream, tokens_of, stopped, AreTokensOf, AreSpelled, Spells, depth_after_word, StopAt, Section, Written, written, Seen, nothing, steps, with_section, MaySections, Keeps, Every, AreWithinLimits, nodes_in, IsListOf, strict, IsSection, IsFile, loose, IsLooseFile, State, fails, is_symbol, list_of, section_at, end_at, file_at, draft_at}
+use Rattle.dac_tokens.specs.Stream.{end_at as end_of, ended as ended_by}
 use Rattle.dac_shapes.specs.laws.Loosely.{loosely}
 use Rattle.dac_shapes.specs.laws.Splits.{at, ended}
 use Rattle.dac_shapes.specs.laws.AgainSections.{sections_again, sections_met}

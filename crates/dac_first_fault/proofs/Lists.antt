@@ -1,13 +1,6 @@
 -- Readers of lists: their results depend only on the tokens that they take.
 use Rattle.std.proofs.Common.{◌≡◌, ℕ, zero, suc, ◌<◌, ◌≤◌, Bool, true, false, cond, List, [], ◌∷◌, ◌++◌, length, Result, Ok, Err, refl, sym, ap, subst, ◌∙◌, append_assoc, append-nil, length-append, arith}
-use Rattle.dac_tokens.specs.declared.fault.ConfigFault.{ConfigFault}
-use Rattle.dac_tokens.specs.declared.fault.FaultKind.TheVariants.{BadShape}
-use Rattle.dac_tokens.specs.declared.token.Symbol.{Symbol}
-use Rattle.dac_tokens.specs.declared.token.Symbol.TheVariants.{OpenList, CloseList, Comma}
-use Rattle.dac_tokens.specs.Gives.{◌>>=◌}
-use Rattle.dac_tokens.specs.Words.{End, Located}
-use Rattle.dac_shapes.specs.Limits.{Seen}
-use Rattle.dac_shapes.specs.Shape.{State, fails, is_symbol, token, more_at, comma_list, list_of, room}
+use Rattle.dac_shapes.specs.laws.Common.{ConfigFault, BadShape, Symbol, OpenList, CloseList, Comma, ◌>>=◌, End, Located, Seen, State, fails, is_symbol, token, more_at, comma_list, list_of, room}
 use Rattle.dac_shapes.specs.laws.Splits.{at}
 use Rattle.dac_first_fault.specs.FirstFault.{Itself}
 use Rattle.dac_first_fault.proofs.Outcomes.{Wants, Takes, Outcome, Took, Failed, Asked, further, Always, Plain, Reader, Gives, IsReader, Wanting}

@@ -1,15 +1,8 @@
 -- Offsets of names, and of faults that names don't cause.
 use Rattle.std.proofs.Common.{◌≡◌, ℕ, ◌+◌, ◌<◌, ◌≤◌, List, [], ◌∷◌, ◌++◌, length, refl, sym, ap, subst, ◌∙◌, append_assoc, length-append, arith, inl, inr, true, false}
-use Rattle.std.specs.Prelude.{◌⊎◌, All}
+use Rattle.dac_shapes.specs.laws.Common.{◌⊎◌, All, All-head, All-tail, ConfigFault, FaultKind, OpenList, CloseList, OpenTuple, CloseTuple, Comma, FullStop, Word, Punctuation, Name, Number, Text, End, Located, AreTokensOf, AreSpelled, Spells, Begins, depth_after_word, StopAt}
 use Rattle.std.specs.Char.{IsAsciiDigit, IsAsciiLowercase}
-use Rattle.std.proofs.lemmas.List.Elements.{All-head, All-tail}
-use Rattle.dac_tokens.specs.declared.fault.ConfigFault.{ConfigFault}
-use Rattle.dac_tokens.specs.declared.fault.FaultKind.{FaultKind}
 use Rattle.dac_tokens.specs.declared.fault.FaultKind.TheVariants as kind
-use Rattle.dac_tokens.specs.declared.token.Symbol.TheVariants.{OpenList, CloseList, OpenTuple, CloseTuple, Comma, FullStop}
-use Rattle.dac_tokens.specs.Words.{Word, Punctuation, Name, Number, Text, End, Located}
-use Rattle.dac_tokens.specs.TokenGrammar.{AreTokensOf, AreSpelled, Spells, Begins, depth_after_word}
-use Rattle.dac_tokens.specs.TokenFaults.{StopAt}
 use Rattle.dac_first_fault.specs.FirstFault.{IsLocatedAt, Itself, InList, InTuple, CanCause, IsNoName, BeginsWith, Only, Before, IsOfName, rank}
 use Rattle.dac_shapes.specs.laws.Again.{Unkept, Nowhere, Fine}
 use Rattle.dac_first_fault.proofs.Held.{Frees, Stops}

@@ -1,11 +1,6 @@
 -- A valid prefix is valid up to each of its words.
 use Rattle.std.proofs.Common.{◌≡◌, List, [], ◌∷◌, ◌++◌, refl, sym, ap, subst, ◌∙◌, append_assoc, append-nil, inl, inr}
-use Rattle.std.specs.Prelude.{◌⊎◌, All}
-use Rattle.std.proofs.lemmas.List.Elements.{All-nil, All-cons, All-head, All-tail}
-use Rattle.dac_tokens.specs.Words.{Word, Located}
-use Rattle.dac_shapes.specs.Written.{Section}
-use Rattle.dac_shapes.specs.Within.{AreWithinLimits}
-use Rattle.dac_shapes.specs.Grammar.{IsFile}
+use Rattle.dac_shapes.specs.laws.Common.{◌⊎◌, All, All-nil, All-cons, All-head, All-tail, Word, Located, Section, AreWithinLimits, IsFile}
 use Rattle.dac_first_fault.specs.FirstFault.{CanBegin, words, IsNoName, IsWell}
 
 pub words_append : (a b : List Located) → words (a ++ b) ≡ words a ++ words b

@@ -1,11 +1,6 @@
 -- A reader's result depends only on the tokens that it takes, and the last of them causes its fault.
 use Rattle.std.proofs.Common.{◌≡◌, ℕ, ◌<◌, List, [], ◌∷◌, ◌++◌, length, Result, Ok, Err, sym, ap, subst, ◌∙◌, append_assoc, length-append, arith}
-use Rattle.dac_tokens.specs.declared.fault.ConfigFault.{ConfigFault}
-use Rattle.dac_tokens.specs.declared.fault.FaultKind.TheVariants.{BadShape}
-use Rattle.dac_tokens.specs.Gives.{◌>>=◌}
-use Rattle.dac_tokens.specs.Words.{End, Located}
-use Rattle.dac_shapes.specs.Limits.{Seen}
-use Rattle.dac_shapes.specs.Shape.{State, fails}
+use Rattle.dac_shapes.specs.laws.Common.{ConfigFault, BadShape, ◌>>=◌, End, Located, Seen, State, fails}
 use Rattle.dac_shapes.specs.laws.Splits.{at}
 use Rattle.dac_first_fault.specs.FirstFault.{IsLocatedAt, Itself, InList, InTuple}
 

@@ -1,18 +1,6 @@
 -- Readers of names, nodes, applications and permissions: their results depend only on the tokens that they take.
 use Rattle.std.proofs.Common.{◌≡◌, ℕ, Bool, true, false, not, ◌&&◌, ◌≤◌, cond, eqb, ltb, leb, List, [], ◌∷◌, length, map, Result, Ok, Err, refl, sym, ap, ◌∙◌, arith, codes}
-use Rattle.std.specs.Str.{bytes_eq}
-use Rattle.std.proofs.lemmas.Bool.{ltb-true, ltb-false, ne_eqb}
-use Rattle.dac_base.specs.declared.limits.TheConstants.{MAX_NODES}
-use Rattle.dac_tokens.specs.declared.fault.ConfigFault.{ConfigFault}
-use Rattle.dac_tokens.specs.declared.fault.FaultKind.TheVariants.{BadShape, EmptyList, EmptyTuple, TwiceInList, TwiceApp, TooManyApps, TooManyNodes, NumberTooLarge, NameTooLong}
-use Rattle.dac_tokens.specs.declared.token.Symbol.TheVariants.{OpenList, CloseList, OpenTuple, CloseTuple, Comma}
-use Rattle.dac_tokens.specs.Gives.{◌>>=◌}
-use Rattle.dac_tokens.specs.Words.{Word, Punctuation, Name, Number, Text, End, Located}
-use Rattle.dac_shapes.specs.declared.draft.SyncWait.TheVariants.{Forever, Ms}
-use Rattle.dac_shapes.specs.Written.{App}
-use Rattle.dac_shapes.specs.Limits.{Seen, is_among, with_node, listing}
-use Rattle.dac_tokens.specs.Digits.{value_from}
-use Rattle.dac_shapes.specs.Shape.{State, fails, is_symbol, token, symbol_at, atom_of, short_name_of, milliseconds_of, wait_of, flag_of, app_name_of, node_of, names_at, item_at, items_at, groups_at, timeout_at, app_value_at, app_at, permission_value_at, permission_at, closed}
+use Rattle.dac_shapes.specs.laws.Common.{bytes_eq, ltb-true, ltb-false, ne_eqb, MAX_NODES, ConfigFault, BadShape, EmptyList, EmptyTuple, TwiceInList, TwiceApp, TooManyApps, TooManyNodes, NumberTooLarge, NameTooLong, OpenList, CloseList, OpenTuple, CloseTuple, Comma, ◌>>=◌, Word, Punctuation, Name, Number, Text, End, Located, Forever, Ms, App, Seen, is_among, with_node, listing, value_from, State, fails, is_symbol, token, symbol_at, atom_of, short_name_of, milliseconds_of, wait_of, flag_of, app_name_of, node_of, names_at, item_at, items_at, groups_at, timeout_at, app_value_at, app_at, permission_value_at, permission_at, closed}
 use Rattle.dac_shapes.specs.laws.Splits.{at}
 use Rattle.dac_shapes.specs.laws.Names.{mark_is}
 use Rattle.dac_first_fault.specs.FirstFault.{IsShortName, Itself, InList, InTuple}

@@ -1,15 +1,7 @@
 -- Readers of parameters and sections: their results depend only on the tokens that they take.
 use Rattle.std.proofs.Common.{◌≡◌, Bool, true, false, List, [], ◌∷◌, Option, Some, None, Result, Ok, refl, ap, ◌∙◌, cond, codes}
-use Rattle.std.specs.Str.{bytes_eq}
-use Rattle.dac_tokens.specs.declared.fault.ConfigFault.{ConfigFault}
-use Rattle.dac_tokens.specs.declared.fault.FaultKind.TheVariants.{BadShape, Unsupported}
-use Rattle.dac_tokens.specs.Gives.{◌>>=◌}
-use Rattle.dac_tokens.specs.Words.{End, Located}
-use Rattle.dac_shapes.specs.declared.param.ParamName.{ParamName}
+use Rattle.dac_shapes.specs.laws.Common.{bytes_eq, ConfigFault, BadShape, Unsupported, ◌>>=◌, End, Located, ParamName, Param, Distributed, Permissions, Mandatory, Optional, Timeout, Section, Kernel, Seen, has_kernel, State, fails, is_text, token, atom_of, list_of, app_at, permission_at, node_of, wait_of, param_named, first_param, param_name_of, param_value_at, param_rest_at, param_at, names_kernel, kernel_at, section_rest_at, section_at, pair_at}
 use Rattle.dac_shapes.specs.declared.param.ParamName.TheVariants as named
-use Rattle.dac_shapes.specs.Written.{Param, Distributed, Permissions, Mandatory, Optional, Timeout, Section, Kernel}
-use Rattle.dac_shapes.specs.Limits.{Seen, has_kernel}
-use Rattle.dac_shapes.specs.Shape.{State, fails, is_text, token, atom_of, list_of, app_at, permission_at, node_of, wait_of, param_named, first_param, param_name_of, param_value_at, param_rest_at, param_at, names_kernel, kernel_at, section_rest_at, section_at, pair_at}
 use Rattle.dac_shapes.specs.laws.Splits.{at}
 use Rattle.dac_shapes.specs.laws.Names.{text_is}
 use Rattle.dac_first_fault.specs.FirstFault.{Itself}

@@ -1,14 +1,6 @@
 -- Readers of single tokens, and the readings after them.
 use Rattle.std.proofs.Common.{◌≡◌, Bool, true, false, cond, List, [], ◌∷◌, Result, Ok, Err, refl, sym, ap, subst, ◌∙◌, arith}
-use Rattle.dac_tokens.specs.declared.fault.ConfigFault.{ConfigFault}
-use Rattle.dac_tokens.specs.declared.fault.FaultKind.{FaultKind}
-use Rattle.dac_tokens.specs.declared.fault.FaultKind.TheVariants.{BadShape}
-use Rattle.dac_tokens.specs.declared.token.Symbol.{Symbol}
-use Rattle.dac_tokens.specs.declared.token.Symbol.TheVariants.{OpenTuple, CloseTuple, Comma}
-use Rattle.dac_tokens.specs.Gives.{◌>>=◌}
-use Rattle.dac_tokens.specs.Words.{End, Located}
-use Rattle.dac_shapes.specs.Limits.{Seen}
-use Rattle.dac_shapes.specs.Shape.{State, fails, is_symbol, token, symbol_at, pair_at, closed}
+use Rattle.dac_shapes.specs.laws.Common.{ConfigFault, FaultKind, BadShape, Symbol, OpenTuple, CloseTuple, Comma, ◌>>=◌, End, Located, Seen, State, fails, is_symbol, token, symbol_at, pair_at, closed}
 use Rattle.dac_shapes.specs.laws.Splits.{at}
 use Rattle.dac_first_fault.specs.FirstFault.{IsLocatedAt, Itself, CanCause}
 use Rattle.dac_first_fault.proofs.Outcomes.{Took, Failed, Asked, further, Always, Plain, Reader, Gives, IsReader, Wanting, then}

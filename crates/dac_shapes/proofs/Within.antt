@@ -1,25 +1,17 @@
 -- Names are allowed in order exactly if they keep the limits of `Within`; the draft then keeps them too.
 use Rattle.std.proofs.Common.{◌≡◌, ℕ, ◌<◌, ◌≤◌, Bool, true, false, cond, List, [], ◌∷◌, ◌++◌, length, map, fold, refl, sym, ap, subst, ◌∙◌, append_assoc, append-nil, length-append, arith, ◌+◌, ◌||◌, eqb, Option, None, Some, inl, inr, eq-eqb, count_by, All, bytes_eq}
-use Rattle.std.specs.List.{AllByRecursion as Each, IsDistinct, list_any}
-use Rattle.std.proofs.lemmas.Bool.{cond_both, or_parts, or_from, or_left, or_right, or_cases}
+use Rattle.dac_shapes.specs.laws.Common.{IsDistinct, list_any, cond_both, or_parts, or_from, or_left, or_right, or_cases, map_push, All-nil, MAX_NODES, Word, Seen, AllMay, steps, is_among, with_name, with_node, NodeKeeps, with_nodes, NodesKeep, with_groups, nothing, number_of, is_named, has_param, is_kernel, has_kernel, listing, with_app, AppKeeps, with_permission, PermissionKeeps, with_param, ValueKeeps, ParamKeeps, with_section, SectionKeeps, Every, MaySections, joined, params_in, names_of_app, names_of_param, names_in, nodes_in, AreAppsWithin, IsValueWithin, AreWithinLimits, ArePermissionsWithin, IsWithinLimits, ParamName, App, Permission, Param, Distributed, Permissions, Mandatory, Optional, Section, Kernel, name_of, Timeout, Written, unsaid, put, put_all, Parted, IsListOf, IsNode, IsItem, strict, IsApp, IsParam, IsSection, IsTextOf}
+use Rattle.std.specs.List.{AllByRecursion as Each}
 use Rattle.std.proofs.lemmas.List.Sums.{fold-append, sum_by-cons, sum_by-append}
 use Rattle.std.proofs.Math.Bool.{or-false}
-use Rattle.std.proofs.lemmas.List.{map_push}
-use Rattle.std.proofs.lemmas.List.Elements.{All-from_recursion as each_all, recursion_from_All as all_each, All-nil}
+use Rattle.std.proofs.lemmas.List.Elements.{All-from_recursion as each_all, recursion_from_All as all_each}
 use Rattle.std.proofs.lemmas.List.Folds.{list_any-append}
 use Rattle.std.specs.Set.{is_member}
 use Rattle.std.specs.Cmp.Lexicographic.{same_text}
 use Rattle.std.proofs.lemmas.Cmp.{nat_list_eq_equiv}
 use Rattle.std.proofs.lemmas.Map.Made.{length-le_from_is_member}
-use Rattle.dac_base.specs.declared.limits.TheConstants.{MAX_NODES}
-use Rattle.dac_tokens.specs.Words.{Word}
-use Rattle.dac_shapes.specs.Limits.{Seen, AllMay, steps, is_among, with_name, with_node, NodeKeeps, with_nodes, NodesKeep, with_groups, nothing, number_of, is_named, has_param, is_kernel, has_kernel, listing, with_app, AppKeeps, with_permission, PermissionKeeps, with_param, ValueKeeps, ParamKeeps, with_section, SectionKeeps, Every, MaySections}
-use Rattle.dac_shapes.specs.Within.{joined, params_in, names_of_app, names_of_param, names_in, nodes_in, AreAppsWithin, IsValueWithin, AreWithinLimits, ArePermissionsWithin, IsWithinLimits}
-use Rattle.dac_shapes.specs.declared.param.ParamName.{ParamName}
 use Rattle.dac_shapes.specs.declared.param.ParamName.TheVariants as named
-use Rattle.dac_shapes.specs.Written.{App, Permission, Param, Distributed, Permissions, Mandatory, Optional, Section, Kernel, name_of, Timeout, Written, unsaid, put, put_all}
 use Rattle.dac_shapes.specs.laws.Params.{each_append, put_params, nodes_stay}
-use Rattle.dac_shapes.specs.Grammar.{Parted, IsListOf, IsNode, IsItem, strict, IsApp, IsParam, IsSection, IsTextOf}
 
 pub each_left : {A : Type 0} (P : A → Type 0) (xs ys : List A) → Each P (xs ++ ys) → Each P xs
 each_left P [] ys a = tt

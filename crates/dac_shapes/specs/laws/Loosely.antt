@@ -1,12 +1,6 @@
 -- A file is also one of other parts, if each part is also the other.
 use Rattle.std.proofs.Common.{ℕ, List, [], ◌∷◌, inl, inr}
-use Rattle.dac_tokens.specs.declared.fault.FaultKind.{FaultKind}
-use Rattle.dac_tokens.specs.Words.{Word}
-use Rattle.dac_shapes.specs.declared.draft.SyncWait.{SyncWait}
-use Rattle.dac_shapes.specs.declared.draft.SyncWait.TheVariants.{NoSync, Forever, Ms}
-use Rattle.dac_shapes.specs.Written.{App, Param, Distributed, Permissions, Mandatory, Optional, Timeout, Section, Kernel}
-use Rattle.dac_shapes.specs.Grammar.{Parted, IsListOf, IsItem, IsNodeList, Parts, strict, IsTimeout, IsApp, IsWait, IsParam, IsSection, IsFile}
-use Rattle.dac_shapes.specs.Loose.{IsLooseItem, IsLooseNodeList, loose, IsLooseFile}
+use Rattle.dac_shapes.specs.laws.Common.{FaultKind, Word, SyncWait, NoSync, Forever, Ms, App, Param, Distributed, Permissions, Mandatory, Optional, Timeout, Section, Kernel, Parted, IsListOf, IsItem, IsNodeList, Parts, strict, IsTimeout, IsApp, IsWait, IsParam, IsSection, IsFile, IsLooseItem, IsLooseNodeList, loose, IsLooseFile}
 
 module _ {A : Type 0} (Is Is' : List Word → A → Type 0) (to : (ws : List Word) (x : A) → Is ws x → Is' ws x) where
   pub parted_to : (ws : List Word) (xs : List A) → Parted Is ws xs → Parted Is' ws xs

@@ -1,9 +1,8 @@
 -- The draft of sections is that of their parameters, which change no nodes.
 use Rattle.std.proofs.Common.{◌≡◌, List, [], ◌∷◌, ◌++◌, fold, refl, sym, ◌∙◌}
+use Rattle.dac_shapes.specs.laws.Common.{Param, Distributed, Section, Kernel, Written, put, put_all, put_section, params_in}
 use Rattle.std.specs.List.{AllByRecursion as Each}
 use Rattle.std.proofs.lemmas.List.Sums.{fold-append}
-use Rattle.dac_shapes.specs.Written.{Param, Distributed, Section, Kernel, Written, put, put_all, put_section}
-use Rattle.dac_shapes.specs.Within.{params_in}
 
 pub each_append : {A : Type 0} (P : A → Type 0) (xs ys : List A) → Each P xs → Each P ys → Each P (xs ++ ys)
 each_append P [] ys a b = b
