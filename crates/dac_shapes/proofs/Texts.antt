@@ -1,11 +1,10 @@
 -- Whole texts: a text is read exactly if its tokens form a file whose names are allowed in order.
 use Rattle.std.proofs.Common.{◌≡◌, ℕ, ◌<◌, ◌≤◌, Bool, true, false, not, ◌&&◌, ◌≢◌, cond, eqb, ltb, leb, List, [], ◌∷◌, ◌++◌, length, map, Option, Some, None, Result, Ok, refl, sym, ap, subst, ◌∙◌, arith, inl, inr, codes, zero, suc, Err, bytes_eq, ltb-true, ltb-false, leb-false, eqb-true, ne_eqb, IfOk, IfErr, MatchResult, ◌↔◌}
-use Rattle.dac_shapes.specs.laws.Common.{eqb-false, AllByRecursion, MAX_NODES, ConfigFault, OpenList, CloseList, OpenTuple, CloseTuple, Comma, FullStop, BadShape, EmptyTuple, NumberTooLarge, NameTooLong, NoMemory, ◌>>=◌, OrMemory, Gives, Word, Punctuation, Name, Number, Located, is_end, End, value_from, FaultKind, AreTokensOf, Stream, token_from, and_then, tokens_within, tokens_of, taken_of, SyncWait, Ms, ParamName, App, Permission, Param, Distributed, Permissions, Mandatory, Optional, Timeout, Section, Kernel, name_of, spelled, Written, written, Seen, AllMay, steps, is_among, has_param, with_node, NodeKeeps, with_nodes, NodesKeep, ListKeeps, listing, with_list, with_app, AppKeeps, with_permission, PermissionKeeps, with_param, ValueKeeps, ParamKeeps, has_kernel, with_section, SectionKeeps, nothing, Every, State, fails, is_symbol, token, atom_of, short_name_of, node_of, names_at, item_at, groups_at, milliseconds_of, timeout_at, wait_of, app_name_of, app_value_at, app_at, flag_of, permission_value_at, permission_at, param_named, first_param, param_name_of, param_value_at, param_rest_at, param_at, names_kernel, kernel_at, section_rest_at, section_at, closed, list_of, room, end_at, file_at, between, IsListOf, IsNode, IsItem, IsNodeList, IsMs, IsFlag, IsPermission, strict, IsTimeout, IsApp, IsWait, IsParam, IsSection, IsFile, IsTextOf, nodes_in, AreWithinLimits, draft_of}
+use Rattle.dac_shapes.specs.laws.Common.{eqb-false, AllByRecursion, MAX_NODES, ConfigFault, OpenList, CloseList, OpenTuple, CloseTuple, Comma, FullStop, BadShape, EmptyTuple, NumberTooLarge, NameTooLong, NoMemory, ◌>>=◌, OrMemory, Gives, Word, Punctuation, Name, Number, Located, is_end, End, value_from, FaultKind, AreTokensOf, Stream, token_from, and_then, tokens_within, tokens_of, taken_of, SyncWait, Ms, ParamName, App, Permission, Param, Distributed, Permissions, Mandatory, Optional, Timeout, Section, Kernel, name_of, spelled, Written, written, Seen, AllMay, steps, is_among, has_param, with_node, NodeKeeps, with_nodes, NodesKeep, ListKeeps, listing, with_list, with_app, AppKeeps, with_permission, PermissionKeeps, with_param, ValueKeeps, ParamKeeps, has_kernel, with_section, SectionKeeps, nothing, Every, State, fails, is_symbol, token, atom_of, short_name_of, node_of, names_at, item_at, groups_at, milliseconds_of, timeout_at, wait_of, app_name_of, app_value_at, app_at, flag_of, permission_value_at, permission_at, param_named, first_param, param_name_of, param_value_at, param_rest_at, param_at, names_kernel, kernel_at, section_rest_at, section_at, closed, list_of, room, end_at, file_at, between, IsListOf, IsNode, IsItem, IsNodeList, IsMs, IsFlag, IsPermission, strict, IsTimeout, IsApp, IsWait, IsParam, IsSection, IsFile, IsTextOf, nodes_in, AreWithinLimits, draft_of, ended, at, symbol_again}
 use Rattle.dac_tokens.specs.Stream.{end_at as end_of, ended as ended_by}
 use Rattle.dac_shapes.specs.declared.param.ParamName.TheVariants as named
 use Rattle.dac_shapes.specs.laws.Names.{chosen, unless_first, zero_is, mark_is, is_named, same_seen, param_is, unknown_is}
 use Rattle.dac_shapes.specs.declared.draft.Draft.{Draft}
-use Rattle.dac_shapes.specs.laws.Splits.{ended, at, symbol_again}
 use Rattle.dac_shapes.specs.laws.AgainSections.{sections_again}
 use Rattle.dac_shapes.proofs.Found.{bind_ok, held, required, passed, ok_is, words_in, EndsWell, Moves, Moves-then, same_last, token_is, token_moves, word_passes, symbol_passes, back, still_well, Reads, Gets, token_then, list_found, bracketed_found, pair_begun, pair_words, closed_found, pair_found, passed_found}
 use Rattle.dac_shapes.proofs.Loops.{at_start}

@@ -1,8 +1,16 @@
 -- What a condition or a test of a token tells: the branch selected, the symbol, the name.
 use Rattle.std.proofs.Common.{◌≡◌, ◌≢◌, ℕ, Bool, true, false, not, ◌&&◌, cond, eqb, List, [], ◌∷◌, Option, Some, None, refl, sym, ap, ◌∙◌, inl, inr, codes}
-use Rattle.dac_shapes.specs.laws.Common.{◌⊎◌, bytes_eq, Symbol, OpenList, CloseList, OpenTuple, CloseTuple, Comma, FullStop, Word, Punctuation, Text, ParamName, Permission, spelled, Seen, steps, with_permission, byte_of, is_symbol, is_text, param_named}
+use Rattle.std.specs.Prelude.{◌⊎◌}
+use Rattle.std.specs.Str.{bytes_eq}
 use Rattle.std.specs.Cmp.Lexicographic.{same_text}
+use Rattle.dac_tokens.specs.declared.token.Symbol.{Symbol}
+use Rattle.dac_tokens.specs.declared.token.Symbol.TheVariants.{OpenList, CloseList, OpenTuple, CloseTuple, Comma, FullStop}
+use Rattle.dac_tokens.specs.Words.{Word, Punctuation, Text}
+use Rattle.dac_shapes.specs.declared.param.ParamName.{ParamName}
 use Rattle.dac_shapes.specs.declared.param.ParamName.TheVariants as named
+use Rattle.dac_shapes.specs.Written.{Permission, spelled}
+use Rattle.dac_shapes.specs.Limits.{Seen, steps, with_permission}
+use Rattle.dac_shapes.specs.Shape.{byte_of, is_symbol, is_text, param_named}
 
 pub chosen : {A : Type 0} (b : Bool) (x y z : A) → cond b x y ≡ z → ((b ≡ true) × (x ≡ z)) ⊎ ((b ≡ false) × (y ≡ z))
 chosen true x y z h = inl (refl, h)

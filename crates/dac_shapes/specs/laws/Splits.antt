@@ -1,6 +1,11 @@
 -- Tokens, split by their words.
 use Rattle.std.proofs.Common.{◌≡◌, true, false, List, [], ◌∷◌, ◌++◌, map, Result, Ok, refl, ap, ◌∙◌}
-use Rattle.dac_shapes.specs.laws.Common.{ConfigFault, Symbol, CloseList, CloseTuple, Word, Punctuation, Located, Seen, State, is_symbol, symbol_at}
+use Rattle.dac_tokens.specs.declared.fault.ConfigFault.{ConfigFault}
+use Rattle.dac_tokens.specs.declared.token.Symbol.{Symbol}
+use Rattle.dac_tokens.specs.declared.token.Symbol.TheVariants.{CloseList, CloseTuple}
+use Rattle.dac_tokens.specs.Words.{Word, Punctuation, Located}
+use Rattle.dac_shapes.specs.Limits.{Seen}
+use Rattle.dac_shapes.specs.Shape.{State, is_symbol, symbol_at}
 
 abbrev pub words_of : List Located → List Word
 words_of ts = map (λ t. t.word) ts
