@@ -1,5 +1,6 @@
 -- The names that most proofs here cite, passed on from one place. Declares nothing.
-pub use Rattle.std.specs.List.{AllZip, IsDistinct, Contains, list_any, AllByRecursion, dedup, dedup_from, position_from, prefix_len, list_all}
+pub use Rattle.std.specs.List.{AllZip, Contains, list_any, AllByRecursion, dedup, dedup_from, position_from, prefix_len, list_all}
+unfoldable pub use Rattle.std.specs.List.{IsDistinct}
 pub use Rattle.std.proofs.Math.Bool.{or-true, or-false, and-true, and-or_distrib_right, or_assoc, or_comm, or_self}
 pub use Rattle.std.proofs.lemmas.Bool.{and_parts, and_from, cond_both, or_cases, or_left, or_right, ltb-true, ltb-false, both_ways, false_from_ne_true, or_parts, lt-ltb, ne_eqb, eq-eqb, eqb-true, cond-true, cond-false, false≢true}
 pub use Rattle.std.proofs.lemmas.List.{length-map, length-append, get_or-map, drop_more, map_push, at_drop_all, ext_get_or, at_drop_more}

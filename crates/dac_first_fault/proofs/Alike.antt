@@ -1,23 +1,16 @@
 -- Readers that, from some token, behave as another reader.
 use Rattle.std.proofs.Common.{◌≡◌, ℕ, ◌<◌, List, [], ◌∷◌, ◌++◌, length, Result, Ok, Err, refl, sym, ap, subst, ◌∙◌, arith}
-use Rattle.dac_shapes.specs.laws.Common.{ConfigFault, Located, Seen, State}
-use Rattle.dac_shapes.specs.laws.Splits.{at}
-use Rattle.dac_first_fault.proofs.Outcomes.{Wants, Fails, Outcome, Took, Failed, Asked, Reader, Gives}
+use Rattle.dac_shapes.specs.laws.Common.{ConfigFault, Located, Seen, State, at}
+use Rattle.dac_first_fault.proofs.Outcomes.{Wants, Fails, Outcome, Took, Failed, Asked, Reader, Gives, fails_as, Wanting}
+
+same_wants : {A : Type 0} (f g : Reader A) → ((s : State) → f s ≡ g s) → (us : List Located) (seen : Seen) → Wanting g us seen → Wanting f us seen
+same_wants f g same us seen w = record { more = λ i p room. same (at (Err p) us seen) ∙ w.more i p room; end = λ i t is room. same (at (Ok t) us seen) ∙ w.end i t is room }
 
 -- a reader with the same result at each state
 pub same_reader : {A : Type 0} (f g : Reader A) → ((s : State) → f s ≡ g s) → (us : List Located) (seen : Seen) → Gives g us seen → Gives f us seen
 same_reader f g same us seen (Took k) = Took (record { a = k.a; b = k.b; x = k.x; after = k.after; whole = k.whole; some = k.some; goes = λ i last rest room. same (at last (k.a ++ rest) seen) ∙ k.goes i last rest room })
-same_reader f g same us seen (Failed k) = Failed (record {
-  a = k.a;
-  l = k.l;
-  b = k.b;
-  e = k.e;
-  whole = k.whole;
-  goes = λ i last rest room. same (at last (k.a ++ k.l ∷ rest) seen) ∙ k.goes i last rest room;
-  stands = k.stands;
-  wants = record { more = λ i p room. same (at (Err p) k.a seen) ∙ k.wants.more i p room; end = λ i t is room. same (at (Ok t) k.a seen) ∙ k.wants.end i t is room };
-})
-same_reader f g same us seen (Asked w) = Asked (record { more = λ i p room. same (at (Err p) us seen) ∙ w.more i p room; end = λ i t is room. same (at (Ok t) us seen) ∙ w.end i t is room })
+same_reader f g same us seen (Failed k) = Failed (fails_as k (λ i last rest room. same (at last (k.a ++ k.l ∷ rest) seen) ∙ k.goes i last rest room) (same_wants f g same k.a seen k.wants))
+same_reader f g same us seen (Asked w) = Asked (same_wants f g same us seen w)
 
 cons_is : (x y : Located) (xs ys : List Located) → x ∷ xs ≡ y ∷ ys → y ≡ x
 cons_is x y xs ys e = cc
@@ -60,16 +53,7 @@ module _ {I J A : Type 0} (Room : I → ℕ → Type 0) (More : J → ℕ → Ty
   wants_all w = wants_alike (t ∷ b) w (λ u rest is. cons_is t u b rest is)
 
   pub fails_alike : Fails More AtEnd g (t ∷ b) other → Fails Room AtEnd f (t ∷ b) seen
-  fails_alike k = record {
-    a = k.a;
-    l = k.l;
-    b = k.b;
-    e = k.e;
-    whole = k.whole;
-    goes = λ i last rest room. goes_alike k.a k.l k.b rest last i (Err k.e) k.whole room (λ j m. k.goes j last rest m);
-    stands = k.stands;
-    wants = wants_before k.a k.l k.b k.whole k.wants;
-  }
+  fails_alike k = fails_as k (λ i last rest room. goes_alike k.a k.l k.b rest last i (Err k.e) k.whole room (λ j m. k.goes j last rest m)) (wants_before k.a k.l k.b k.whole k.wants)
 
   pub alike : Outcome More AtEnd g (t ∷ b) other → Outcome Room AtEnd f (t ∷ b) seen
   alike (Took k) = taken_alike k.a k.b k.x k.after k.whole k.some k.goes

@@ -1,7 +1,6 @@
 -- The reader that skips terms: if it reaches the end, a term begins so.
 use Rattle.std.proofs.Common.{◌≡◌, ℕ, zero, suc, cond, List, [], ◌∷◌, ◌++◌, Result, Ok, refl, sym, ap, subst, ◌∙◌, append_assoc}
-use Rattle.dac_shapes.specs.laws.Common.{All, All-nil, All-cons, ConfigFault, BadShape, Symbol, OpenList, CloseList, OpenTuple, CloseTuple, Comma, FullStop, ◌>>=◌, Word, Punctuation, Name, Number, Text, End, Located, State, fails, is_symbol, is_text, token, room, terms_at, terms_in, texts_at, term_by, term_at, passed_at, AreBrackets, IsTerm, AreTerms, OfList, OfTuple, Atom, Integer, Strings, Empty, Between, One, More}
-use Rattle.dac_shapes.specs.laws.Names.{mark_is, text_is}
+use Rattle.dac_shapes.specs.laws.Common.{All, All-nil, All-cons, ConfigFault, BadShape, Symbol, OpenList, CloseList, OpenTuple, CloseTuple, Comma, FullStop, ◌>>=◌, Word, Punctuation, Name, Number, Text, End, Located, State, fails, is_symbol, is_text, token, room, terms_at, terms_in, texts_at, term_by, term_at, passed_at, AreBrackets, IsTerm, AreTerms, OfList, OfTuple, Atom, Integer, Strings, Empty, Between, One, More, mark_is, text_is}
 use Rattle.dac_first_fault.proofs.Begun.{IsShort, words_in, by_state, by_behind, Sees, blank, chosen, weaker, shifted, and_then, token_then, token_behind}
 
 abbrev Skipped : (List Word → Type 0) → List Word → Result (Located × State) ConfigFault → Type 0

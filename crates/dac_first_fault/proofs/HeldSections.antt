@@ -1,8 +1,9 @@
 -- Parameters and sections that keep the bound limits, up to the last word that isn't quiet.
 use Rattle.std.proofs.Common.{◌≡◌, ◌≢◌, ℕ, zero, suc, Bool, true, false, cond, List, [], ◌∷◌, ◌++◌, Option, Some, None, Result, Ok, Err, refl, sym, ap, subst, ◌∙◌, inr, codes, inl, ◌≤◌}
-use Rattle.dac_shapes.specs.laws.Common.{◌⊎◌, bytes_eq, ConfigFault, FaultKind, BadShape, Unsupported, NumberTooLarge, Symbol, OpenList, CloseList, OpenTuple, CloseTuple, Comma, FullStop, ◌>>=◌, Word, Punctuation, Name, Number, Text, End, Located, ParamName, Forever, Ms, Param, Distributed, Permissions, Mandatory, Optional, Timeout, Section, Kernel, spelled, name_of, Seen, nothing, has_param, has_kernel, with_node, with_app, with_permission, with_param, with_section, steps, AllMay, NodeKeeps, AppKeeps, PermissionKeeps, ValueKeeps, ParamKeeps, SectionKeeps, Keeps, value_from, State, fails, is_symbol, is_text, token, room, atom_of, list_of, app_at, permission_at, node_of, wait_of, milliseconds_of, passed_at, terms_at, terms_in, texts_at, term_by, term_at, param_named, first_param, param_name_of, param_value_at, param_rest_at, param_at, names_kernel, kernel_at, section_rest_at, section_at, pair_at, closed, IsListOf, IsNode, IsMs, IsPermission, IsApp, IsWait, IsParam, IsSection, loose}
+use Rattle.dac_shapes.specs.laws.Common.{◌⊎◌, bytes_eq, ConfigFault, FaultKind, BadShape, Unsupported, NumberTooLarge, Symbol, OpenList, CloseList, OpenTuple, CloseTuple, Comma, FullStop, ◌>>=◌, Word, Punctuation, Name, Number, Text, End, Located, Param, Distributed, Permissions, Mandatory, Optional, Timeout, Section, Kernel, spelled, name_of, Seen, nothing, has_param, has_kernel, with_node, with_app, with_permission, with_param, with_section, steps, AllMay, NodeKeeps, AppKeeps, PermissionKeeps, ValueKeeps, ParamKeeps, SectionKeeps, Keeps, value_from, State, fails, is_symbol, is_text, token, room, atom_of, list_of, app_at, permission_at, node_of, wait_of, milliseconds_of, passed_at, terms_at, terms_in, texts_at, term_by, term_at, param_named, first_param, param_name_of, param_value_at, param_rest_at, param_at, names_kernel, kernel_at, section_rest_at, section_at, pair_at, closed, IsListOf, IsNode, IsMs, IsPermission, IsApp, IsWait, IsParam, IsSection, loose, at}
+use Rattle.dac_shapes.specs.declared.param.ParamName.{ParamName}
+use Rattle.dac_shapes.specs.declared.draft.SyncWait.TheVariants.{Forever, Ms}
 use Rattle.dac_shapes.specs.declared.param.ParamName.TheVariants as named
-use Rattle.dac_shapes.specs.laws.Splits.{at}
 use Rattle.dac_shapes.specs.laws.Names.{text_is, unknown_is, is_named, param_is, same_seen}
 use Rattle.dac_first_fault.proofs.Begun.{halt, Halts, Begun, words_in, by_pair, by_state, Sees, pair_of, pair_is, pair_begins, pair_some}
 use Rattle.dac_first_fault.proofs.Spared.{Free}

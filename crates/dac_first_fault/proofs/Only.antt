@@ -1,8 +1,7 @@
 -- If the law admits a fault of a text, reading has it.
 use Rattle.std.proofs.Common.{◌≡◌, ℕ, ◌≤◌, Bool, true, false, cond, ltb, List, length, Result, Ok, Err, refl, sym, ap, subst, arith}
-use Rattle.dac_shapes.specs.laws.Common.{◌↔◌, IfOk, ltb-false, ConfigFault, TooLong, Located, Stream, tokens_of, stopped, AreTokensOf, StopAt, Section, Written, nothing, steps, with_section, MaySections, AreWithinLimits, nodes_in, fails, file_at, draft_at}
+use Rattle.dac_shapes.specs.laws.Common.{◌↔◌, IfOk, ltb-false, ConfigFault, TooLong, Located, Stream, tokens_of, stopped, AreTokensOf, StopAt, Section, Written, nothing, steps, with_section, MaySections, AreWithinLimits, nodes_in, fails, file_at, draft_at, at}
 use Rattle.dac_tokens.specs.Stream.{end_at as end_of, ended as ended_by}
-use Rattle.dac_shapes.specs.laws.Splits.{at}
 use Rattle.dac_first_fault.specs.FirstFault.{IsFaultOf}
 use Rattle.dac_first_fault.proofs.Files.{whole_read, listed_read, text_fault}
 use Rattle.dac_first_fault.proofs.Alone.{Cause, TooFar, Brought, Final, Stopped, NoFile, Empty, cause_of, not_final, one_fault}

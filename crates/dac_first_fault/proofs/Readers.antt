@@ -1,8 +1,7 @@
 -- Readers of names, nodes, applications and permissions: their results depend only on the tokens that they take.
 use Rattle.std.proofs.Common.{◌≡◌, ℕ, Bool, true, false, not, ◌&&◌, ◌≤◌, cond, eqb, ltb, leb, List, [], ◌∷◌, length, map, Result, Ok, Err, refl, sym, ap, ◌∙◌, arith, codes}
-use Rattle.dac_shapes.specs.laws.Common.{bytes_eq, ltb-true, ltb-false, ne_eqb, MAX_NODES, ConfigFault, BadShape, EmptyList, EmptyTuple, TwiceInList, TwiceApp, TooManyApps, TooManyNodes, NumberTooLarge, NameTooLong, OpenList, CloseList, OpenTuple, CloseTuple, Comma, ◌>>=◌, Word, Punctuation, Name, Number, Text, End, Located, Forever, Ms, App, Seen, is_among, with_node, listing, value_from, State, fails, is_symbol, token, symbol_at, atom_of, short_name_of, milliseconds_of, wait_of, flag_of, app_name_of, node_of, names_at, item_at, items_at, groups_at, timeout_at, app_value_at, app_at, permission_value_at, permission_at, closed}
-use Rattle.dac_shapes.specs.laws.Splits.{at}
-use Rattle.dac_shapes.specs.laws.Names.{mark_is}
+use Rattle.dac_shapes.specs.laws.Common.{bytes_eq, ltb-true, ltb-false, ne_eqb, MAX_NODES, ConfigFault, BadShape, EmptyList, EmptyTuple, TwiceInList, TwiceApp, TooManyApps, TooManyNodes, NumberTooLarge, NameTooLong, OpenList, CloseList, OpenTuple, CloseTuple, Comma, ◌>>=◌, Word, Punctuation, Name, Number, Text, End, Located, App, Seen, is_among, with_node, listing, value_from, State, fails, is_symbol, token, symbol_at, atom_of, short_name_of, milliseconds_of, wait_of, flag_of, app_name_of, node_of, names_at, item_at, items_at, groups_at, timeout_at, app_value_at, app_at, permission_value_at, permission_at, closed, at, mark_is}
+use Rattle.dac_shapes.specs.declared.draft.SyncWait.TheVariants.{Forever, Ms}
 use Rattle.dac_first_fault.specs.FirstFault.{IsShortName, Itself, InList, InTuple}
 use Rattle.dac_first_fault.proofs.Outcomes.{Failed, Asked, further, wants_further, Always, Plain, Reader, Gives, IsReader, Wanting, made}
 use Rattle.dac_first_fault.proofs.Alike.{same_reader, alike}
@@ -47,23 +46,16 @@ short_is t name e = by (atom_of t) refl e
     by (Ok word) is h = fits word (ltb 255 (length word)) (name_is t.word t.at word is) refl h
     by (Err d) is h = absurd cc
 
-short_end : (t : Located) → t.word ≡ End → short_name_of t ≡ fails BadShape t.at
-unfolding short_name_of
-short_end t w = rw (atom_end t w) refl
-
 short_look : IsLook short_name_of
-short_look = record { offset = short_here; end = short_end }
-
-flag_here : (t : Located) → Here t (flag_of t)
-unfolding flag_of
-flag_here t = here_then t (atom_of t) _ (atom_here t.word t.at) (λ name is. here_if t (bytes_eq name (codes "true")) (Ok true) (cond (bytes_eq name (codes "false")) (Ok false) (fails BadShape t.at)) (λ yes. here_ok t true) (λ other. here_if t (bytes_eq name (codes "false")) _ _ (λ no_flag. here_ok t false) (λ neither. here_fails t BadShape tt)))
-
-flag_end : (t : Located) → t.word ≡ End → flag_of t ≡ fails BadShape t.at
-unfolding flag_of
-flag_end t w = rw (atom_end t w) refl
+unfolding short_name_of
+short_look = record { offset = short_here; end = λ t w. rw (atom_end t w) refl }
 
 flag_look : IsLook flag_of
-flag_look = record { offset = flag_here; end = flag_end }
+unfolding flag_of
+flag_look = record {
+  offset = λ t. here_then t (atom_of t) _ (atom_here t.word t.at) (λ name is. here_if t (bytes_eq name (codes "true")) (Ok true) (cond (bytes_eq name (codes "false")) (Ok false) (fails BadShape t.at)) (λ yes. here_ok t true) (λ other. here_if t (bytes_eq name (codes "false")) _ _ (λ no_flag. here_ok t false) (λ neither. here_fails t BadShape tt)));
+  end = λ t w. rw (atom_end t w) refl;
+}
 
 pub not_negative : (negative : Bool) (n : ℕ) → (negative && not (eqb n 0)) ≡ false → 4294967296 ≤ n → negative ≡ false
 not_negative false n e large = refl
@@ -83,23 +75,16 @@ wait_here (Number negative digits) offset = here_then (of (Number negative digit
 wait_here (Name name) offset = here_if (of (Name name) offset) _ _ _ (λ yes. here_ok (of (Name name) offset) Forever) (λ other. here_fails (of (Name name) offset) BadShape tt)
 wait_here w offset = here_fails (of w offset) BadShape tt
 
-wait_end : (t : Located) → t.word ≡ End → wait_of t ≡ fails BadShape t.at
-unfolding wait_of
-wait_end t w = rw w refl
-
 pub wait_look : IsLook wait_of
-wait_look = record { offset = λ t. wait_here t.word t.at; end = wait_end }
-
-app_name_here : (before : List App) (t : Located) → Here t (app_name_of before t)
-unfolding app_name_of
-app_name_here before t = here_then t (short_name_of t) _ (short_here t) (λ name is. here_if t (is_among name (map (λ app. app.name) before)) (fails TwiceApp t.at) (cond (leb 64 (length before)) (fails TooManyApps t.at) (Ok name)) (λ twice. here_fails t TwiceApp (short_is t name is)) (λ once. here_if t (leb 64 (length before)) _ _ (λ many. here_fails t TooManyApps (short_is t name is)) (λ few. here_ok t name)))
-
-app_name_end : (before : List App) (t : Located) → t.word ≡ End → app_name_of before t ≡ fails BadShape t.at
-unfolding app_name_of
-app_name_end before t w = rw (short_end t w) refl
+unfolding wait_of
+wait_look = record { offset = λ t. wait_here t.word t.at; end = λ t w. rw w refl }
 
 app_name_look : (before : List App) → IsLook (app_name_of before)
-app_name_look before = record { offset = app_name_here before; end = app_name_end before }
+unfolding app_name_of
+app_name_look before = record {
+  offset = λ t. here_then t (short_name_of t) _ (short_here t) (λ name is. here_if t (is_among name (map (λ app. app.name) before)) (fails TwiceApp t.at) (cond (leb 64 (length before)) (fails TooManyApps t.at) (Ok name)) (λ twice. here_fails t TwiceApp (short_is t name is)) (λ once. here_if t (leb 64 (length before)) _ _ (λ many. here_fails t TooManyApps (short_is t name is)) (λ few. here_ok t name)));
+  end = λ t w. rw (short_look.end t w) refl;
+}
 
 -- ---- nodes
 
@@ -115,7 +100,7 @@ module _ (repeats : Bool) where
   node_is t s = refl
 
   pub node_end : (t : Located) (s : State) → t.word ≡ End → node_of repeats t s ≡ fails BadShape t.at
-  node_end t s w = node_is t s ∙ ap (λ r. r >>= met t s) (short_end t w)
+  node_end t s w = node_is t s ∙ ap (λ r. r >>= met t s) (short_look.end t w)
 
   node_wants : (seen : Seen) → Wanting node [] seen
   node_wants seen = wants_token (λ q. node_of repeats q.0 q.1) node_end seen
@@ -145,16 +130,9 @@ alone s = node false s >>= λ name. Ok (name.0 ∷ [], name.1)
 abbrev item : Reader (List (List ℕ))
 item s = token s >>= λ q. item_at q.0 q.1
 
-item_tuple : (t : Located) (s : State) → is_symbol OpenTuple t.word ≡ true → item_at t s ≡ in_tuple t s
-unfolding item_at
-item_tuple t s e = rw e refl
-
-item_alone : (t : Located) (s : State) → is_symbol OpenTuple t.word ≡ false → item_at t s ≡ (node_of false t s >>= λ name. Ok (name.0 ∷ [], name.1))
-unfolding item_at
-item_alone t s e = rw e refl
-
 item_end : (t : Located) (s : State) → t.word ≡ End → item_at t s ≡ fails BadShape t.at
-item_end t s w = item_alone t s (ap (is_symbol OpenTuple) w) ∙ ap (λ r. r >>= λ name. Ok (name.0 ∷ [], name.1)) (node_end false t s w)
+unfolding item_at
+item_end t s w = let no : is_symbol OpenTuple t.word ≡ false = ap (is_symbol OpenTuple) w in rw (no, node_end false t s w) refl
 
 item_wants : (seen : Seen) → Wanting item [] seen
 item_wants seen = wants_token (λ q. item_at q.0 q.1) item_end seen
@@ -167,13 +145,15 @@ in_tuple_wants o seen = wants_token (λ first. cond (is_symbol CloseTuple first.
 
 module _ (t : Located) (seen : Seen) (is : is_symbol OpenTuple t.word ≡ true) where
   item_leads : (i : Unit {0}) (last : Result Located ConfigFault) (rest : List Located) → Always i (length (t ∷ rest)) → (j : Unit {0}) × Always j (length rest) × (item (at last (t ∷ rest) seen) ≡ in_tuple t (at last rest seen))
-  item_leads i last rest room = (tt, tt, item_tuple t (at last rest seen) is)
+  unfolding item_at
+  item_leads i last rest room = (tt, tt, rw is refl)
 
   item_open : Wanting item (t ∷ []) seen
   item_open = wants_further Always Always Plain (λ _. item) (λ _. in_tuple t) (t ∷ []) seen seen item_leads [] (in_tuple_wants t seen)
 
   tuple_by : (f : Located) (b : List Located) (c : Bool) → is_symbol CloseTuple f.word ≡ c → t.word ≡ Punctuation OpenTuple → (is_symbol CloseTuple f.word ≡ true → f.word ≡ Punctuation CloseTuple) → Gives item (t ∷ f ∷ b) seen
-  tuple_by f b true e w v = Failed (record { a = t ∷ []; l = f; b = b; e = record { kind = EmptyTuple; at = t.at }; whole = refl; goes = λ i last rest room. item_tuple t (at last (f ∷ rest) seen) is ∙ rw e refl; stands = InTuple [] t refl w (v e) refl; wants = item_open })
+  unfolding item_at
+  tuple_by f b true e w v = Failed (record { a = t ∷ []; l = f; b = b; e = record { kind = EmptyTuple; at = t.at }; whole = refl; goes = λ i last rest room. rw (is, e) refl; stands = InTuple [] t refl w (v e) refl; wants = item_open })
   tuple_by f b false e w v = further Always Always Plain (λ _. item) (λ _. in_tuple t) (t ∷ []) seen seen item_leads (f ∷ b) (as_list (λ _. node_of false) CloseTuple (λ _. node_reader false) (λ _. node_end false) (in_tuple t) f b seen seen (λ last rest. rw e refl) (in_tuple_wants t seen))
 
   tuple_reader : (b : List Located) → Gives item (t ∷ b) seen
@@ -181,9 +161,10 @@ module _ (t : Located) (seen : Seen) (is : is_symbol OpenTuple t.word ≡ true) 
   tuple_reader (f ∷ b) = tuple_by f b (is_symbol CloseTuple f.word) refl (mark_is OpenTuple t.word is) (mark_is CloseTuple f.word)
 
 item_by : (t : Located) (b : List Located) (seen : Seen) (c : Bool) → is_symbol OpenTuple t.word ≡ c → Gives item (t ∷ b) seen
+unfolding item_at
 item_by t b seen true e = tuple_reader t seen e b
 item_by t b seen false e =
-    alike Always Always Plain (λ _. item) (λ _. alone) t b seen seen (λ i last rest room. (tt, tt, item_alone t (at last rest seen) e)) (item_wants seen)
+    alike Always Always Plain (λ _. item) (λ _. alone) t b seen seen (λ i last rest room. (tt, tt, rw e refl)) (item_wants seen)
     (made (node false) (λ name. Ok (name.0 ∷ [], name.1)) (λ name. name ∷ []) (λ x s. refl) (t ∷ b) seen (node_reader false (t ∷ b) seen))
 
 item_reader : IsReader item
@@ -198,16 +179,9 @@ groups s = token s >>= λ q. groups_at q.0 q.1
 abbrev in_list : Located → Reader (List (List (List ℕ)))
 in_list t s = token s >>= λ first. cond (is_symbol CloseList first.0.word) (fails EmptyList t.at) (items_at first.0 (record first.1 { seen = listing first.1.seen }))
 
-groups_open : (t : Located) (s : State) → is_symbol OpenList t.word ≡ true → groups_at t s ≡ in_list t s
-unfolding groups_at
-groups_open t s e = rw e refl
-
-groups_no : (t : Located) (s : State) → is_symbol OpenList t.word ≡ false → groups_at t s ≡ fails BadShape t.at
-unfolding groups_at
-groups_no t s e = rw e refl
-
 groups_end : (t : Located) (s : State) → t.word ≡ End → groups_at t s ≡ fails BadShape t.at
-groups_end t s w = groups_no t s (ap (is_symbol OpenList) w)
+unfolding groups_at
+groups_end t s w = rw w refl
 
 groups_wants : (seen : Seen) → Wanting groups [] seen
 groups_wants seen = wants_token (λ q. groups_at q.0 q.1) groups_end seen
@@ -220,13 +194,15 @@ in_list_wants o seen = wants_token (λ first. cond (is_symbol CloseList first.0.
 
 module _ (t : Located) (seen : Seen) (is : is_symbol OpenList t.word ≡ true) where
   groups_leads : (i : Unit {0}) (last : Result Located ConfigFault) (rest : List Located) → Always i (length (t ∷ rest)) → (j : Unit {0}) × Always j (length rest) × (groups (at last (t ∷ rest) seen) ≡ in_list t (at last rest seen))
-  groups_leads i last rest room = (tt, tt, groups_open t (at last rest seen) is)
+  unfolding groups_at
+  groups_leads i last rest room = (tt, tt, rw is refl)
 
   groups_more : Wanting groups (t ∷ []) seen
   groups_more = wants_further Always Always Plain (λ _. groups) (λ _. in_list t) (t ∷ []) seen seen groups_leads [] (in_list_wants t seen)
 
   list_by : (f : Located) (b : List Located) (c : Bool) → is_symbol CloseList f.word ≡ c → t.word ≡ Punctuation OpenList → (is_symbol CloseList f.word ≡ true → f.word ≡ Punctuation CloseList) → Gives groups (t ∷ f ∷ b) seen
-  list_by f b true e w v = Failed (record { a = t ∷ []; l = f; b = b; e = record { kind = EmptyList; at = t.at }; whole = refl; goes = λ i last rest room. groups_open t (at last (f ∷ rest) seen) is ∙ rw e refl; stands = InList [] t refl w (v e) refl; wants = groups_more })
+  unfolding groups_at
+  list_by f b true e w v = Failed (record { a = t ∷ []; l = f; b = b; e = record { kind = EmptyList; at = t.at }; whole = refl; goes = λ i last rest room. rw (is, e) refl; stands = InList [] t refl w (v e) refl; wants = groups_more })
   list_by f b false e w v = further Always Always Plain (λ _. groups) (λ _. in_list t) (t ∷ []) seen seen groups_leads (f ∷ b) (as_list (λ _. item_at) CloseList (λ _. item_reader) (λ _. item_end) (in_list t) f b seen (listing seen) (λ last rest. rw e refl) (in_list_wants t seen))
 
   groups_open_reader : (b : List Located) → Gives groups (t ∷ b) seen
@@ -234,8 +210,9 @@ module _ (t : Located) (seen : Seen) (is : is_symbol OpenList t.word ≡ true) w
   groups_open_reader (f ∷ b) = list_by f b (is_symbol CloseList f.word) refl (mark_is OpenList t.word is) (mark_is CloseList f.word)
 
 groups_by : (t : Located) (b : List Located) (seen : Seen) (c : Bool) → is_symbol OpenList t.word ≡ c → Gives groups (t ∷ b) seen
+unfolding groups_at
 groups_by t b seen true e = groups_open_reader t seen e b
-groups_by t b seen false e = first_fails groups t b seen (record { kind = BadShape; at = t.at }) (λ last rest. groups_no t (at last rest seen) e) (Itself refl tt) (groups_wants seen)
+groups_by t b seen false e = first_fails groups t b seen (record { kind = BadShape; at = t.at }) (λ last rest. rw e refl) (Itself refl tt) (groups_wants seen)
 
 groups_reader : IsReader groups
 groups_reader [] seen = Asked (groups_wants seen)

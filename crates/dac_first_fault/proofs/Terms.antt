@@ -1,7 +1,6 @@
 -- Terms, which are skipped: the token after a term shows that it has ended.
 use Rattle.std.proofs.Common.{◌≡◌, ℕ, zero, suc, ◌+◌, ◌<◌, ◌≤◌, Bool, true, false, cond, List, [], ◌∷◌, ◌++◌, length, Option, Some, None, Result, Ok, Err, refl, sym, ap, subst, ◌∙◌, append_assoc, length-append, arith, inl, inr}
-use Rattle.dac_shapes.specs.laws.Common.{◌⊎◌, ConfigFault, BadShape, Symbol, CloseTuple, Comma, ◌>>=◌, Word, Punctuation, Name, Number, Text, End, Located, Seen, State, fails, is_symbol, is_text, token, room, terms_at, terms_in, texts_at, term_by, term_at, passed_at, closing_of}
-use Rattle.dac_shapes.specs.laws.Splits.{at}
+use Rattle.dac_shapes.specs.laws.Common.{◌⊎◌, ConfigFault, BadShape, Symbol, CloseTuple, Comma, ◌>>=◌, Word, Punctuation, Name, Number, Text, End, Located, Seen, State, fails, is_symbol, is_text, token, room, terms_at, terms_in, texts_at, term_by, term_at, passed_at, closing_of, at}
 use Rattle.dac_shapes.specs.laws.TermCases.{by_name, by_number, by_text, by_mark, by_other_mark, by_end}
 use Rattle.dac_first_fault.specs.FirstFault.{Itself}
 use Rattle.dac_first_fault.proofs.Outcomes.{Wants, Fails, Took, Failed, Asked, fails_further, wants_further, Always, Reader, Gives, IsReader, Wanting}
