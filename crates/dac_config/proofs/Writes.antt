@@ -18,7 +18,7 @@ use Rattle.dac_shapes.specs.declared.draft.SyncWait.{SyncWait}
 use Rattle.dac_shapes.specs.declared.draft.SyncWait.TheVariants.{NoSync, Forever, Ms}
 use Rattle.dac_shapes.specs.declared.param.ParamName.TheVariants as named
 use Rattle.dac_shapes.specs.Grammar.{IsApp}
-use Rattle.dac_shapes.specs.laws.Params.{each_append}
+use Rattle.dac_shapes.specs.laws.Params.{ParamsHave, params_have}
 use Rattle.dac_config.proofs.Names.{each_parts}
 
 -- ---- spelling
@@ -451,21 +451,12 @@ param_spells words (Optional names) quotes h = listed_spells IsNode (All IsQuota
 param_spells words (Timeout wait) quotes h = wait_spells h.0 wait h.2
 param_spells words Param.Other quotes h = tt
 
-abbrev CanSpellSection : Section → Type 0
-CanSpellSection (Kernel params) = Each CanSpell params
-CanSpellSection Section.Other = Unit {0}
-
-section_spells : (words : List Word) (section : Section) → Each Quotes words → IsSection strict words section → CanSpellSection section
+section_spells : (words : List Word) (section : Section) → Each Quotes words → IsSection strict words section → ParamsHave CanSpell section
 section_spells words (Kernel params) quotes h = listed_spells (IsParam strict) CanSpell param_spells h.0 params (pair_spells (codes "kernel") _ words quotes h).1 h.2
 section_spells words Section.Other quotes h = tt
-
-params_spell : (sections : List Section) → Each CanSpellSection sections → Each CanSpell (params_in sections)
-params_spell [] h = tt
-params_spell (Kernel params ∷ sections) h = each_append CanSpell params (params_in sections) h.0 (params_spell sections h.1)
-params_spell (Section.Other ∷ sections) h = params_spell sections h.1
 
 -- the sections of a file can be spelled
 pub file_spells : (bytes : List ℕ) (tokens : List Located) (sections : List Section) → AreSpelled 0 bytes tokens → IsFile (map (λ t. t.word) tokens) sections → Each CanSpell (params_in sections)
 file_spells bytes tokens sections spelled h =
     let parts : Each Quotes (h.0 ++ Punctuation FullStop ∷ []) = subst (Each Quotes) h.1 (tokens_quote 0 bytes tokens spelled) in
-    params_spell sections (listed_spells (IsSection strict) CanSpellSection section_spells h.0 sections (each_parts Quotes h.0 (Punctuation FullStop ∷ []) parts).0 h.2)
+    params_have CanSpell sections (listed_spells (IsSection strict) (ParamsHave CanSpell) section_spells h.0 sections (each_parts Quotes h.0 (Punctuation FullStop ∷ []) parts).0 h.2)

@@ -2,6 +2,7 @@
 use Rattle.std.proofs.Common.{◌≡◌, ℕ, Bool, true, false, not, ◌&&◌, ◌≤◌, cond, eqb, ltb, leb, List, [], ◌∷◌, length, map, Result, Ok, Err, refl, sym, ap, ◌∙◌, arith, codes}
 use Rattle.dac_shapes.specs.laws.Common.{bytes_eq, ltb-true, ltb-false, ne_eqb, MAX_NODES, ConfigFault, BadShape, EmptyList, EmptyTuple, TwiceInList, TwiceApp, TooManyApps, TooManyNodes, NumberTooLarge, NameTooLong, OpenList, CloseList, OpenTuple, CloseTuple, Comma, ◌>>=◌, Word, Punctuation, Name, Number, Text, End, Located, App, Seen, is_among, with_node, listing, value_from, State, fails, is_symbol, token, symbol_at, atom_of, short_name_of, milliseconds_of, wait_of, flag_of, app_name_of, node_of, names_at, item_at, items_at, groups_at, timeout_at, app_value_at, app_at, permission_value_at, permission_at, closed, at, mark_is}
 use Rattle.dac_shapes.specs.declared.draft.SyncWait.TheVariants.{Forever, Ms}
+use Rattle.dac_shapes.specs.laws.Names.{atom_is, short_name_is}
 use Rattle.dac_first_fault.specs.FirstFault.{IsShortName, Itself, InList, InTuple}
 use Rattle.dac_first_fault.proofs.Outcomes.{Failed, Asked, further, wants_further, Always, Plain, Reader, Gives, IsReader, Wanting, made}
 use Rattle.dac_first_fault.proofs.Alike.{same_reader, alike}
@@ -25,26 +26,9 @@ atom_end t w = rw w refl
 pub atom_look : IsLook atom_of
 atom_look = record { offset = λ t. atom_here t.word t.at; end = atom_end }
 
-name_is : (w : Word) (offset : ℕ) (name : List ℕ) → atom_of (of w offset) ≡ Ok name → w ≡ Name name
-unfolding atom_of
-name_is (Name other) offset name e = let same : other ≡ name = cc in ap Name same
-name_is _ offset name e = absurd cc
-
 short_here : (t : Located) → Here t (short_name_of t)
 unfolding short_name_of
-short_here t = here_then t (atom_of t) _ (atom_here t.word t.at) (λ name is. here_if t _ _ _ (λ long. here_fails t NameTooLong (name, name_is t.word t.at name is, ltb-true 255 (length name) long)) (λ short. here_ok t name))
-
-short_is : (t : Located) (name : List ℕ) → short_name_of t ≡ Ok name → IsShortName t.word
-unfolding short_name_of
-short_is t name e = by (atom_of t) refl e
-  where
-    fits : (word : List ℕ) (c : Bool) → t.word ≡ Name word → ltb 255 (length word) ≡ c → cond c (fails NameTooLong t.at) (Ok word) ≡ Ok name → IsShortName t.word
-    fits word true w long h = absurd cc
-    fits word false w long h = (word, w, ltb-false 255 (length word) long)
-
-    by : (r : Result (List ℕ) ConfigFault) → atom_of t ≡ r → (r >>= λ word. cond (ltb 255 (length word)) (fails NameTooLong t.at) (Ok word)) ≡ Ok name → IsShortName t.word
-    by (Ok word) is h = fits word (ltb 255 (length word)) (name_is t.word t.at word is) refl h
-    by (Err d) is h = absurd cc
+short_here t = here_then t (atom_of t) _ (atom_here t.word t.at) (λ name is. here_if t _ _ _ (λ long. here_fails t NameTooLong (name, atom_is t.word t.at name is, ltb-true 255 (length name) long)) (λ short. here_ok t name))
 
 short_look : IsLook short_name_of
 unfolding short_name_of
@@ -82,7 +66,7 @@ wait_look = record { offset = λ t. wait_here t.word t.at; end = λ t w. rw w re
 app_name_look : (before : List App) → IsLook (app_name_of before)
 unfolding app_name_of
 app_name_look before = record {
-  offset = λ t. here_then t (short_name_of t) _ (short_here t) (λ name is. here_if t (is_among name (map (λ app. app.name) before)) (fails TwiceApp t.at) (cond (leb 64 (length before)) (fails TooManyApps t.at) (Ok name)) (λ twice. here_fails t TwiceApp (short_is t name is)) (λ once. here_if t (leb 64 (length before)) _ _ (λ many. here_fails t TooManyApps (short_is t name is)) (λ few. here_ok t name)));
+  offset = λ t. here_then t (short_name_of t) _ (short_here t) (λ name is. here_if t (is_among name (map (λ app. app.name) before)) (fails TwiceApp t.at) (cond (leb 64 (length before)) (fails TooManyApps t.at) (Ok name)) (λ twice. here_fails t TwiceApp (name, short_name_is t name is)) (λ once. here_if t (leb 64 (length before)) _ _ (λ many. here_fails t TooManyApps (name, short_name_is t name is)) (λ few. here_ok t name)));
   end = λ t w. rw (short_look.end t w) refl;
 }
 
@@ -107,8 +91,8 @@ module _ (repeats : Bool) where
 
   module _ (t : Located) (b : List Located) (seen : Seen) where
     node_met : (name : List ℕ) → short_name_of t ≡ Ok name → (x y : Bool) → (not repeats && is_among name seen.listed) ≡ x → (not (is_among name seen.met) && leb MAX_NODES (length seen.met)) ≡ y → Gives node (t ∷ b) seen
-    node_met name e true y is f = first_fails node t b seen (record { kind = TwiceInList; at = t.at }) (λ last rest. node_is t (at last rest seen) ∙ ap (λ r. r >>= met t (at last rest seen)) e ∙ rw is refl) (Itself refl (short_is t name e)) (node_wants seen)
-    node_met name e false true is f = first_fails node t b seen (record { kind = TooManyNodes; at = t.at }) (λ last rest. node_is t (at last rest seen) ∙ ap (λ r. r >>= met t (at last rest seen)) e ∙ rw (is, f) refl) (Itself refl (short_is t name e)) (node_wants seen)
+    node_met name e true y is f = first_fails node t b seen (record { kind = TwiceInList; at = t.at }) (λ last rest. node_is t (at last rest seen) ∙ ap (λ r. r >>= met t (at last rest seen)) e ∙ rw is refl) (Itself refl (name, short_name_is t name e)) (node_wants seen)
+    node_met name e false true is f = first_fails node t b seen (record { kind = TooManyNodes; at = t.at }) (λ last rest. node_is t (at last rest seen) ∙ ap (λ r. r >>= met t (at last rest seen)) e ∙ rw (is, f) refl) (Itself refl (name, short_name_is t name e)) (node_wants seen)
     node_met name e false false is f = first_taken node t b seen name (with_node seen name) (λ last rest. node_is t (at last rest seen) ∙ ap (λ r. r >>= met t (at last rest seen)) e ∙ rw (is, f) refl)
 
     node_by : (r : Result (List ℕ) ConfigFault) → short_name_of t ≡ r → Gives node (t ∷ b) seen

@@ -11,7 +11,7 @@ use Rattle.std.specs.Cmp.Lexicographic.{same_text}
 use Rattle.std.proofs.lemmas.Cmp.{nat_list_eq_equiv}
 use Rattle.std.proofs.lemmas.Map.Made.{length-le_from_is_member}
 use Rattle.dac_shapes.specs.declared.param.ParamName.TheVariants as named
-use Rattle.dac_shapes.specs.laws.Params.{each_append, put_params, nodes_stay}
+use Rattle.dac_shapes.specs.laws.Params.{each_append, put_params, nodes_stay, ParamsHave, params_have}
 
 pub each_left : {A : Type 0} (P : A → Type 0) (xs ys : List A) → Each P (xs ++ ys) → Each P xs
 each_left P [] ys a = tt
@@ -532,10 +532,6 @@ abbrev ParamHasMembers : Param → Type 0
 ParamHasMembers (Distributed apps) = Each HasMembers apps
 ParamHasMembers _ = Unit {0}
 
-abbrev SectionHasMembers : Section → Type 0
-SectionHasMembers (Kernel params) = Each ParamHasMembers params
-SectionHasMembers Section.Other = Unit {0}
-
 module _ {A : Type 0} (Is : List Word → A → Type 0) (P : A → Type 0) (one : (words : List Word) (x : A) → Is words x → P x) where
   each_parted : (words : List Word) (xs : List A) → Parted Is words xs → Each P xs
   each_parted words [] h = absurd h
@@ -561,14 +557,9 @@ some_param : (words : List Word) (param : Param) → IsParam strict words param 
 some_param words (Distributed apps) h = each_listed (IsApp strict) HasMembers some_app h.0 apps h.2
 some_param words _ h = tt
 
-some_section : (words : List Word) (section : Section) → IsSection strict words section → SectionHasMembers section
+some_section : (words : List Word) (section : Section) → IsSection strict words section → ParamsHave ParamHasMembers section
 some_section words (Kernel params) h = each_listed (IsParam strict) ParamHasMembers some_param h.0 params h.2
 some_section words Section.Other h = tt
-
-some_params : (sections : List Section) → Each SectionHasMembers sections → Each ParamHasMembers (params_in sections)
-some_params [] h = tt
-some_params (Kernel params ∷ sections) h = each_append ParamHasMembers params (params_in sections) h.0 (some_params sections h.1)
-some_params (Section.Other ∷ sections) h = some_params sections h.1
 
 fewer_groups : (groups : List (List (List ℕ))) → Each HasMember groups → length groups ≤ length (joined groups)
 fewer_groups [] h = omega arith
@@ -634,4 +625,4 @@ put_within sections within some =
 
 pub text_within : (text : List ℕ) (w : Written) → IsTextOf text w → IsWithinLimits w
 text_within text w is =
-    subst IsWithinLimits (sym (is.says ∙ put_params (unsaid (nodes_in is.sections)) is.sections)) (put_within is.sections is.within (some_params is.sections (each_listed (IsSection strict) SectionHasMembers some_section is.file.0 is.sections is.file.2)))
+    subst IsWithinLimits (sym (is.says ∙ put_params (unsaid (nodes_in is.sections)) is.sections)) (put_within is.sections is.within (params_have ParamHasMembers is.sections (each_listed (IsSection strict) (ParamsHave ParamHasMembers) some_section is.file.0 is.sections is.file.2)))
