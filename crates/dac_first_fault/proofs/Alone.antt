@@ -1,10 +1,10 @@
 -- The law of the first fault admits at most one fault of a text.
 use Rattle.std.proofs.Common.{◌≡◌, ℕ, zero, suc, ◌<◌, ◌≤◌, Bool, true, false, ltb, List, [], ◌∷◌, ◌++◌, length, Result, Ok, Err, refl, sym, ap, subst, ◌∙◌, append_assoc, append-nil, arith, inl, inr}
-use Rattle.dac_shapes.specs.laws.Common.{◌⊎◌, ◌↔◌, ltb-true, ltb-false, All-nil, FaultKind, ConfigFault, Symbol, CloseList, CloseTuple, Word, Punctuation, Name, Number, Text, End, Located, Stream, stopped, AreTokensOf, StopAt, Section, IsFile}
+use Rattle.dac_shapes.specs.laws.Common.{◌⊎◌, ◌↔◌, ltb-true, ltb-false, All-nil, FaultKind, ConfigFault, Symbol, CloseList, CloseTuple, Word, Punctuation, Name, Number, Text, End, Located, Stream, stopped, AreTokensOf, StopAt, Section, IsFile, cons_is, map-append}
 use Rattle.dac_tokens.specs.declared.fault.FaultKind.TheVariants as kind
 use Rattle.dac_tokens.specs.Stream.{ended as ended_by}
 use Rattle.dac_first_fault.specs.FirstFault.{IsLocatedAt, Itself, InList, InTuple, CanCause, words, IsWell, IsFileWithinLimits, IsNoName, Only, Before, IsOfName, Breaks, rank, BeginsWith, IsFaultOf, Long, NoToken, Token, Ends, Nobody, CanBeginLoosely, Spoils, Brings, apps_in}
-use Rattle.dac_first_fault.proofs.Order.{words_append, well_so_far}
+use Rattle.dac_first_fault.proofs.Order.{well_so_far}
 use Rattle.dac_first_fault.proofs.Offsets.{name_or_not}
 use Rattle.dac_first_fault.proofs.Fewer.{keeps_fewer}
 
@@ -35,13 +35,7 @@ name_kind a l e name is (InList front o parts w v k) = absurd (no_mark l.word na
 name_kind a l e name is (InTuple front o parts w v k) = absurd (no_mark l.word name _ is v)
 
 of_name : (k : FaultKind) → IsNameKind k → 0 < rank k → IsOfName k
-of_name kind.BadShape fits some = absurd (omega (arith, some))
-of_name kind.NameTooLong fits some = tt
-of_name kind.TwiceApp fits some = tt
-of_name kind.TwiceInList fits some = tt
-of_name kind.TooManyApps fits some = tt
-of_name kind.TooManyNodes fits some = tt
-of_name _ fits some = absurd (omega (arith, fits))
+of_name k fits some = grind arith
 
 -- two limits can't both be broken first
 clash : (ws : List Word) (j k : FaultKind) → Breaks ws j → Breaks ws k → IsNameKind k → rank j < rank k → ⊥
@@ -58,13 +52,7 @@ of_rank (suc (suc (suc (suc zero)))) = kind.TooManyApps
 of_rank (suc (suc (suc (suc (suc n))))) = kind.TooManyNodes
 
 rank_is : (k : FaultKind) → IsNameKind k → of_rank (rank k) ≡ k
-rank_is kind.BadShape fits = refl
-rank_is kind.NameTooLong fits = refl
-rank_is kind.TwiceApp fits = refl
-rank_is kind.TwiceInList fits = refl
-rank_is kind.TooManyApps fits = refl
-rank_is kind.TooManyNodes fits = refl
-rank_is _ fits = absurd (omega (arith, fits))
+rank_is k fits = grind arith
 
 one_kind : (ws : List Word) (j k : FaultKind) → Breaks ws j → Breaks ws k → IsNameKind j → IsNameKind k → j ≡ k
 one_kind ws j k b c fits other = by (ltb (rank j) (rank k)) (ltb (rank k) (rank j)) refl refl
@@ -140,9 +128,6 @@ module _ (ws : List Word) (w : Word) where
         ]
       ]
 
-cons_both : (x y : Located) (xs ys : List Located) → x ∷ xs ≡ y ∷ ys → (x ≡ y) × (xs ≡ ys)
-cons_both x y xs ys e = (cc, cc)
-
 none_more : (a : List Located) (l : Located) → [] ≡ a ++ l ∷ [] → ⊥
 none_more [] l e = cc
 none_more (u ∷ a) l e = cc
@@ -153,10 +138,10 @@ spoils_of _ ws k no_name brings = brings
 
 -- the last of a list of tokens is unique
 last_same : (a b : List Located) (o p : Located) → a ++ o ∷ [] ≡ b ++ p ∷ [] → o ≡ p
-last_same [] [] o p e = (cons_both o p [] [] e).0
-last_same [] (v ∷ b) o p e = absurd (none_more b p (cons_both o v [] (b ++ p ∷ []) e).1)
-last_same (u ∷ a) [] o p e = absurd (none_more a o (sym (cons_both u p (a ++ o ∷ []) [] e).1))
-last_same (u ∷ a) (v ∷ b) o p e = last_same a b o p (cons_both u v (a ++ o ∷ []) (b ++ p ∷ []) e).1
+last_same [] [] o p e = (cons_is o p [] [] e).0
+last_same [] (v ∷ b) o p e = absurd (none_more b p (cons_is o v [] (b ++ p ∷ []) e).1)
+last_same (u ∷ a) [] o p e = absurd (none_more a o (sym (cons_is u p (a ++ o ∷ []) [] e).1))
+last_same (u ∷ a) (v ∷ b) o p e = last_same a b o p (cons_is u v (a ++ o ∷ []) (b ++ p ∷ []) e).1
 
 -- a fault at a closing bracket excludes one at the bracket that it closes
 module _ (before : List Located) (t : Located) (no_name : IsNoName t.word) where
@@ -202,14 +187,14 @@ behind_one u v a l c m e (Earlier x p) = Earlier x (ap (λ (w : Located). w ∷ 
 behind_one u v a l c m e (Later x p) = Later x (ap (λ (w : Located). w ∷ a) e ∙ ap (λ (ts : List Located). v ∷ ts) p)
 
 order_of : (a : List Located) (l : Located) (b c : List Located) (m : Located) (d : List Located) → a ++ l ∷ b ≡ c ++ m ∷ d → Order a l c m
-order_of [] l b [] m d e = Same refl (cons_both l m b d e).0
-order_of [] l b (v ∷ c) m d e = Earlier c (ap (λ (w : Located). w ∷ c) (sym (cons_both l v b (c ++ m ∷ d) e).0))
-order_of (u ∷ a) l b [] m d e = Later a (ap (λ (w : Located). w ∷ a) (cons_both u m (a ++ l ∷ b) d e).0)
-order_of (u ∷ a) l b (v ∷ c) m d e = let p = cons_both u v (a ++ l ∷ b) (c ++ m ∷ d) e in behind_one u v a l c m p.0 (order_of a l b c m d p.1)
+order_of [] l b [] m d e = Same refl (cons_is l m b d e).0
+order_of [] l b (v ∷ c) m d e = Earlier c (ap (λ (w : Located). w ∷ c) (sym (cons_is l v b (c ++ m ∷ d) e).0))
+order_of (u ∷ a) l b [] m d e = Later a (ap (λ (w : Located). w ∷ a) (cons_is u m (a ++ l ∷ b) d e).0)
+order_of (u ∷ a) l b (v ∷ c) m d e = let p = cons_is u v (a ++ l ∷ b) (c ++ m ∷ d) e in behind_one u v a l c m p.0 (order_of a l b c m d p.1)
 
 -- a valid prefix is valid up to each of its tokens
 well_to : (a : List Located) (l : Located) (b : List Located) → IsWell (words (a ++ l ∷ b)) → IsWell (words a ++ l.word ∷ [])
-well_to a l b w = well_so_far (words a ++ l.word ∷ []) (words b) (subst IsWell (words_append a (l ∷ b) ∙ sym (append_assoc (words a) (l.word ∷ []) (words b))) w)
+well_to a l b w = well_so_far (words a ++ l.word ∷ []) (words b) (subst IsWell (map-append (λ (t : Located). t.word) a (l ∷ b) ∙ sym (append_assoc (words a) (l.word ∷ []) (words b))) w)
 
 well_within : (ws : List Word) → IsFileWithinLimits ws → IsWell ws
 well_within ws is =

@@ -1,6 +1,6 @@
 -- The fault of a whole file, and of a text.
 use Rattle.std.proofs.Common.{◌≡◌, ℕ, suc, ◌+◌, ◌≤◌, Bool, true, false, cond, eqb, ltb, List, [], ◌∷◌, ◌++◌, length, map, Result, Ok, Err, refl, sym, ap, subst, ◌∙◌, append_assoc, append-nil, arith, inl, inr}
-use Rattle.dac_shapes.specs.laws.Common.{◌⊎◌, ◌↔◌, IfOk, All, All-nil, All-cons, All-head, All-tail, ltb-true, ltb-false, eqb-true, eq-eqb, ConfigFault, FaultKind, BadShape, NoDistributed, TooLong, Unsupported, NumberTooLarge, NameTooLong, TwiceApp, TwiceInList, TooManyApps, TooManyNodes, FullStop, ◌>>=◌, Word, Punctuation, Name, Number, Text, End, Located, is_end, Stream, tokens_of, stopped, AreTokensOf, AreSpelled, Spells, depth_after_word, StopAt, Section, Written, written, Seen, nothing, steps, with_section, MaySections, Keeps, Every, AreWithinLimits, nodes_in, IsListOf, strict, IsSection, IsFile, loose, IsLooseFile, State, fails, is_symbol, list_of, section_at, end_at, file_at, draft_at, symbol_at, at, ended, mark_is}
+use Rattle.dac_shapes.specs.laws.Common.{◌⊎◌, ◌↔◌, IfOk, All, All-nil, All-cons, All-head, All-tail, ltb-true, ltb-false, eqb-true, eq-eqb, ConfigFault, FaultKind, BadShape, NoDistributed, TooLong, Unsupported, NumberTooLarge, NameTooLong, TwiceApp, TwiceInList, TooManyApps, TooManyNodes, FullStop, ◌>>=◌, Word, Punctuation, Name, Number, Text, End, Located, is_end, Stream, tokens_of, stopped, AreTokensOf, AreSpelled, Spells, depth_after_word, StopAt, Section, Written, written, Seen, nothing, steps, with_section, MaySections, Keeps, Every, AreWithinLimits, nodes_in, IsListOf, strict, IsSection, IsFile, loose, IsLooseFile, State, fails, is_symbol, list_of, section_at, end_at, file_at, draft_at, symbol_at, at, ended, mark_is, map-append}
 use Rattle.dac_tokens.specs.Stream.{end_at as end_of, ended as ended_by}
 use Rattle.dac_shapes.specs.laws.Loosely.{loosely}
 use Rattle.dac_shapes.specs.laws.AgainSections.{sections_again, sections_met}
@@ -13,7 +13,6 @@ use Rattle.dac_first_fault.proofs.HeldSections.{AreSections, sections_held}
 use Rattle.dac_shapes.specs.laws.Again.{Unkept, Nowhere, fine_nowhere, Fine, fine_front, Met}
 use Rattle.dac_first_fault.proofs.Spared.{Strict, sections_so, strictly_so}
 use Rattle.dac_first_fault.proofs.Loosely.{file_strict}
-use Rattle.dac_first_fault.proofs.Order.{words_append}
 use Rattle.dac_first_fault.proofs.Fewer.{keeps_fewer}
 use Rattle.dac_first_fault.proofs.Bounds.{beyond, lone_beyond, lone_last, lone_two}
 use Rattle.dac_first_fault.proofs.Offsets.{At, Strictly, Clear, name_of_it, stops_so, fine_both, not_name, not_kept, name_or_not, last_named, spelled_fine, text_clear, text_fine, begins_front}
@@ -188,7 +187,7 @@ module _ (order : (sections : List Section) → (MaySections sections ↔ AreWit
   begins_none : (a : List Located) (l : Located) (e : ConfigFault) → ((last : Result Located ConfigFault) (rest : List Located) → file_at (at last (a ++ l ∷ rest) nothing) ≡ Err e) → (more : List Word) → IsFileWithinLimits ((words a ++ l.word ∷ []) ++ more) → ⊥
   begins_none a l e fault more is =
       let rest = map (place_at 0) more in
-      let same : words (a ++ l ∷ rest) ≡ (words a ++ l.word ∷ []) ++ more = words_append a (l ∷ rest) ∙ ap (λ (m : List Word). words a ++ l.word ∷ m) (placed 0 more) ∙ sym (append_assoc (words a) (l.word ∷ []) more) in
+      let same : words (a ++ l ∷ rest) ≡ (words a ++ l.word ∷ []) ++ more = map-append (λ (t : Located). t.word) a (l ∷ rest) ∙ ap (λ (m : List Word). words a ++ l.word ∷ m) (placed 0 more) ∙ sym (append_assoc (words a) (l.word ∷ []) more) in
       let read = within_judged (end_of (suc e.at)) (a ++ l ∷ rest) is.sections refl (subst (λ (m : List Word). IsFile m is.sections) (sym same) is.file) is.within in
       no_clash e (eqb (apps_in is.sections) 0) (written is.sections (nodes_in is.sections)) (sym read ∙ fault (Ok (end_of (suc e.at))) rest)
 
@@ -224,7 +223,7 @@ module _ (order : (sections : List Section) → (MaySections sections ↔ AreWit
     goes_on : (offset : ℕ) (more : List Word) (sections : List Section) → IsLooseFile Kept ((words a ++ l.word ∷ []) ++ more) sections → Keeps Kept sections → Fine Bad (a ++ l ∷ map (place_at offset) more) → Unkept Bad Kept e.kind e.at
     goes_on offset more sections file keep fine =
         let rest = map (place_at offset) more in
-        let same : words (a ++ l ∷ rest) ≡ (words a ++ l.word ∷ []) ++ more = words_append a (l ∷ rest) ∙ ap (λ (m : List Word). words a ++ l.word ∷ m) (placed offset more) ∙ sym (append_assoc (words a) (l.word ∷ []) more) in
+        let same : words (a ++ l ∷ rest) ≡ (words a ++ l.word ∷ []) ++ more = map-append (λ (t : Located). t.word) a (l ∷ rest) ∙ ap (λ (m : List Word). words a ++ l.word ∷ m) (placed offset more) ∙ sym (append_assoc (words a) (l.word ∷ []) more) in
         let read = file_read (end_of (suc e.at)) Bad Kept (a ++ l ∷ rest) sections e refl (subst (λ (m : List Word). IsLooseFile Kept m sections) (sym same) file) keep fine (fault (Ok (end_of (suc e.at))) rest) in
         elim read [
           | inl of ↦ of
@@ -246,7 +245,7 @@ module _ (order : (sections : List Section) → (MaySections sections ↔ AreWit
       → (more : List Word) × (sections : List Section) × IsLooseFile Bound ((words a ++ l.word ∷ []) ++ more) sections × Keeps Bound sections
   stopped_kept bad Bound a l e fault lone stops loud =
       let k = file_kept Quieted bad Bound (inl tt) (a ++ l ∷ []) lone e stops (fault (Err halt) []) in
-      let same : words (a ++ l ∷ []) ≡ words a ++ l.word ∷ [] = words_append a (l ∷ []) in
+      let same : words (a ++ l ∷ []) ≡ words a ++ l.word ∷ [] = map-append (λ (t : Located). t.word) a (l ∷ []) in
       let none = last_named (IsQuiet Quieted) (words a) l.word k.named k.rest loud (sym same ∙ k.parts) k.quiet in
       let all : words a ++ l.word ∷ [] ≡ k.named = sym same ∙ k.parts ∙ ap (λ (l : List Word). k.named ++ l) none ∙ append-nil k.named in
       (k.begun.more, k.begun.x, subst (λ (m : List Word). IsLooseFile Bound (m ++ k.begun.more) k.begun.x) (sym all) k.begun.is.0, k.begun.is.1)

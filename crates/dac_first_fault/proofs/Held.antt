@@ -3,11 +3,9 @@
 use Rattle.std.proofs.Common.{◌≡◌, ℕ, zero, suc, ◌≤◌, Bool, true, false, cond, List, [], ◌∷◌, ◌++◌, map, Result, Ok, Err, refl, sym, ap, subst, ◌∙◌, append_assoc, append-nil, inl, inr}
 use Rattle.dac_shapes.specs.laws.Common.{◌⊎◌, All, All-nil, All-cons, All-append, ConfigFault, FaultKind, BadShape, TooLong, TwiceApp, TwiceInList, TooManyApps, TooManyNodes, NameTooLong, EmptyList, EmptyTuple, NumberTooLarge, Unsupported, Symbol, OpenList, CloseList, OpenTuple, CloseTuple, Comma, ◌>>=◌, Word, Punctuation, Name, Located, Seen, AllMay, steps, State, fails, is_symbol, token, symbol_at, more_at, comma_list, list_of, pair_at, closed, room, Parted, IsListOf, at, mark_is}
 use Rattle.dac_first_fault.specs.FirstFault.{rank}
+pub use Rattle.dac_first_fault.specs.FirstFault.{words}
 use Rattle.dac_first_fault.proofs.Lists.{regroup}
 use Rattle.dac_first_fault.proofs.Begun.{halt, words_in, Begun, Via, by_pair}
-
-abbrev pub words : List Located → List Word
-words ts = map (λ t. t.word) ts
 
 -- A quiet word, after which a prefix can't be wrong yet: an opening bracket or a comma, if `Marks` holds.
 abbrev pub IsQuiet : Type 0 → Word → Type 0

@@ -57,7 +57,7 @@ module _ {I J A : Type 0} (Room : I → ℕ → Type 0) (More : J → ℕ → Ty
     end = λ i t is room. let l = leads i (Ok t) b room in subst (AtEnd t) (sym l.2) (w.end l.0 t is l.1);
   }
 
-  goes_further : (b rest : List Located) (last : Result Located ConfigFault) (i : I) (r : Result (A × State) ConfigFault) → Room i (length ((a ++ b) ++ rest)) → ((j : J) → More j (length (b ++ rest)) → g j (at last (b ++ rest) after) ≡ r) → f i (at last ((a ++ b) ++ rest) seen) ≡ r
+  pub goes_further : (b rest : List Located) (last : Result Located ConfigFault) (i : I) (r : Result (A × State) ConfigFault) → Room i (length ((a ++ b) ++ rest)) → ((j : J) → More j (length (b ++ rest)) → g j (at last (b ++ rest) after) ≡ r) → f i (at last ((a ++ b) ++ rest) seen) ≡ r
   goes_further b rest last i r room goes =
       let l = leads i last (b ++ rest) (subst (λ (q : List Located). Room i (length q)) (append_assoc a b rest) room) in
       ap (λ (q : List Located). f i (at last q seen)) (append_assoc a b rest) ∙ l.2 ∙ goes l.0 l.1

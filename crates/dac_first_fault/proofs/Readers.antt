@@ -30,6 +30,9 @@ short_here : (t : Located) → Here t (short_name_of t)
 unfolding short_name_of
 short_here t = here_then t (atom_of t) _ (atom_here t.word t.at) (λ name is. here_if t _ _ _ (λ long. here_fails t NameTooLong (name, atom_is t.word t.at name is, ltb-true 255 (length name) long)) (λ short. here_ok t name))
 
+short_is : (t : Located) (name : List ℕ) → short_name_of t ≡ Ok name → IsShortName t.word
+short_is t name e = let n = short_name_is t name e in (name, n.0, n.1)
+
 short_look : IsLook short_name_of
 unfolding short_name_of
 short_look = record { offset = short_here; end = λ t w. rw (atom_end t w) refl }
@@ -66,7 +69,7 @@ wait_look = record { offset = λ t. wait_here t.word t.at; end = λ t w. rw w re
 app_name_look : (before : List App) → IsLook (app_name_of before)
 unfolding app_name_of
 app_name_look before = record {
-  offset = λ t. here_then t (short_name_of t) _ (short_here t) (λ name is. here_if t (is_among name (map (λ app. app.name) before)) (fails TwiceApp t.at) (cond (leb 64 (length before)) (fails TooManyApps t.at) (Ok name)) (λ twice. here_fails t TwiceApp (name, short_name_is t name is)) (λ once. here_if t (leb 64 (length before)) _ _ (λ many. here_fails t TooManyApps (name, short_name_is t name is)) (λ few. here_ok t name)));
+  offset = λ t. here_then t (short_name_of t) _ (short_here t) (λ name is. here_if t (is_among name (map (λ app. app.name) before)) (fails TwiceApp t.at) (cond (leb 64 (length before)) (fails TooManyApps t.at) (Ok name)) (λ twice. here_fails t TwiceApp (short_is t name is)) (λ once. here_if t (leb 64 (length before)) _ _ (λ many. here_fails t TooManyApps (short_is t name is)) (λ few. here_ok t name)));
   end = λ t w. rw (short_look.end t w) refl;
 }
 
@@ -91,8 +94,8 @@ module _ (repeats : Bool) where
 
   module _ (t : Located) (b : List Located) (seen : Seen) where
     node_met : (name : List ℕ) → short_name_of t ≡ Ok name → (x y : Bool) → (not repeats && is_among name seen.listed) ≡ x → (not (is_among name seen.met) && leb MAX_NODES (length seen.met)) ≡ y → Gives node (t ∷ b) seen
-    node_met name e true y is f = first_fails node t b seen (record { kind = TwiceInList; at = t.at }) (λ last rest. node_is t (at last rest seen) ∙ ap (λ r. r >>= met t (at last rest seen)) e ∙ rw is refl) (Itself refl (name, short_name_is t name e)) (node_wants seen)
-    node_met name e false true is f = first_fails node t b seen (record { kind = TooManyNodes; at = t.at }) (λ last rest. node_is t (at last rest seen) ∙ ap (λ r. r >>= met t (at last rest seen)) e ∙ rw (is, f) refl) (Itself refl (name, short_name_is t name e)) (node_wants seen)
+    node_met name e true y is f = first_fails node t b seen (record { kind = TwiceInList; at = t.at }) (λ last rest. node_is t (at last rest seen) ∙ ap (λ r. r >>= met t (at last rest seen)) e ∙ rw is refl) (Itself refl (short_is t name e)) (node_wants seen)
+    node_met name e false true is f = first_fails node t b seen (record { kind = TooManyNodes; at = t.at }) (λ last rest. node_is t (at last rest seen) ∙ ap (λ r. r >>= met t (at last rest seen)) e ∙ rw (is, f) refl) (Itself refl (short_is t name e)) (node_wants seen)
     node_met name e false false is f = first_taken node t b seen name (with_node seen name) (λ last rest. node_is t (at last rest seen) ∙ ap (λ r. r >>= met t (at last rest seen)) e ∙ rw (is, f) refl)
 
     node_by : (r : Result (List ℕ) ConfigFault) → short_name_of t ≡ r → Gives node (t ∷ b) seen

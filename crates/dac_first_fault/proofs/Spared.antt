@@ -59,13 +59,7 @@ module _ (Kept : FaultKind → Type 0) (free : Free Kept) where
   sections_so sections = all_so with_section (SectionKeeps Kept) section_so [] nothing sections
 
 pub no_limit : Free Strict
-no_limit BadShape is k = k
-no_limit NameTooLong is k = k
-no_limit TwiceApp is k = k
-no_limit TwiceInList is k = k
-no_limit TooManyApps is k = k
-no_limit TooManyNodes is k = k
-no_limit _ is k = is
+no_limit kind is k = grind arith
 
 pub strictly_so : (sections : List Section) → Keeps Strict sections
 strictly_so sections = sections_so Strict no_limit sections

@@ -2,7 +2,7 @@
 pub use Rattle.std.proofs.lemmas.List.Elements.{All-nil, All-cons, All-head, All-tail, All-append}
 pub use Rattle.std.specs.List.{list_any, AllByRecursion}
 unfoldable pub use Rattle.std.specs.List.{IsDistinct}
-pub use Rattle.std.proofs.lemmas.List.{length-map, map_push, length-append}
+pub use Rattle.std.proofs.lemmas.List.{map-append, length-map, map_push, length-append}
 pub use Rattle.std.proofs.lemmas.Bool.{eqb-false, cond_both, or_parts, or_from, or_left, or_right, or_cases, cond-true, cond-false, lt-ltb, le-ltb, eq-eqb, ltb-true, leb-true, ltb-false, eqb-true, leb-false, ne_eqb}
 pub use Rattle.std.specs.Str.{bytes_eq}
 pub use Rattle.std.specs.Prelude.{All, ◌⊎◌, ◌↔◌, IfErr, IfOk}
@@ -30,5 +30,5 @@ pub use Rattle.dac_shapes.specs.declared.draft.SyncWait.{SyncWait}
 pub use Rattle.dac_shapes.specs.declared.draft.SyncWait.TheVariants.{Ms, NoSync, Forever}
 pub use Rattle.dac_shapes.specs.Within.{nodes_in, AreWithinLimits, joined, params_in, names_of_app, names_of_param, names_in, AreAppsWithin, IsValueWithin, ArePermissionsWithin, IsWithinLimits}
 pub use Rattle.dac_shapes.specs.Loose.{IsLooseItem, IsLooseNodeList, loose, IsLooseFile, IsLooseMs, IsLooseOther}
-pub use Rattle.dac_shapes.specs.laws.Splits.{at, ended, symbol_again}
+pub use Rattle.dac_shapes.specs.laws.Splits.{at, cons_is, ended, symbol_again}
 pub use Rattle.dac_shapes.specs.laws.Names.{mark_is, text_is}
