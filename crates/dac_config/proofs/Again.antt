@@ -263,9 +263,7 @@ module _ (w : Written) (know : Known w) where
 
   -- a name in the draft is a node
   and_known : (a b : Bool) → (b ≡ true → a ≡ true) → (a && b) ≡ b
-  and_known true b h = refl
-  and_known false true h = h refl
-  and_known false false h = refl
+  and_known a b h = grind arith
 
   names_same : (name : List ℕ) → is_among name (names_in (Kernel (params_again w) ∷ [])) ≡ is_among name w.nodes
   names_same name =
@@ -355,11 +353,7 @@ module _ (w : Written) (know : Known w) where
       (subst (IsGroup (numbered_nodes w) other) (sym same) (group_numbered (numbered_nodes w) other), groups_again groups)
 
   ban_passes : (c e p m x : Bool) → (e ≡ true → c ≡ p) → x ≡ (p || not m) → cond c x (cond e false x) ≡ (p || not (e || m))
-  ban_passes true true true m x same is = is
-  ban_passes true true false m x same is = let h : true ≡ false = same refl in absurd cc
-  ban_passes false true true m x same is = let h : false ≡ true = same refl in absurd cc
-  ban_passes false true false m x same is = refl
-  ban_passes _ false p m x same is = is
+  ban_passes c e p m x same is = grind arith
 
   ban_split : (row : AppRow) (rest : List AppRow) (name : List ℕ) (c : Bool) → permitted (map ban (cond (not c) (row ∷ rest) rest)) name ≡ cond c (permitted (map ban rest) name) (cond (bytes_eq row.name name) false (permitted (map ban rest) name))
   ban_split row rest name true = refl

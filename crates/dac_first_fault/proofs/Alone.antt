@@ -15,15 +15,7 @@ abbrev IsNameKind : FaultKind → Type 0
 IsNameKind k = rank k < 6
 
 can_kind : (k : FaultKind) (w : Word) (name : List ℕ) → w ≡ Name name → CanCause k w → IsNameKind k
-can_kind kind.BadShape w name is can = omega arith
-can_kind kind.NameTooLong w name is can = omega arith
-can_kind kind.TwiceApp w name is can = omega arith
-can_kind kind.TwiceInList w name is can = omega arith
-can_kind kind.TooManyApps w name is can = omega arith
-can_kind kind.TooManyNodes w name is can = omega arith
-can_kind kind.Unsupported w name is can = let wrong : Name name ≡ Text = sym is ∙ can in absurd cc
-can_kind kind.NumberTooLarge w name is can = let wrong : Name name ≡ Number false can.0 = sym is ∙ can.1 in absurd cc
-can_kind _ w name is can = absurd can
+can_kind k w name is can = grind arith
 
 no_mark : (w : Word) (name : List ℕ) (x : Symbol) → w ≡ Name name → w ≡ Punctuation x → ⊥
 no_mark w name x is other = let wrong : Name name ≡ Punctuation x = sym is ∙ other in absurd cc
@@ -69,14 +61,16 @@ same_fault e f k n = ap (λ (k : FaultKind). record { kind = k; at = e.at }) k �
 
 -- ---- a token that is no name causes one fault
 
--- the kinds that a token that is no name can cause at its own offset
-abbrev IsPlainKind : FaultKind → Word → Type 0
-IsPlainKind k w = (k ≡ kind.BadShape) ⊎ (((k ≡ kind.Unsupported) × (w ≡ Text)) ⊎ ((k ≡ kind.NumberTooLarge) × ((digits : List ℕ) × (w ≡ Number false digits))))
+-- the fault besides BadShape that a token that is no name can cause at its own offset, if there is one
+abbrev special : Word → FaultKind
+special Text = kind.Unsupported
+special (Number negative digits) = kind.NumberTooLarge
+special _ = kind.BadShape
 
-plain_kind : (k : FaultKind) (w : Word) → CanCause k w → IsNoName w → IsPlainKind k w
+plain_kind : (k : FaultKind) (w : Word) → CanCause k w → IsNoName w → (k ≡ kind.BadShape) ⊎ (k ≡ special w)
 plain_kind kind.BadShape w can plain = inl refl
-plain_kind kind.Unsupported w can plain = inr (inl (refl, can))
-plain_kind kind.NumberTooLarge w can plain = inr (inr (refl, (can.0, can.1)))
+plain_kind kind.Unsupported w can plain = inr (sym (ap special can))
+plain_kind kind.NumberTooLarge w can plain = inr (sym (ap special can.1))
 plain_kind kind.NameTooLong w can plain = absurd (subst IsNoName can.1 plain)
 plain_kind kind.TwiceApp w can plain = absurd (subst IsNoName can.1 plain)
 plain_kind kind.TwiceInList w can plain = absurd (subst IsNoName can.1 plain)
@@ -84,49 +78,18 @@ plain_kind kind.TooManyApps w can plain = absurd (subst IsNoName can.1 plain)
 plain_kind kind.TooManyNodes w can plain = absurd (subst IsNoName can.1 plain)
 plain_kind _ w can plain = absurd can
 
-module _ (ws : List Word) (w : Word) where
-  no_text : (digits : List ℕ) → w ≡ Text → w ≡ Number false digits → ⊥
-  no_text digits a b = let wrong : Text ≡ Number false digits = sym a ∙ b in absurd cc
-
-  no_closing : (k : FaultKind) (x : Symbol) → w ≡ Punctuation x → IsPlainKind k w → k ≡ kind.BadShape
-  no_closing k x is plain = elim plain [
-    | inl shape ↦ shape
-    | inr other ↦ elim other [
-      | inl text ↦ let wrong : Punctuation x ≡ Text = sym is ∙ text.1 in absurd cc
-      | inr number ↦ let wrong : Punctuation x ≡ Number false number.1.0 = sym is ∙ number.1.1 in absurd cc
-    ]
-  ]
+module _ (ws : List Word) where
+  one_special : (w : Word) → Spoils ws kind.BadShape → Spoils ws (special w) → kind.BadShape ≡ special w
+  one_special Text shape told = absurd (shape told)
+  one_special (Number negative digits) shape told = absurd (shape told)
+  one_special _ shape told = refl
 
   -- these words determine one kind
-  one_plain : (j k : FaultKind) → IsPlainKind j w → IsPlainKind k w → Spoils ws j → Spoils ws k → j ≡ k
-  one_plain j k a b told other = elim a [
-    | inl shape ↦ elim b [
-      | inl same ↦ shape ∙ sym same
-      | inr some ↦ absurd (subst (λ (f : FaultKind). Spoils ws f) shape told (loosely k some other))
-    ]
-    | inr some ↦ elim b [
-      | inl shape ↦ absurd (subst (λ (f : FaultKind). Spoils ws f) shape other (loosely j some told))
-      | inr more ↦ both j k some more
-    ]
-  ]
-    where
-      loosely : (k : FaultKind) → ((k ≡ kind.Unsupported) × (w ≡ Text)) ⊎ ((k ≡ kind.NumberTooLarge) × ((digits : List ℕ) × (w ≡ Number false digits))) → Spoils ws k → CanBeginLoosely ws
-      loosely k some told = elim some [
-        | inl text ↦ subst (λ (f : FaultKind). Spoils ws f) text.0 told
-        | inr number ↦ subst (λ (f : FaultKind). Spoils ws f) number.0 told
-      ]
-
-      both : (j k : FaultKind) → ((j ≡ kind.Unsupported) × (w ≡ Text)) ⊎ ((j ≡ kind.NumberTooLarge) × ((digits : List ℕ) × (w ≡ Number false digits))) → ((k ≡ kind.Unsupported) × (w ≡ Text)) ⊎ ((k ≡ kind.NumberTooLarge) × ((digits : List ℕ) × (w ≡ Number false digits))) → j ≡ k
-      both j k a b = elim a [
-        | inl text ↦ elim b [
-          | inl same ↦ text.0 ∙ sym same.0
-          | inr number ↦ absurd (no_text number.1.0 text.1 number.1.1)
-        ]
-        | inr number ↦ elim b [
-          | inl text ↦ absurd (no_text number.1.0 text.1 number.1.1)
-          | inr same ↦ number.0 ∙ sym same.0
-        ]
-      ]
+  one_plain : (w : Word) (j k : FaultKind) → (j ≡ kind.BadShape) ⊎ (j ≡ special w) → (k ≡ kind.BadShape) ⊎ (k ≡ special w) → Spoils ws j → Spoils ws k → j ≡ k
+  one_plain w j k (inl a) (inl b) told other = a ∙ sym b
+  one_plain w j k (inl a) (inr b) told other = a ∙ one_special w (subst (λ (f : FaultKind). Spoils ws f) a told) (subst (λ (f : FaultKind). Spoils ws f) b other) ∙ sym b
+  one_plain w j k (inr a) (inl b) told other = a ∙ sym (one_special w (subst (λ (f : FaultKind). Spoils ws f) b other) (subst (λ (f : FaultKind). Spoils ws f) a told)) ∙ sym b
+  one_plain w j k (inr a) (inr b) told other = a ∙ sym b
 
 none_more : (a : List Located) (l : Located) → [] ≡ a ++ l ∷ [] → ⊥
 none_more [] l e = cc
@@ -148,27 +111,24 @@ module _ (before : List Located) (t : Located) (no_name : IsNoName t.word) where
   abbrev ws : List Word
   ws = words before ++ t.word ∷ []
 
-  shape_not : (e f : ConfigFault) (x : Symbol) → t.word ≡ Punctuation x → CanCause e.kind t.word → Spoils ws e.kind → CanBeginLoosely ws → ⊥
-  shape_not e f x is can told loosely = subst (λ (k : FaultKind). Spoils ws k) (no_closing ws t.word e.kind x is (plain_kind e.kind t.word can no_name)) told loosely
+  shape_here : (e : ConfigFault) (x : Symbol) → t.word ≡ Punctuation x → CanCause e.kind t.word → e.kind ≡ kind.BadShape
+  shape_here e x is can = elim (plain_kind e.kind t.word can no_name) [
+    | inl shape ↦ shape
+    | inr other ↦ other ∙ ap special is
+  ]
 
-  no_two : (x y : Symbol) → t.word ≡ Punctuation x → t.word ≡ Punctuation y → x ≡ y
-  no_two x y a b = let same : Punctuation x ≡ Punctuation y = sym a ∙ b in cc
-
-  list_told : (e : ConfigFault) (o : Located) → e ≡ record { kind = kind.EmptyList; at = o.at } → Spoils ws e.kind → CanBeginLoosely ws
-  list_told e o is told = subst (λ (f : ConfigFault). Spoils ws f.kind) is told
-
-  tuple_told : (e : ConfigFault) (o : Located) → e ≡ record { kind = kind.EmptyTuple; at = o.at } → Spoils ws e.kind → CanBeginLoosely ws
-  tuple_told e o is told = subst (λ (f : ConfigFault). Spoils ws f.kind) is told
+  shape_not : (e : ConfigFault) (x : Symbol) → t.word ≡ Punctuation x → CanCause e.kind t.word → Spoils ws e.kind → CanBeginLoosely ws → ⊥
+  shape_not e x is can told loosely = subst (λ (k : FaultKind). Spoils ws k) (shape_here e x is can) told loosely
 
   closes_one : t.word ≡ Punctuation CloseList → t.word ≡ Punctuation CloseTuple → ⊥
-  closes_one a b = let wrong : CloseList ≡ CloseTuple = no_two CloseList CloseTuple a b in absurd cc
+  closes_one a b = let wrong : Punctuation CloseList ≡ Punctuation CloseTuple = sym a ∙ b in absurd cc
 
   one_here : (e f : ConfigFault) → Spoils ws e.kind → Spoils ws f.kind → IsLocatedAt before t e → IsLocatedAt before t f → e ≡ f
   one_here e f a b (Itself p can) (Itself q other) = same_fault e f (one_plain ws t.word e.kind f.kind (plain_kind e.kind t.word can no_name) (plain_kind f.kind t.word other no_name) a b) (p ∙ sym q)
-  one_here e f a b (Itself p can) (InList front o parts w v k) = absurd (shape_not e f CloseList v can a (list_told f o k b))
-  one_here e f a b (Itself p can) (InTuple front o parts w v k) = absurd (shape_not e f CloseTuple v can a (tuple_told f o k b))
-  one_here e f a b (InList front o parts w v k) (Itself q can) = absurd (shape_not f e CloseList v can b (list_told e o k a))
-  one_here e f a b (InTuple front o parts w v k) (Itself q can) = absurd (shape_not f e CloseTuple v can b (tuple_told e o k a))
+  one_here e f a b (Itself p can) (InList front o parts w v k) = absurd (shape_not e CloseList v can a (subst (λ (f : ConfigFault). Spoils ws f.kind) k b))
+  one_here e f a b (Itself p can) (InTuple front o parts w v k) = absurd (shape_not e CloseTuple v can a (subst (λ (f : ConfigFault). Spoils ws f.kind) k b))
+  one_here e f a b (InList front o parts w v k) (Itself q can) = absurd (shape_not f CloseList v can b (subst (λ (f : ConfigFault). Spoils ws f.kind) k a))
+  one_here e f a b (InTuple front o parts w v k) (Itself q can) = absurd (shape_not f CloseTuple v can b (subst (λ (f : ConfigFault). Spoils ws f.kind) k a))
   one_here e f a b (InList front o parts w v k) (InList other p pieces x y m) = k ∙ ap (λ (u : Located). record { kind = kind.EmptyList; at = u.at }) (last_same front other o p (sym parts ∙ pieces)) ∙ sym m
   one_here e f a b (InTuple front o parts w v k) (InTuple other p pieces x y m) = k ∙ ap (λ (u : Located). record { kind = kind.EmptyTuple; at = u.at }) (last_same front other o p (sym parts ∙ pieces)) ∙ sym m
   one_here e f a b (InList front o parts w v k) (InTuple other p pieces x y m) = absurd (closes_one v y)

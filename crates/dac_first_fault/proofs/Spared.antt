@@ -1,5 +1,5 @@
 -- Any sections keep limits that are none of those of `Keeps`.
-use Rattle.std.proofs.Common.{ℕ, Bool, true, false, List, [], ◌∷◌, ◌++◌}
+use Rattle.std.proofs.Common.{ℕ, Bool, true, false, List, [], ◌∷◌, ◌++◌, arith}
 use Rattle.dac_shapes.specs.laws.Common.{FaultKind, BadShape, TwiceApp, TwiceInList, TooManyNodes, TooManyApps, NameTooLong, EmptyList, EmptyTuple, NumberTooLarge, Unsupported, App, Param, Distributed, Permissions, Mandatory, Optional, Timeout, Section, Kernel, Seen, nothing, AllMay, with_node, with_nodes, listing, with_app, with_permission, with_param, with_section, NodeKeeps, NodesKeep, GroupsKeep, AppKeeps, PermissionKeeps, ValueKeeps, ParamKeeps, SectionKeeps, Keeps}
 
 -- a limit that `Keeps` depends on

@@ -341,12 +341,7 @@ keep_by P Q f before [] h = tt
 keep_by P Q f before (x ∷ xs) h = (f before x h.0, keep_by P Q f (before ++ x ∷ []) xs h.1)
 
 same_param : (a b : ParamName) → eqb (number_of a) (number_of b) ≡ true → a ≡ b
-same_param named.Distributed named.Distributed e = refl
-same_param named.Permissions named.Permissions e = refl
-same_param named.Mandatory named.Mandatory e = refl
-same_param named.Optional named.Optional e = refl
-same_param named.Timeout named.Timeout e = refl
-same_param _ _ e = absurd cc
+same_param a b e = grind arith
 
 abbrev is_this : ParamName → Param → Bool
 is_this name param = is_named name (name_of param)

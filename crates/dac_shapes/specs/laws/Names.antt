@@ -27,18 +27,10 @@ unless_first false b e f = e
 
 -- a negative number that is read is zero
 pub zero_is : (negative zero : Bool) (n : ℕ) → negative ≡ true → (negative && not zero) ≡ false → (zero ≡ true → n ≡ 0) → n ≡ 0
-zero_is true true n neg e is = is refl
-zero_is true false n neg e is = absurd cc
-zero_is false zero n neg e is = absurd cc
+zero_is negative zero n neg e is = grind arith
 
 same_byte : (x y : Symbol) → eqb (byte_of x) (byte_of y) ≡ true → y ≡ x
-same_byte OpenList OpenList e = refl
-same_byte CloseList CloseList e = refl
-same_byte OpenTuple OpenTuple e = refl
-same_byte CloseTuple CloseTuple e = refl
-same_byte Comma Comma e = refl
-same_byte FullStop FullStop e = refl
-same_byte _ _ e = absurd cc
+same_byte x y e = grind arith
 
 pub mark_is : (x : Symbol) (w : Word) → is_symbol x w ≡ true → w ≡ Punctuation x
 mark_is x (Punctuation y) e = ap Punctuation (same_byte x y e)
