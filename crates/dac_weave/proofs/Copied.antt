@@ -1,5 +1,5 @@
 -- The copies of items, and the items that they equal.
-use Rattle.std.proofs.Common.{◌≡◌, ℕ, inl, inr, List, [], ◌∷◌, ◌++◌, Some, None, length, sym, ap, subst, ◌∙◌, refl}
+use Rattle.std.proofs.Common.{◌≡◌, ℕ, inl, inr, List, [], ◌∷◌, ◌++◌, Some, length, sym, ap, subst, ◌∙◌}
 use Rattle.dac_weave.specs.laws.Common.{slice_get, cases_eq, length-map, Bor, lent}
 use Rattle.std.specs.List.{slice_set}
 use Rattle.std.specs.Global.{Vec}
