@@ -1,23 +1,20 @@
 -- The worked run with a loss: the world is ready after two nodes have noted the loss, and their round fails over.
 use Rattle.std.proofs.Common.{◌≡◌, append-nil, ℕ, ◌+◌, ◌≤◌, Bool, true, false, not, cond, ◌||◌, ◌&&◌, List, [], ◌∷◌, ◌++◌, length, Option, Some, None, option_map, Ok, refl, sym, ap, subst, ◌∙◌, arith, inl, inr}
-use Rattle.dac_settle.specs.laws.Common.{nat_lt, IsSome, option_map_or, true≢false, NodeId, MAX_COUNTER, Operation, StateValue, join, AreOperationsOf, meaning_of, meaning-same, starts-meaning, dot, write, DistinctDots-agree, app_count, is_up, key_at, Failover, up_is, is_due_by, Note, IsLost, waits_of, Noted, kept_is, WorldEvent, Hand, Boot, HearOp, Booted, Refusal, DeclaredDown, MomentBack, DotsUsedUp, greatest_counter, terms_used_up, Sweep, sweep_of, sweep_from, claim_of, is_mine, ModelNode, ModelRunning, joined, shown, base_after, refusal_of, meanings, step_by, ModelWorld, AnsweredAs, happens, answered_by, world_after, NodeSet, SetWorld, no_sets, set_run, Sound, sound_run, sound_start, members_of, AreRounds, first_node, second_node, IsEither, the_app, worked_table, first_of, up_of, both_go_round}
-use Rattle.std.specs.Prelude.{nat_eq, ◌==◌}
-use Rattle.std.specs.Option.{is_some, option_and_then}
+use Rattle.dac_settle.specs.laws.Common.{nat_lt, IsSome, ◌==◌, option_map_or, option_and_then, true≢false, NodeId, MAX_COUNTER, Operation, StateValue, join, AreOperationsOf, meaning_of, meaning-same, starts-meaning, dot, write, DistinctDots-agree, app_count, is_up, key_at, Failover, up_is, is_due_by, noted_at, Note, IsLost, waits_of, Noted, kept_is, WorldEvent, Hand, Boot, Crash, HearOp, Booted, Issued, Refusal, DeclaredDown, MomentBack, DotsUsedUp, greatest_counter, terms_used_up, Sweep, sweep_of, sweep_from, claim_of, is_mine, is_mine_by, ModelNode, ModelRunning, joined, shown, base_after, refusal_of, meanings, step_by, off_after, ModelWorld, AnsweredAs, happens, answered_by, world_after, NodeSet, SetWorld, no_sets, set_run, Sound, sound_run, sound_start, members_of, AreRounds, EndsInRounds, first_node, second_node, IsEither, the_app, worked_table, first_of, up_of, both_go_round, lost_node, lost_claim}
+use Rattle.std.specs.Prelude.{nat_eq}
+use Rattle.std.specs.Option.{is_some}
 use Rattle.std.proofs.lemmas.Bool.{false_from_ne_true}
 use Rattle.std.proofs.lemmas.List.{length-append}
 use Rattle.dac_chains.specs.declared.claims.Claim.{Claim}
-use Rattle.dac_decide.specs.FailoverWait.{is_over_at, lost_in, lost_if, since_of, is_same, noted_of, noted_at}
+use Rattle.dac_decide.specs.FailoverWait.{is_over_at, lost_in, lost_if, since_of, is_same, noted_of}
 use Rattle.dac_events.specs.declared.Command.TheVariants.{Start}
 use Rattle.dac_events.specs.declared.What.TheVariants.{Boot as Booting, Crash as Crashing, Command as Telling, Tick as Ticking}
-use Rattle.dac_messages.specs.declared.event.Event.TheVariants.{Crash, Command as Commanded, Tick}
-use Rattle.dac_messages.specs.declared.reply.Reply.TheVariants.{Crashed, Issued, Ticked}
+use Rattle.dac_messages.specs.declared.event.Event.TheVariants.{Command as Commanded, Tick}
+use Rattle.dac_messages.specs.declared.reply.Reply.TheVariants.{Crashed, Ticked}
 use Rattle.dac_commands.specs.Causes.{first}
-use Rattle.dac_ticks.specs.Ticks.{is_mine_by}
-use Rattle.dac_model_world.specs.Histories.{off_after}
 use Rattle.dac_model_world.specs.ModelWorld.{Run}
 use Rattle.dac_settle.specs.Settling.{IsReady}
-use Rattle.dac_settle.specs.WorldRounds.{EndsInRounds}
-use Rattle.dac_settle.specs.WorkedLoss.{lost_node, lost_claim, losing, RunsCanFailOver}
+use Rattle.dac_settle.specs.WorkedLoss.{losing, RunsCanFailOver}
 use Rattle.dac_settle.specs.laws.WorldsSettle.{worlds_settle}
 use Rattle.dac_settle.proofs.ComingUp.{CanClaim, start_at, started_op, booted, starts_on, begun, begun_log, begun_node, ticks_alone, sweep_alone}
 use Rattle.dac_settle.proofs.Handed.{Answer, w0, pushed, known_there, run_of, waiting, with_op, base_with, hearing, few_by, longer, hears_op, wide}

@@ -1,13 +1,12 @@
 -- The worked runs before their rounds: one more accepted event, and handed operations.
 use Rattle.std.proofs.Common.{◌≡◌, ℕ, ◌+◌, ◌≤◌, Bool, true, false, not, cond, ◌&&◌, List, [], ◌∷◌, ◌++◌, length, Some, None, Ok, refl, sym, ap, ◌∙◌, arith, inl}
-use Rattle.dac_settle.specs.laws.Common.{nat_lt, leb-true, le-ltb, NodeId, MAX_COUNTER, Operation, StateValue, meaning_of, is_below, Note, WorldEvent, HearOp, Reply, Heard, DotsUsedUp, no_peers, WorldFault, ModelNode, ModelRunning, joined, shown, base_after, refusal_of, ModelWorld, WorldStepped, happens, answered_by, NodeSet, SetWorld, Sound, worked_table, first_of}
+use Rattle.dac_settle.specs.laws.Common.{nat_lt, leb-true, le-ltb, NodeId, MAX_COUNTER, Operation, StateValue, meaning_of, is_below, Note, WorldEvent, HearOp, Reply, Heard, DotsUsedUp, no_peers, WorldFault, ModelNode, ModelRunning, joined, shown, base_after, refusal_of, ModelWorld, WorldStepped, start, happens, answered_by, NodeSet, SetWorld, Sound, held_at, worked_table, first_of}
 use Rattle.std.specs.Prelude.{Result}
 use Rattle.std.proofs.lemmas.List.{length-append}
 use Rattle.dac_commands.specs.Causes.{first}
 use Rattle.dac_model_world.specs.Transitions.{brings}
-use Rattle.dac_model_world.specs.ModelWorld.{Run, start}
+use Rattle.dac_model_world.specs.ModelWorld.{Run}
 use Rattle.dac_model_world.specs.laws.Runs.{Run-push}
-use Rattle.dac_model_world.specs.laws.Sound.{held_at}
 use Rattle.dac_settle.specs.laws.AnyPlacement.{one}
 
 abbrev pub Answer : Type 0

@@ -1,36 +1,27 @@
 -- The worked run with a drain: the world is ready after both nodes have heard of the drain, and their round moves the
 -- application.
 use Rattle.std.proofs.Common.{◌≡◌, ◌⊎◌, ℕ, ◌+◌, ◌<◌, ◌≤◌, Bool, true, false, not, cond, ◌||◌, List, [], ◌∷◌, ◌++◌, length, Option, Some, None, option_map, Ok, refl, sym, ap, subst, ◌∙◌, arith, inl, inr}
-use Rattle.dac_settle.specs.laws.Common.{nat_lt, IsSome, unwrap_or, option_map_or, false≢true, true≢false, leb-true, le-ltb, NodeId, AppId, MAX_COUNTER, Dot, Origin, dot, Normal, IsGreatest, claim_cmp, IsLive, live_is, keyed_write, write, same_dot_itself, Operation, operation, StateValue, join, IsOperationOf, AreOperationsOf, meaning_of, claim_said, names, replaces, SaysFor, In-append_right, In-append_cases, finds, meaning-same, known-meaning, starts-meaning, drains-meaning, app_count, is_up, key_at, holder_of, verdict_of, Move, up_is, Note, IsLost, IsLostByNewest, waits_of, Noted, WorldEvent, Hand, Boot, HearOp, Booted, Refusal, DeclaredDown, DotsUsedUp, UnknownNode, greatest_counter, terms_used_up, next-is, Sweep, sweep_from, claim_of, claimed_by, is_mine, ModelNode, joined, shown, base_after, refusal_of, meanings, ModelWorld, AnsweredAs, happens, answered_by, world_after, NodeSet, SetWorld, no_sets, set_run, DistinctDots-agree, Sound, sound_run, sound_start, IsLate, members_of, AreRounds, first_node, second_node, IsEither, the_app, worked_table, first_of, up_of, both_go_round}
-use Rattle.std.specs.Prelude.{nat_eq, nat_le, All}
+use Rattle.dac_settle.specs.laws.Common.{nat_lt, nat_le, IsSome, All, unwrap_or, option_map_or, false≢true, true≢false, leb-true, le-ltb, NodeId, AppId, MAX_COUNTER, Dot, Origin, dot, Normal, IsGreatest, IsAtMost, claim_cmp, IsLive, live_is, keyed_write, write, same_dot_itself, Operation, operation, StateValue, join, IsOperationOf, AreOperationsOf, meaning_of, claim_said, names, replaces, SaysFor, In-append_right, In-append_cases, finds, meaning-same, known-meaning, starts-meaning, drains-meaning, app_count, is_up, IsDrainedAt, key_at, holder_of, verdict_of, Move, up_is, Note, IsLost, IsLostByNewest, waits_of, Noted, WorldEvent, Hand, Boot, HearOp, Booted, Issued, Refusal, DeclaredDown, DotsUsedUp, UnknownNode, NotLive, TooManyDots, greatest_counter, live_or_none, act_of, next_operation, not_live, too_many, used_up, terms_used_up, next-is, Sweep, sweep_from, claim_of, claimed_by, is_mine, is_mine_by, ModelNode, joined, shown, base_after, refusal_of, otherwise, meanings, off_after, WorldValue, ModelWorld, AnsweredAs, happens, answered_by, world_after, NodeSet, SetWorld, no_sets, set_run, RunsWith, DistinctDots-agree, Sound, sound_run, sound_start, IsLate, members_of, AreRounds, EndsInRounds, first_node, second_node, IsEither, the_app, worked_table, first_of, up_of, both_go_round, first_claim, draining, drained_set}
+use Rattle.std.specs.Prelude.{nat_eq}
 use Rattle.std.specs.Option.{is_some}
 use Rattle.std.specs.FinMap as map
 use Rattle.std.proofs.lemmas.Bool.{leb-false}
 use Rattle.std.proofs.lemmas.List.{length-append}
 use Rattle.dac_chains.specs.declared.claims.Claim.{Claim}
-use Rattle.dac_lattice.specs.Chains.{IsAtMost}
 use Rattle.dac_wishes.specs.DrainsValue.{origin}
 use Rattle.dac_operations.specs.declared.act.Act.TheVariants.{Claim as Claims, Drain as Drains}
-use Rattle.dac_placement.specs.Placement.{IsDrainedAt}
 use Rattle.dac_events.specs.declared.Command.TheVariants.{Start, Drain}
 use Rattle.dac_events.specs.declared.What.TheVariants.{Boot as Booting, Command as Telling, Tick as Ticking}
 use Rattle.dac_messages.specs.declared.event.Event.TheVariants.{Command as Commanded, Tick}
-use Rattle.dac_messages.specs.declared.reply.Reply.TheVariants.{Issued, Ticked}
-use Rattle.dac_events.specs.declared.refusal.Refusal.TheVariants.{NotLive, TooManyDots}
-use Rattle.dac_commands.specs.Commands.{live, live_or_none, live_origin, standing_drains, act_of, next_operation}
-use Rattle.dac_commands.specs.Causes.{first, not_live, too_many, used_up}
+use Rattle.dac_messages.specs.declared.reply.Reply.TheVariants.{Ticked}
+use Rattle.dac_commands.specs.Commands.{live, live_origin, standing_drains}
+use Rattle.dac_commands.specs.Causes.{first}
 use Rattle.dac_commands.specs.laws.Counters.{used_up_is}
 use Rattle.dac_commands.specs.laws.Standing.{drains_at-has}
-use Rattle.dac_ticks.specs.Ticks.{is_mine_by}
-use Rattle.dac_model_world.specs.EventRefusals.{otherwise}
-use Rattle.dac_model_world.specs.Histories.{off_after}
-use Rattle.dac_model_world.specs.WorldValue.{WorldValue}
 use Rattle.dac_model_world.specs.ModelWorld.{RanAs, Run, numbered}
-use Rattle.dac_model_world.specs.Convergence.{RunsWith}
 use Rattle.dac_settle.specs.Settling.{IsReady}
-use Rattle.dac_settle.specs.WorldRounds.{EndsInRounds}
 use Rattle.dac_settle.specs.Worked.{begun}
-use Rattle.dac_settle.specs.WorkedMove.{first_claim, claiming, draining, drained_set}
+use Rattle.dac_settle.specs.WorkedMove.{claiming}
 use Rattle.dac_settle.specs.WorkedDrain.{drains_first, RunsCanMove}
 use Rattle.dac_settle.specs.laws.AnyPlacement.{one}
 use Rattle.dac_settle.specs.laws.OnlyClaims.{claim_greatest}

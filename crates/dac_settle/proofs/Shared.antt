@@ -1,18 +1,13 @@
 -- The worked run with a share: both nodes boot, one hears of the other, and each ships its whole set to the other.
 use Rattle.std.proofs.Common.{◌≡◌, append-nil, ◌⊎◌, ℕ, ◌+◌, ◌≤◌, Bool, true, false, not, cond, ◌&&◌, List, [], ◌∷◌, ◌++◌, length, Option, Some, None, option_map, Ok, refl, sym, ap, subst, ◌∙◌, arith, inl, inr}
-use Rattle.dac_settle.specs.laws.Common.{nat_lt, NodeId, MAX_COUNTER, Life, IsLive, Operation, StateValue, IsOperationOf, AreOperationsOf, meaning_of, life_said, is_below, meaning-same, WorldEvent, Hand, Message, Boot, Hear, HearOp, Booted, Heard, Refusal, DotsUsedUp, UnknownNode, no_node, no_peers, ModelNode, joined, shown, running_shown, refusal_of, message_of, step_by, ModelWorld, answered_by, NodeSet, SetWorld, no_sets, set_run, first_node, second_node, IsEither, worked_table, first_of, up_of}
+use Rattle.dac_settle.specs.laws.Common.{nat_lt, NodeId, MAX_COUNTER, Life, IsLive, Operation, StateValue, IsOperationOf, AreOperationsOf, meaning_of, life_said, is_below, meaning-same, WorldEvent, Hand, Message, Whole, Boot, Hear, HearOp, Booted, Heard, Refusal, DotsUsedUp, UnknownNode, OnSelf, UpToDate, NotForMe, no_node, Position, no_peers, ack_for, has_all, ModelNode, joined, shown, running_shown, refusal_of, message_of, body_from, step_by, ModelWorld, answered_by, NodeSet, SetWorld, no_sets, set_run, first_node, second_node, IsEither, worked_table, first_of, up_of}
 use Rattle.std.specs.Prelude.{nat_eq}
 use Rattle.std.specs.FinMap as map
 use Rattle.std.specs.FinSet as set
 use Rattle.dac_events.specs.declared.What.TheVariants.{Boot as Booting, Ship as Shipping, Deliver}
-use Rattle.dac_messages.specs.declared.message.Body.TheVariants.{Whole}
 use Rattle.dac_messages.specs.declared.event.Event.TheVariants.{Ship}
 use Rattle.dac_messages.specs.declared.reply.Reply.TheVariants.{Shipped}
-use Rattle.dac_events.specs.declared.refusal.Refusal.TheVariants.{OnSelf, UpToDate, NotForMe}
 use Rattle.dac_commands.specs.Causes.{first}
-use Rattle.dac_peers.specs.declared.positions.Position.{Position}
-use Rattle.dac_peers.specs.Peers.{ack_for, has_all}
-use Rattle.dac_model_world.specs.Transitions.{body_from}
 use Rattle.dac_model_world.specs.ModelWorld.{Run}
 use Rattle.dac_model_world.specs.Fits.{RunsIn}
 use Rattle.dac_model_world.specs.Shares.{TellsAll, IsShare, KnowPresent}

@@ -1,12 +1,11 @@
 -- In the run of the woven events each journal is a history of its node.
 use Rattle.std.proofs.Common.{◌≡◌, true, cond, List, [], ◌∷◌, Ok, Err, map, refl, sym, ap, subst, ◌∙◌}
-use Rattle.dac_weave.specs.laws.Common.{NodeId, Table, node_count, WorldEvent, NoSuchNode, ModelNode, model_step, off_after, start, Record, JournalValue, as_seen, as_world_result, Gives, node_step, node_step_by, replayed, AreAnswered}
+use Rattle.dac_weave.specs.laws.Common.{NodeId, Table, node_count, WorldEvent, NoSuchNode, ModelNode, model_step, off_after, start, Record, JournalValue, entry_of, as_seen, as_world_result, Gives, node_step, node_step_by, replayed, AreAnswered}
 use Rattle.std.specs.Prelude.{nat_lt}
 use Rattle.std.proofs.lemmas.Bool.{true_from_ne_false}
 use Rattle.dac_journal.specs.Histories.{IsHistory}
 use Rattle.dac_journal.specs.EveryList.{OfEachList}
 use Rattle.dac_journal.specs.Converges.{Converges}
-use Rattle.dac_journal.specs.Journals.{entry_of}
 use Rattle.dac_weave.specs.Converging.{IsConverged}
 use Rattle.dac_weave.specs.laws.Runs.{node-after, history-after}
 use Rattle.dac_weave.proofs.Replays.{as_world_result-same, as_world_result-there, node_step-answer, node_step-node}

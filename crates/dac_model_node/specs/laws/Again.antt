@@ -1,17 +1,9 @@
 -- A second tick of a node at the same moment claims nothing.
 use Rattle.std.proofs.Common.{◌≡◌, ℕ, Bool, true, false, not, cond, ◌||◌, List, [], ◌∷◌, ◌++◌, length, Option, Some, None, Result, Ok, refl, sym, ap, subst, ◌∙◌, inl, inr, arith, true≢false}
-use Rattle.dac_model_node.specs.laws.Common.{nat_lt, ltb-true, NodeId, AppId, Origin, IsLive, Operation, StateValue, join, meaning_of, Table, is_up, up_is, Opening, Shut, Opened, GiveUp, Noted, Note, waits_of, Tick, Reply, Refusal, DeclaredDown, MomentBack, DotsUsedUp, declared_down, none_is, sweep_of, ModelNode, ModelRunning, base_after, joined, running_shown, causes_to_tick, refusal_to_tick, needed, too_few_left, too_many_deltas, meanings, opening_at, ticks_by, goes_on, model_step, step_by}
-use Rattle.std.proofs.lemmas.Bool.{false_from_ne_true}
+use Rattle.dac_model_node.specs.laws.Common.{nat_lt, ltb-true, false_from_ne_true, NodeId, AppId, Origin, IsLive, Act, Operation, StateValue, IsState, join, meaning_of, Table, is_up, up_is, Opening, Shut, Opened, GiveUp, Noted, Note, waits_of, Tick, Reply, Ticked, Refusal, DeclaredDown, MomentBack, DotsUsedUp, next_operation, declared_down, none_is, Sweep, sweep_of, claim_of, numbered, swept_by, sweep_reaches, state_joined, ModelNode, ModelRunning, base_after, joined, running_shown, causes_to_tick, refusal_to_tick, needed, too_few_left, too_many_deltas, meanings, opening_at, ticks_by, goes_on, model_step, step_by}
 use Rattle.dac_chains.specs.Lives.{Lives}
-use Rattle.dac_operations.specs.declared.act.Act.{Act}
-use Rattle.dac_meaning.specs.StateValue.{IsState}
 use Rattle.dac_decide.specs.Placement.{verdict_of}
-use Rattle.dac_messages.specs.declared.reply.Reply.TheVariants.{Ticked}
-use Rattle.dac_commands.specs.Commands.{next_operation}
 use Rattle.dac_commands.specs.Causes.{first as first_cause}
-use Rattle.dac_ticks.specs.Ticks.{Sweep, claim_of}
-use Rattle.dac_ticks.specs.laws.Sweeping.{numbered, swept_by, sweep_reaches}
-use Rattle.dac_ticks.specs.laws.Claims.{state_joined}
 use Rattle.dac_ticks.specs.laws.Claimed.{claim_alike, claim_state, claimed_as}
 use Rattle.dac_ticks.specs.laws.Again.{second_tick}
 use Rattle.dac_ticks.specs.Again.{IsAmong}

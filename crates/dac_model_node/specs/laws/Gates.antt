@@ -1,7 +1,6 @@
 -- An open start gate stays open until its node goes off.
 use Rattle.std.proofs.Common.{◌≡◌, ℕ, ◌-◌, true, cond, List, ◌∷◌, Option, Some, None, refl, sym, ap, subst}
-use Rattle.dac_model_node.specs.laws.Common.{NodeId, Table, Note, waits_of, Opening, Shut, Opened, GiveUp, Noted, Event, Boot, Crash, Tick, Ship, Hear, HearOp, Refusal, RunningValue, ModelNode, ModelRunning, joined, running_shown, shown, refusal_of, opening_at, ticks_by, note_of, goes_on, model_step, step_by}
-use Rattle.dac_decide.specs.StartGate.{opening_of}
+use Rattle.dac_model_node.specs.laws.Common.{NodeId, Table, Note, waits_of, opening_of, Opening, Shut, Opened, GiveUp, Noted, Event, Boot, Crash, Tick, Ship, Hear, HearOp, Refusal, RunningValue, ModelNode, ModelRunning, joined, running_shown, shown, refusal_of, opening_at, ticks_by, note_of, goes_on, model_step, step_by}
 use Rattle.dac_messages.specs.declared.event.Event.TheVariants.{Command as Commanded}
 use Rattle.dac_model_node.specs.Gates.{SaysOpen, SaysShut, SaysOff, Answers, RunsOpen, TicksOpen, OpenStays, OpenIsOpen}
 

@@ -1,6 +1,6 @@
 -- The dots that a node hears by an accepted event.
 use Rattle.std.proofs.Common.{◌≡◌, ℕ, Bool, true, false, cond, ◌||◌, List, [], ◌∷◌, Option, Some, None, map, refl, sym, ap, ◌∙◌, true≢false}
-use Rattle.dac_model_node.specs.laws.Common.{fold, NodeId, Operation, StateValue, join, meaning_of, is_below, is_below-is, Table, Opening, Shut, Opened, GiveUp, Noted, content_of, Event, Boot, Crash, Tick, Ship, Hear, HearOp, AlreadyOn, sweep_of, RunningValue, refusal_by, transition_of, meanings, opening_at, ticks_by, left_by, reply_by, running_by}
+use Rattle.dac_model_node.specs.laws.Common.{fold, NodeId, Operation, StateValue, join, meaning_of, is_below, is_below-is, Table, Opening, Shut, Opened, GiveUp, Noted, content_of, Event, Boot, Crash, Tick, Ship, Hear, HearOp, AlreadyOn, sweep_of, RunningValue, state_of, refusal_by, transition_of, brings, meanings, opening_at, ticks_by, left_by, reply_by, running_by}
 use Rattle.std.specs.List.{list_any}
 use Rattle.std.specs.FinSet as set
 use Rattle.dac_origins.specs.declared.dot.Dot.{Dot}
@@ -10,8 +10,6 @@ use Rattle.dac_store.specs.laws.Stores.{same_context, subset_left, subset_union}
 use Rattle.dac_wishes.specs.Writes.{same_dot}
 use Rattle.dac_meaning.specs.laws.StateLaws.{heard-join}
 use Rattle.dac_messages.specs.declared.event.Event.TheVariants.{Command as Commanded}
-use Rattle.dac_model_node.specs.NodeValue.{state_of}
-use Rattle.dac_model_node.specs.Transitions.{brings}
 use Rattle.dac_model_node.specs.Hearing.{dots_brought, dots_issued, HearsExactly}
 use Rattle.dac_model_node.specs.laws.Options.{some_same}
 

@@ -1,7 +1,6 @@
 -- A tick that is held back notes nothing, and its moment counts.
 use Rattle.std.proofs.Common.{◌≡◌, ℕ, ◌<◌, Bool, false, ◌||◌, List, [], ◌∷◌, ◌++◌, length, Option, Some, None, option_map, Result, Ok, Err, refl, ap, ◌∙◌, append-nil}
-use Rattle.dac_model_node.specs.laws.Common.{lt-ltb, NodeId, Table, waits_of, Opening, Shut, Opened, GiveUp, Noted, Tick, Reply, Refusal, DeclaredDown, MomentBack, DotsUsedUp, declared_down, none_is, ModelNode, ModelRunning, base_after, joined, running_shown, causes_to_tick, refusal_to_tick, needed, too_few_left, too_many_deltas, opening_at, note_of, ticks_by, goes_on, model_step, step_by}
-use Rattle.dac_messages.specs.declared.reply.Reply.TheVariants.{Held}
+use Rattle.dac_model_node.specs.laws.Common.{lt-ltb, NodeId, Table, waits_of, Opening, Shut, Opened, GiveUp, Noted, Tick, Reply, Held, Refusal, DeclaredDown, MomentBack, DotsUsedUp, declared_down, none_is, ModelNode, ModelRunning, base_after, joined, running_shown, causes_to_tick, refusal_to_tick, needed, too_few_left, too_many_deltas, opening_at, note_of, ticks_by, goes_on, model_step, step_by}
 use Rattle.dac_commands.specs.Causes.{first as first_cause}
 use Rattle.dac_model_node.specs.HeldBack.{WaitsAsBefore, HeldTicksNoteNothing, HeldTicksCount}
 

@@ -1,14 +1,10 @@
 -- There are numbers for the deltas that an accepted event adds.
 use Rattle.std.proofs.Common.{◌≡◌, ◌≤◌, ℕ, ◌+◌, Bool, true, false, not, ◌&&◌, List, [], ◌∷◌, length, Option, Some, None, refl, arith}
-use Rattle.dac_model_node.specs.laws.Common.{max, ltb-false, MAX_COUNTER, Origin, Operation, StateValue, meaning_of, is_below, Table, app_count, Opening, Shut, Opened, GiveUp, Noted, sweep_of, Command, Message, content_of, Event, Boot, Crash, Tick, Ship, Hear, HearOp, Refusal, DotsUsedUp, none_is, RunningValue, needed, overflows, refusal_on, too_many_deltas, transition_of, meanings, opening_at, ticks_by}
+use Rattle.dac_model_node.specs.laws.Common.{max, ltb-false, MAX_COUNTER, Origin, Operation, StateValue, meaning_of, is_below, Table, app_count, Opening, Shut, Opened, GiveUp, Noted, Sweep, sweep_of, claim_of, numbered, swept_by, sweep_reaches, Command, Message, content_of, Event, Boot, Crash, Tick, Ship, Hear, HearOp, Refusal, DotsUsedUp, first, refusal_of_command, none_is, RunningValue, needed, otherwise, overflows, refusal_on, too_many_deltas, brings, transition_of, meanings, opening_at, ticks_by}
 use Rattle.std.specs.Prelude.{cond}
 use Rattle.std.proofs.lemmas.List.{length-append, length-map}
-use Rattle.dac_ticks.specs.Ticks.{Sweep, claim_of}
-use Rattle.dac_ticks.specs.laws.Sweeping.{numbered, swept_by, sweep_reaches}
 use Rattle.dac_messages.specs.declared.event.Event.TheVariants.{Command as Commanded}
-use Rattle.dac_commands.specs.Causes.{first, refusal_of_command}
-use Rattle.dac_model_node.specs.EventRefusals.{otherwise, causes_to_hear, refusal_to_hear, refusal_to_obey}
-use Rattle.dac_model_node.specs.Transitions.{brings}
+use Rattle.dac_model_node.specs.EventRefusals.{causes_to_hear, refusal_to_hear, refusal_to_obey}
 use Rattle.dac_model_node.specs.laws.Counters.{leaves_numbers}
 
 -- neither of two causes holds

@@ -1,10 +1,9 @@
 -- Results that leave the state and the incarnation of a node unchanged.
 use Rattle.std.proofs.Common.{◌≡◌, ℕ, Bool, true, false, not, cond, ◌==◌, List, [], ◌∷◌, ◌++◌, length, Option, Some, None, refl, ap, ◌∙◌, append-nil, arith}
-use Rattle.dac_model_node.specs.laws.Common.{false≢true, eqb-true, NodeId, Operation, StateValue, meaning_of, is_below, Table, Opening, Shut, Opened, GiveUp, Noted, waits_of, sweep_of, content_of, Event, Boot, Crash, Tick, Ship, Hear, HearOp, Refusal, NodeValue, RunningValue, ModelNode, ModelRunning, base_after, joined, running_shown, shown, refusal_by, refusal_of, refusal_on, Transition, transition_of, meanings, note_of, opening_at, ticks_by, model_step, step_by}
+use Rattle.dac_model_node.specs.laws.Common.{false≢true, eqb-true, NodeId, Operation, StateValue, meaning_of, is_below, Table, Opening, Shut, Opened, GiveUp, Noted, waits_of, sweep_of, content_of, Event, Boot, Crash, Tick, Ship, Hear, HearOp, Refusal, NodeValue, RunningValue, state_of, ModelNode, ModelRunning, base_after, joined, running_shown, shown, refusal_by, refusal_of, refusal_on, Transition, transition_of, meanings, note_of, opening_at, ticks_by, accepted, transition_on, model_step, step_by}
 use Rattle.std.specs.Option.{option_map}
 use Rattle.dac_messages.specs.declared.event.Event.TheVariants.{Command as Commanded}
-use Rattle.dac_model_node.specs.NodeValue.{origin_of, state_of}
-use Rattle.dac_model_node.specs.Step.{accepted, transition_on}
+use Rattle.dac_model_node.specs.NodeValue.{origin_of}
 use Rattle.dac_model_node.specs.Keeping.{leaves_state, says_it_stays}
 use Rattle.dac_model_node.specs.laws.Writing.{no_on}
 

@@ -1,15 +1,13 @@
 -- Tests of causes, in words: where an application runs and in which group, and the counters that are left.
-use Rattle.std.specs.Prelude.{◌≡◌, ◌⊎◌, ◌↔◌, ℕ, ◌+◌, ◌-◌, ◌<◌, ◌≤◌, Bool, true, false, not, Option, None, Some, is_some, refl}
-use Rattle.std.specs.Option.{option_map_or}
+use Rattle.std.specs.Prelude.{◌≡◌, ◌⊎◌, ◌↔◌, ℕ, ◌+◌, ◌-◌, ◌<◌, ◌≤◌, Bool, true, false, not, Option, None, Some, refl}
 use Rattle.std.specs.FinSet as set
 use Rattle.std.proofs.Common.{sym, ap, subst, ◌∙◌, inl, inr, arith, zero, suc}
-use Rattle.dac_model_node.specs.laws.Common.{max, false≢true, lt-ltb, ltb-true, MAX_COUNTER, NodeId, AppId, Origin, StateValue, Table, app_count, greatest_counter, needed, too_few_left, RunningValue}
+use Rattle.dac_model_node.specs.laws.Common.{max, is_some, option_map_or, false≢true, lt-ltb, ltb-true, MAX_COUNTER, NodeId, AppId, Origin, StateValue, Table, app_count, runner_of, greatest_counter, runs_earlier, used_up, used_up_is, needed, too_few_left, RunningValue}
 use Rattle.dac_origins.specs.Dots.{dot}
-use Rattle.dac_decide.specs.Placement.{RunsAt, runner_of, IsEarlier, is_earlier}
+use Rattle.dac_decide.specs.Placement.{RunsAt, IsEarlier, is_earlier}
 use Rattle.dac_decide.specs.laws.Tests.{runner_is}
 use Rattle.dac_decide.specs.laws.Judged.{earlier_is}
-use Rattle.dac_commands.specs.Causes.{runs_earlier, used_up}
-use Rattle.dac_commands.specs.laws.Counters.{counter-greatest, used_up_is, next_of_is}
+use Rattle.dac_commands.specs.laws.Counters.{counter-greatest, next_of_is}
 use Rattle.dac_model_node.specs.Refused.{LeavesFewer, LacksFor}
 
 -- ---- running at a node

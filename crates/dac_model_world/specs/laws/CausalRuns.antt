@@ -1,14 +1,10 @@
 -- Runs in which no single operation is handed: each set is closed, and each operation was issued as the next after a
 -- closed set.
 use Rattle.std.proofs.Common.{◌≡◌, ℕ, zero, suc, ◌-◌, ◌+◌, true, false, cond, inl, inr, List, [], ◌∷◌, ◌++◌, Option, Some, None, Ok, Err, nat_eq, refl, sym, ap, subst, ◌∙◌}
-use Rattle.dac_model_world.specs.laws.Common.{nat_lt, slice_get, option_map, NodeId, Origin, Operation, AreOperationsOf, DotsDetermine, Within-append, In-append_left, In-append_right, Table, Opening, Shut, Opened, GiveUp, Noted, Note, waits_of, WorldEvent, What, Deliver, Hand, Message, Event, Boot, Crash, Tick, Ship, Hear, HearOp, Reply, act_of, next_operation, Refusal, refusal_of_command, sweep_of, ModelNode, ModelRunning, joined, shown, running_shown, refusal_of, refusal_by, ticks_by, opening_at, note_of, step_by, up, goes_on, accepted, some_same, NoSuchNode, ModelWorld, happens, happens_by, answered_by, event_of, Step, Run, SetWorld, NodeSet, Issue, Copy, with_set, held_by, united, issues_of, copied_by, copied_to, brought_to, booting, issuing, set_step, set_run, no_sets, DistinctDots}
-use Rattle.dac_events.specs.declared.Command.{Command}
+use Rattle.dac_model_world.specs.laws.Common.{nat_lt, slice_get, option_map, NodeId, Origin, Operation, AreOperationsOf, DotsDetermine, Within-append, In-append_left, In-append_right, Table, Opening, Shut, Opened, GiveUp, Noted, Note, waits_of, Command, WorldEvent, What, Deliver, Hand, Message, Event, Boot, Crash, Tick, Ship, Hear, HearOp, Reply, act_of, next_operation, Refusal, refusal_of_command, sweep_of, claims_are, ModelNode, ModelRunning, joined, shown, running_shown, refusal_of, refusal_by, refusal_to_tick, ticks_by, opening_at, note_of, step_by, up, goes_on, accepted, leaves_room, some_same, NoSuchNode, ModelWorld, happens, happens_by, answered_by, event_of, Step, Run, SetWorld, NodeSet, Issue, Copy, with_set, held_by, united, issues_of, is_for, copied_by, copied_to, brought_to, booting, issuing, going_off, set_step, set_run, no_sets, DistinctDots}
 use Rattle.dac_messages.specs.declared.event.Event.TheVariants.{Command as Commanded}
-use Rattle.dac_model_node.specs.laws.Claims.{claims_are}
-use Rattle.dac_model_node.specs.EventRefusals.{refusal_to_tick, otherwise}
-use Rattle.dac_model_node.specs.laws.Counters.{leaves_room}
+use Rattle.dac_model_node.specs.EventRefusals.{otherwise}
 use Rattle.dac_model_world.specs.ModelWorld.{counted}
-use Rattle.dac_model_world.specs.SetWorld.{is_for, going_off}
 use Rattle.dac_model_world.specs.Causality.{IsNoHanding, HandsNothing}
 use Rattle.dac_model_world.specs.laws.Operations.{Agree-within, DistinctDots-agree}
 use Rattle.dac_model_world.specs.laws.OneNode.{own_origin}

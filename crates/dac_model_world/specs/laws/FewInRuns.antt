@@ -1,12 +1,8 @@
 -- A running node has no more deltas than its results account for.
 use Rattle.std.proofs.Common.{◌≡◌, ℕ, ◌≤◌, ◌+◌, Bool, true, false, not, cond, List, [], ◌∷◌, ◌++◌, length, Option, Some, None, Result, Ok, Err, inl, inr, nat_eq, refl, sym, ap, subst, ◌∙◌, le_refl, arith}
-use Rattle.dac_model_world.specs.laws.Common.{nat_lt, exact_unsigned_eq, NodeId, Operation, StateValue, meaning_of, is_below, Table, Opening, Shut, Opened, GiveUp, Noted, Note, waits_of, WorldEvent, content_of, Event, Boot, Crash, Tick, Ship, Hear, HearOp, Reply, Heard, NoMemory, sweep_of, RunningValue, ModelNode, ModelRunning, joined, shown, running_shown, refusal_of, brings, ticks_by, opening_at, moment_of, note_of, step_by, up, comes_up, goes_on, accepted, some_same, WorldFault, NoSuchNode, Refused, ModelWorld, happens, happens_by, answered_by, event_of, with_node, Step}
-use Rattle.std.proofs.lemmas.List.{length-append, length-map}
+use Rattle.dac_model_world.specs.laws.Common.{nat_lt, exact_unsigned_eq, length-append, length-map, NodeId, Operation, StateValue, meaning_of, is_below, Table, Opening, Shut, Opened, GiveUp, Noted, Note, waits_of, WorldEvent, content_of, Event, Boot, Crash, Tick, Ship, Hear, HearOp, Reply, Booted, Heard, NoMemory, sweep_of, RunningValue, ModelNode, ModelRunning, joined, shown, running_shown, refusal_of, Transition, brings, transition_of, ticks_by, opening_at, moment_of, note_of, step_by, up, comes_up, goes_on, transition_on, accepted, some_same, WorldFault, NoSuchNode, Refused, ModelWorld, happens, happens_by, answered_by, event_of, with_node, Step, deltas_with}
 use Rattle.dac_messages.specs.declared.event.Event.TheVariants.{Command as Commanded}
-use Rattle.dac_messages.specs.declared.reply.Reply.TheVariants.{Booted}
-use Rattle.dac_model_node.specs.Transitions.{Transition, transition_of}
-use Rattle.dac_model_node.specs.Step.{transition_on}
-use Rattle.dac_model_world.specs.Fits.{deltas_after, deltas_with}
+use Rattle.dac_model_world.specs.Fits.{deltas_after}
 use Rattle.dac_model_world.specs.laws.OneNode.{own_origin, runs_as}
 use Rattle.dac_model_world.specs.laws.Carried.{none_some}
 

@@ -1,16 +1,14 @@
 -- The program's world follows the model worlds that show as it.
 use Rattle.std.proofs.Common.{◌≡◌, ℕ, ◌<◌, Bool, true, false, cond, inl, inr, List, ◌∷◌, ◌++◌, Option, Some, None, Result, Ok, Err, length, nat_eq, refl, sym, ap, subst, ◌∙◌, lt-ltb, eq-eqb, get_or, true≢false}
-use Rattle.dac_model_world.specs.laws.Common.{nat_lt, option_map, slice_get, exact_unsigned_eq, false_from_ne_true, NodeId, Table, Opening, Shut, Opened, GiveUp, Noted, waits_of, WorldEvent, Event, Crash, Tick, Reply, Crashed, Refusal, Off, NoMemory, WorldFault, NoSuchNode, Refused, NodeValue, RunningValue, ModelNode, ModelRunning, joined, shown, running_shown, refusal_of, refusal_by, ticks_by, opening_at, note_of, model_step, step_by, accepted, WorldValue, ModelWorld, Shows, happens, happens_by, answered_by, event_of, numbered, with_node, out_of_memory, Step, some_same}
-use Rattle.std.specs.Prelude.{unwrap_or, IsOk, IfOk, IfErr, IfSome, OnErr}
+use Rattle.dac_model_world.specs.laws.Common.{nat_lt, IfSome, option_map, slice_get, exact_unsigned_eq, false_from_ne_true, NodeId, Table, Opening, Shut, Opened, GiveUp, Noted, waits_of, WorldEvent, Event, Crash, Tick, Reply, Crashed, Refusal, Off, NoMemory, WorldFault, NoSuchNode, Refused, NodeValue, RunningValue, ModelNode, ModelRunning, joined, shown, running_shown, refusal_of, refusal_by, ticks_by, opening_at, note_of, model_step, step_by, accepted, Stepped, AcceptedAs, left_by, reply_by, WorldValue, ModelWorld, Shows, happens, happens_by, answered_by, event_of, numbered, with_node, issued_by, shipped_by, out_of_memory, Step, Follows, Goes, step_accepted, some_same}
+use Rattle.std.specs.Prelude.{unwrap_or, IsOk, IfOk, IfErr, OnErr}
 use Rattle.std.proofs.lemmas.Option.{slice_get_read}
-use Rattle.dac_model_node.specs.Step.{Stepped}
 use Rattle.dac_model_node.specs.Hearing.{HearsExactly}
-use Rattle.dac_model_node.specs.Accepted.{AcceptedAs, AreNewest, IsNotingBy, left_by, reply_by}
-use Rattle.dac_model_world.specs.ModelWorld.{WorldStepped, issued_by, shipped_by, Follows}
-use Rattle.dac_model_world.specs.WorldChanges.{Goes}
+use Rattle.dac_model_node.specs.Accepted.{AreNewest, IsNotingBy}
+use Rattle.dac_model_world.specs.ModelWorld.{WorldStepped}
 use Rattle.dac_model_world.specs.AtNode.{HearsAt, HearsIn, HappensAt}
 use Rattle.dac_model_node.specs.laws.Heard.{hears_exactly}
-use Rattle.dac_model_node.specs.laws.Steps.{shown_accepted, answer_accepted, step_accepted}
+use Rattle.dac_model_node.specs.laws.Steps.{shown_accepted, answer_accepted}
 
 -- the node of a world that shows as v
 node_shown : (t : Table) (w : ModelWorld) (v : WorldValue) → Shows t w v → (me : NodeId) (old : NodeValue) → me.0 < length v.nodes → slice_get v.nodes me.0 ≡ Some old → shown t (w.node me) ≡ old

@@ -1,10 +1,9 @@
 -- Logs of states as lists of sets of operations, each state the meaning of a set.
 use Rattle.std.proofs.Common.{◌≡◌, ℕ, ◌⊎◌, inl, inr, List, [], ◌∷◌, ◌++◌, length, take, drop, fold, map as list_map, refl, sym, ap, subst, ◌∙◌, append-nil, append_assoc, take-append-drop}
-use Rattle.dac_model_world.specs.laws.Common.{map-append, origin_cmp, dots_total, exact_dots, Operation, StateValue, bottom, join, meaning_of, IsOperationOf, AreOperationsOf, DotsDetermine, heard-meaning, known-meaning, lives-meaning, In-append_left, In-append_right, In-append_cases, join-meaning, joined, meanings}
-use Rattle.std.proofs.lemmas.List.{length-map, drop-map}
+use Rattle.dac_model_world.specs.laws.Common.{map-append, length-map, dot_cmp, origin_cmp, dots_total, exact_dots, Operation, StateValue, bottom, join, meaning_of, IsOperationOf, AreOperationsOf, DotsDetermine, heard-meaning, known-meaning, starts-meaning, permits-meaning, lives-meaning, drains-meaning, In-append_left, In-append_right, In-append_cases, join-meaning, meaning-same, joined, meanings}
+use Rattle.std.proofs.lemmas.List.{drop-map}
 use Rattle.std.specs.FinSet as set
 use Rattle.std.specs.FinMap as map
-use Rattle.dac_origins.specs.Dots.{dot_cmp}
 use Rattle.dac_wishes.specs.KeyedWrites.{keyed_write_cmp}
 use Rattle.dac_wishes.specs.laws.DrainsValue.{same_drains}
 use Rattle.dac_wishes.specs.Writes.{write_cmp}
@@ -12,8 +11,7 @@ use Rattle.dac_wishes.specs.laws.WishesValue.{same_wishes}
 use Rattle.dac_wishes.specs.laws.PermissionsValue.{same_permissions}
 use Rattle.dac_meaning.specs.StateValue.{permissions_of, wishes_of, drains_of}
 use Rattle.dac_meaning.specs.laws.StateLaws.{same_state}
-use Rattle.dac_meaning.specs.laws.Readers.{starts-meaning, permits-meaning, claims-meaning, drains-meaning}
-use Rattle.dac_meaning.specs.laws.Joins.{meaning-same}
+use Rattle.dac_meaning.specs.laws.Readers.{claims-meaning}
 use Rattle.dac_model_world.specs.laws.Operations.{Agree-within}
 
 -- sets of operations, one after another

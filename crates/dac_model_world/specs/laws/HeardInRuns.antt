@@ -1,16 +1,10 @@
 -- A running node hears what fits it, unless an allocation fails or its delta numbers are used up.
 use Rattle.std.proofs.Common.{◌≡◌, ◌⊎◌, ◌<◌, ◌≤◌, ℕ, zero, suc, ◌+◌, ◌-◌, Bool, true, false, not, cond, ◌&&◌, List, [], ◌∷◌, length, Option, Some, None, Result, Ok, Err, inl, inr, nat_eq, refl, sym, ap, subst, ◌∙◌, true≢false, ltb-true, arith}
-use Rattle.dac_model_world.specs.laws.Common.{nat_lt, option_map, slice_get, exact_unsigned_eq, NodeId, Origin, Operation, meaning_of, is_below, Table, WorldEvent, What, Deliver, Hand, Message, content_of, Event, Hear, HearOp, Reply, Crashed, Heard, first, Refusal, OnSelf, WorldFault, NoSuchNode, ModelNode, ModelRunning, joined, shown, running_shown, refusal_of, refusal_by, model_step, step_by, accepted, some_same, ModelWorld, happens, happens_by, answered_by, event_of, handed_by, Step, Run, start, SetWorld, NodeSet, Issue, Copy, with_set, united, booting, issuing, brought_to, set_step, no_sets, state_by}
-use Rattle.std.specs.Option.{option_map_or}
-use Rattle.std.proofs.lemmas.Bool.{and_parts}
-use Rattle.dac_base.specs.declared.limits.TheConstants.{MAX_COUNTER}
-use Rattle.dac_messages.specs.declared.reply.Reply.TheVariants.{Booted, Issued, Ticked, Held, GaveUp, Shipped}
-use Rattle.dac_events.specs.declared.refusal.Refusal.TheVariants.{NotForMe, DotsUsedUp}
-use Rattle.dac_model_node.specs.EventRefusals.{overflows, too_many_deltas}
-use Rattle.dac_model_node.specs.Step.{Stepped, transition_on}
-use Rattle.dac_model_node.specs.laws.Steps.{step_accepted}
+use Rattle.dac_model_world.specs.laws.Common.{nat_lt, option_map, option_map_or, slice_get, exact_unsigned_eq, and_parts, MAX_COUNTER, NodeId, Origin, Operation, meaning_of, is_below, Table, WorldEvent, What, Deliver, Hand, Message, content_of, Event, Hear, HearOp, Reply, Booted, Crashed, GaveUp, Shipped, Heard, first, Refusal, OnSelf, NotForMe, DotsUsedUp, WorldFault, NoSuchNode, ModelNode, ModelRunning, joined, shown, running_shown, refusal_of, refusal_by, overflows, Stepped, model_step, step_by, accepted, transition_on, step_accepted, some_same, ModelWorld, happens, happens_by, answered_by, event_of, handed_by, Step, Run, start, SetWorld, NodeSet, Issue, Copy, with_set, united, booting, issuing, brought_to, set_step, no_sets, state_by, deltas_with}
+use Rattle.dac_messages.specs.declared.reply.Reply.TheVariants.{Issued, Ticked, Held}
+use Rattle.dac_model_node.specs.EventRefusals.{too_many_deltas}
 use Rattle.dac_model_world.specs.ModelWorld.{heard_by, counted}
-use Rattle.dac_model_world.specs.Fits.{RunsIn, IsCopyFor, Fits, IsHeard, IsFull, deltas_with, no_deltas, HearsWhatFits, HearsAllThatFits}
+use Rattle.dac_model_world.specs.Fits.{RunsIn, IsCopyFor, Fits, IsHeard, IsFull, no_deltas, HearsWhatFits, HearsAllThatFits}
 use Rattle.dac_model_world.specs.laws.OneNode.{state_in}
 use Rattle.dac_model_world.specs.laws.Runs.{run_first}
 use Rattle.dac_model_world.specs.laws.Covers.{Seen}

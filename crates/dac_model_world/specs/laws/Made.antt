@@ -1,22 +1,16 @@
 -- Every event keeps a world made of issued operations: a node issues operations with new dots, and is brought only
 -- meanings of issued operations.
 use Rattle.std.proofs.Common.{◌≡◌, ℕ, zero, suc, ◌+◌, ◌-◌, Bool, true, false, cond, inl, inr, List, [], ◌∷◌, ◌++◌, Option, Some, None, Ok, nat_eq, fold, refl, sym, ap, subst, ◌∙◌, append-nil, eq-eqb, true≢false}
-use Rattle.dac_model_world.specs.laws.Common.{nat_lt, option_map, slice_get, exact_unsigned_eq, NodeId, Table, Origin, Operation, StateValue, bottom, join, meaning_of, IsOperationOf, AreOperationsOf, DotsDetermine, is_below, Within-append, In-append_left, In-append_right, In-append_cases, join-meaning, Opening, Shut, Opened, GiveUp, Noted, What, act_of, next_operation, Nothing, Message, content_of, Event, Boot, Crash, Tick, Ship, Hear, HearOp, Reply, Crashed, Heard, Position, begins, sweep_of, AreIssued, NodeValue, RunningValue, shown, ticks_by, opening_at, meanings, brings, message_of, up, claims_issued, some_same, WorldValue, Shows, start, event_of, numbered, DistinctDots}
-use Rattle.std.specs.Prelude.{IfSome}
+use Rattle.dac_model_world.specs.laws.Common.{nat_lt, IfSome, option_map, slice_get, exact_unsigned_eq, NodeId, Table, Origin, Operation, StateValue, bottom, join, meaning_of, IsOperationOf, AreOperationsOf, DotsDetermine, is_below, Within-append, In-append_left, In-append_right, In-append_cases, join-meaning, Opening, Shut, Opened, GiveUp, Noted, What, act_of, next_operation, Interval, Nothing, Message, content_of, Event, Boot, Crash, Tick, Ship, Hear, HearOp, Reply, Crashed, GaveUp, Heard, Position, begins, has_all, sweep_of, AreIssued, NodeValue, RunningValue, state_of, shown, Transition, transition_of, ticks_by, opening_at, meanings, brings, body_from, message_of, up, AcceptedAs, reply_by, left_by, claims_issued, some_same, WorldValue, Goes, Shows, start, event_of, numbered, issued_by, shipped_by, DistinctDots}
 use Rattle.std.specs.List.{All}
 use Rattle.std.proofs.lemmas.List.Elements.{All-nil, All-cons, All-head, All-tail, All-append, All-push, All-drop, All-weaker}
 use Rattle.dac_config.specs.Table.{node_count}
 use Rattle.dac_deltas.specs.KeptDeltas.{KeptDeltas, empty, pushed, trimmed, numbered_from}
-use Rattle.dac_messages.specs.declared.message.Body.TheVariants.{Interval}
 use Rattle.dac_messages.specs.declared.event.Event.TheVariants.{Command as Commanded}
-use Rattle.dac_messages.specs.declared.reply.Reply.TheVariants.{GaveUp}
-use Rattle.dac_model_node.specs.Peers.{has_all}
-use Rattle.dac_model_node.specs.NodeValue.{state_of}
-use Rattle.dac_model_node.specs.Transitions.{Transition, transition_of, body_from, keeps, goes_down, holds_back, looks_after, ships, hears as hears_state, hears_message, issues}
-use Rattle.dac_model_node.specs.Accepted.{AcceptedAs, running_by, reply_by, left_by}
+use Rattle.dac_model_node.specs.Transitions.{keeps, goes_down, holds_back, looks_after, ships, hears as hears_state, hears_message, issues}
+use Rattle.dac_model_node.specs.Accepted.{running_by}
 use Rattle.dac_model_world.specs.Histories.{off_after}
-use Rattle.dac_model_world.specs.WorldChanges.{Goes}
-use Rattle.dac_model_world.specs.ModelWorld.{counted, issued_by, shipped_by}
+use Rattle.dac_model_world.specs.ModelWorld.{counted}
 use Rattle.dac_model_world.specs.Made.{Means, own_origin, NoneLater, SetOk, RunsMade, NodeMade, BodiesMean, IsMade}
 use Rattle.dac_model_world.specs.laws.Operations.{one_in, Agree-within, DistinctDots-agree, DistinctDots-push}
 use Rattle.dac_model_world.specs.laws.Meanings.{join-bottom}

@@ -1,10 +1,10 @@
 -- The invariant of one node of the model world and its set. A running node's state is the meaning of its set. The set
 -- contains all operations of its present incarnation, and no operation is of a later one, so that its next dot is new.
 use Rattle.std.proofs.Common.{◌≡◌, ℕ, ◌≤◌, ◌+◌, true, false, ◌||◌, inl, inr, List, [], ◌∷◌, ◌++◌, Option, Some, None, refl, sym, ap, subst, ◌∙◌, append_assoc, append-nil, arith}
-use Rattle.dac_model_world.specs.laws.Common.{option_map, list_any, false_from_ne_true, NodeId, Origin, Dot, same_dot_is, same_dot_itself, Act, Operation, StateValue, join, meaning_of, IsOperationOf, AreOperationsOf, DotsDetermine, has_dot, known-meaning, Within-append, In-append_left, In-append_right, In-append_cases, found, finds, join-meaning, next_operation, AreIssued, ModelNode, ModelRunning, joined, meanings, up, some_same, NodeSet, DistinctDots, state_by}
+use Rattle.dac_model_world.specs.laws.Common.{option_map, list_any, false_from_ne_true, NodeId, Origin, Dot, same_dot_is, same_dot_itself, Act, Operation, StateValue, join, meaning_of, IsOperationOf, AreOperationsOf, DotsDetermine, has_dot, names, known-meaning, Within-append, In-append_left, In-append_right, In-append_cases, found, finds, join-meaning, next_operation, AreIssued, ModelNode, ModelRunning, joined, meanings, up, some_same, NodeSet, DistinctDots, state_by}
 use Rattle.std.specs.Prelude.{fold}
 use Rattle.std.specs.FinSet as set
-use Rattle.dac_meaning.specs.Meaning.{replaces, names}
+use Rattle.dac_meaning.specs.Meaning.{replaces}
 use Rattle.dac_commands.specs.Commands.{greatest_counter}
 use Rattle.dac_commands.specs.laws.Counters.{counter-greatest}
 use Rattle.dac_model_node.specs.Issued.{IsNextOf}

@@ -1,21 +1,16 @@
 -- An operation replaces exactly the writes of its kind that stand at its key in its issuer's state. A life that it
 -- declares down is live in that state.
 use Rattle.std.proofs.Common.{◌≡◌, inl, inr, None, List, [], ◌∷◌, ◌++◌, refl, sym, ap, subst, ◌∙◌, append_assoc, true≢false}
-use Rattle.dac_model_world.specs.laws.Common.{Origin, dot, dots_total, exact_dots, Key, Act, Permit, Start, Stop, Drain, Operation, StateValue, join, meaning_of, AreOperationsOf, DotsDetermine, Within-append, In-append_left, In-append_right, join-meaning, known-meaning, Table, next_operation, act_of, refusal_of_command, PermitStands, StartStands, DrainStands, up}
+use Rattle.dac_model_world.specs.laws.Common.{MAX_COUNTER, Origin, dot, IsNext, dots_total, exact_dots, Key, Act, Down, Permit, Start, Stop, Drain, Operation, StateValue, join, meaning_of, AreOperationsOf, DotsDetermine, Within-append, In-append_left, In-append_right, join-meaning, known-meaning, Table, verdict_of, Command, next_operation, act_of, refusal_of_command, PermitStands, StartStands, DrainStands, up}
 use Rattle.std.proofs.lemmas.Bool.{leb-true}
-use Rattle.dac_base.specs.declared.limits.TheConstants.{MAX_COUNTER}
-use Rattle.dac_origins.specs.Dots.{IsNext}
 use Rattle.dac_origins.specs.laws.InOrder.{has_key-in_order}
 use Rattle.dac_chains.specs.Lives.{IsLive}
 use Rattle.dac_wishes.specs.DrainsValue.{origin}
 use Rattle.dac_wishes.specs.Writes.{dots_at}
 use Rattle.dac_wishes.specs.laws.Writes.{contains-dots_at}
-use Rattle.dac_operations.specs.declared.act.Act.TheVariants.{Down}
 use Rattle.dac_base.specs.declared.AppId.{AppId}
 use Rattle.dac_decide.specs.Verdict.{Verdict}
 use Rattle.dac_decide.specs.Verdict.TheVariants.{Failover, Takeover}
-use Rattle.dac_decide.specs.Placement.{verdict_of}
-use Rattle.dac_events.specs.declared.Command.{Command}
 use Rattle.dac_events.specs.declared.Command.TheVariants.{Down as Downs, Permit as Permits, Start as Starts, Stop as Stops, Drain as Drains, Takeover as Takes}
 use Rattle.dac_commands.specs.Commands.{live_key, live_origin, standing_permits, standing_starts, standing_drains}
 use Rattle.dac_commands.specs.Written.{AreThose}

@@ -1,9 +1,8 @@
 -- Runs by their steps: the first event and the rest, and one more event at the end.
 use Rattle.std.proofs.Common.{◌≡◌, ℕ, zero, suc, ◌<◌, ◌+◌, Bool, true, false, Some, None, List, [], ◌∷◌, ◌++◌, length, get_or, take, drop, Result, Err, inl, inr, refl, ap, sym, subst, ◌∙◌}
-use Rattle.dac_model_world.specs.laws.Common.{nat_lt, slice_get, Table, WorldEvent, Reply, NoMemory, WorldFault, Refused, NodeValue, shown, some_same, WorldValue, ModelWorld, Step, IsAnswer, AnsweredAs, Run, RanAs, Shows, happens, start, went, world_after, numbered, out_of_memory}
+use Rattle.dac_model_world.specs.laws.Common.{nat_lt, slice_get, Table, WorldEvent, Reply, NoMemory, WorldFault, Refused, NodeValue, shown, some_same, WorldValue, ModelWorld, Step, IsAnswer, AnsweredAs, Run, RanAs, Follows, Shows, happens, start, went, world_after, numbered, out_of_memory}
 use Rattle.std.specs.Prelude.{cond}
 use Rattle.std.proofs.lemmas.List.{take_more}
-use Rattle.dac_model_world.specs.ModelWorld.{Follows}
 use Rattle.dac_model_world.specs.laws.Memory.{enough_memory}
 
 -- ---- one event

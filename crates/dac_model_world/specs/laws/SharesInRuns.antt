@@ -1,15 +1,13 @@
 -- Shares in runs: a running node always knows its own present incarnation, so a share leaves the union if the others
 -- know it too, or nothing of its life.
 use Rattle.std.proofs.Common.{◌≡◌, ◌<◌, ◌≤◌, ℕ, true, false, List, Option, Some, None, take, drop, nat_eq, refl, sym, ap, subst, ◌∙◌, true≢false, eq-eqb, arith}
-use Rattle.dac_model_world.specs.laws.Common.{option_map, IsTrue, exact_unsigned_eq, NodeId, Life, IsGreatest, IsSaid, life_cmp, meaning_of, IsOperationOf, pairs, life_said, lives-meaning, lives_are, Table, WorldEvent, ModelRunning, up, some_same, ModelWorld, Run, start, world_after, SetWorld, NodeSet, set_run, no_sets, state_by}
+use Rattle.dac_model_world.specs.laws.Common.{option_map, IsTrue, false≢true, exact_unsigned_eq, NodeId, flag_cmp, Life, IsGreatest, IsSaid, life_cmp, meaning_of, IsOperationOf, pairs, life_said, lives-meaning, lives_are, Table, WorldEvent, ModelRunning, up, some_same, ModelWorld, Run, start, world_after, SetWorld, NodeSet, set_run, no_sets, state_by}
 use Rattle.std.specs.FinMap as map
 use Rattle.std.specs.declared.cmp.Ordering.{Ordering}
 use Rattle.std.specs.declared.cmp.Ordering.TheVariants.{Less, Equal, Greater}
 use Rattle.std.specs.Ordering.{nat_cmp, ordering_then, is_le}
-use Rattle.std.proofs.lemmas.Bool.{false≢true}
 use Rattle.std.proofs.lemmas.Cmp.{ranked}
 use Rattle.dac_lattice.specs.Chains.{IsAtMost}
-use Rattle.dac_lattice.specs.Flags.{flag_cmp}
 use Rattle.dac_lattice.specs.declared.flags.Flag.TheVariants.{Up as IsUp}
 use Rattle.dac_meaning.specs.laws.Chained.{is_said}
 use Rattle.dac_model_world.specs.Shares.{KnowPresent, SharesUnite}

@@ -1,20 +1,16 @@
 -- A share leaves the union of their sets to all running nodes: an accepted ship carries the sender's whole set, and a
 -- ship refused as up to date is to a node that has it. Each set only ever contains whole sets of running nodes.
 use Rattle.std.proofs.Common.{◌≡◌, ◌⊎◌, ◌<◌, ℕ, zero, suc, ◌+◌, ◌-◌, Bool, true, false, cond, List, [], ◌∷◌, ◌++◌, length, Option, Some, None, Ok, Err, inl, inr, nat_eq, refl, sym, ap, subst, ◌∙◌, arith, true≢false, eq-eqb}
-use Rattle.dac_model_world.specs.laws.Common.{slice_get, false_from_ne_true, exact_unsigned_eq, NodeId, Life, IsGreatest, IsSaid, life_cmp, Operation, meaning_of, IsOperationOf, AreOperationsOf, pairs, life_said, In-append_left, In-append_right, In-append_cases, lives-meaning, lives_are, WorldEvent, What, Deliver, Message, Reply, Heard, SetWorld, NodeSet, Copy, united, brought_to, set_step, set_run, some_same}
+use Rattle.dac_model_world.specs.laws.Common.{slice_get, false_from_ne_true, exact_unsigned_eq, NodeId, flag_cmp, Life, IsGreatest, IsSaid, life_cmp, Operation, meaning_of, IsOperationOf, AreOperationsOf, pairs, life_said, of_said, In-append_left, In-append_right, In-append_cases, lives-meaning, lives_are, WorldEvent, What, Deliver, Message, Reply, Shipped, Heard, SetWorld, NodeSet, Copy, united, and_more, brought_to, set_step, set_run, IsPut, Unites, AllUnite, HasAll, TellsUpToDate, TellUpToDate, some_same}
 use Rattle.std.specs.FinMap as map
 use Rattle.dac_lattice.specs.laws.Chains.{chain_laws}
-use Rattle.dac_lattice.specs.Flags.{flag_cmp}
 use Rattle.dac_lattice.specs.laws.Flags.{flags_exact}
 use Rattle.dac_chains.specs.laws.Lives.{lives_total, exact_lives}
 use Rattle.dac_meaning.specs.Meaning.{lives_of}
-use Rattle.dac_meaning.specs.laws.Chained.{of_said, is_said}
+use Rattle.dac_meaning.specs.laws.Chained.{is_said}
 use Rattle.dac_events.specs.declared.What.TheVariants.{Ship as Ships}
-use Rattle.dac_messages.specs.declared.reply.Reply.TheVariants.{Shipped}
 use Rattle.dac_model_world.specs.ModelWorld.{counted}
-use Rattle.dac_model_world.specs.SetWorld.{and_more}
-use Rattle.dac_model_world.specs.Uniting.{IsPut, IsUnited, Unites, AllUnite}
-use Rattle.dac_model_world.specs.UpToDate.{HasAll, TellsUpToDate, TellUpToDate}
+use Rattle.dac_model_world.specs.Uniting.{IsUnited}
 use Rattle.dac_model_world.specs.Shares.{IsHeardAt, Reaches, TellsAll, IsSince, InShare, AreInShare, IsShare, HaveUnion}
 use Rattle.dac_model_world.specs.laws.Carried.{none_some}
 use Rattle.dac_model_world.specs.laws.Numbering.{life_says}

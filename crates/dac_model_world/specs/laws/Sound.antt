@@ -2,19 +2,11 @@
 -- (see OneNode), and each message with its copy. The peer tables agree with the nodes' logs (see Carried), and dots are
 -- distinct.
 use Rattle.std.proofs.Common.{◌≡◌, ℕ, zero, suc, ◌≤◌, ◌+◌, ◌-◌, Bool, true, false, not, cond, ◌&&◌, ◌⊎◌, inl, inr, List, [], ◌∷◌, ◌++◌, length, drop, drop-drop, Option, Some, None, Result, Ok, Err, nat_eq, nat_le, refl, sym, ap, subst, ◌∙◌, append-nil, true≢false, eq-eqb, le_refl, arith}
-use Rattle.dac_model_world.specs.laws.Common.{nat_lt, option_map, slice_get, false_from_ne_true, map-append, exact_unsigned_eq, NodeId, Origin, Operation, StateValue, meaning_of, IsOperationOf, AreOperationsOf, DotsDetermine, In-append_left, In-append_right, Table, Opening, Shut, Opened, GiveUp, Noted, Note, waits_of, WorldEvent, What, Deliver, Hand, Position, begins, Nothing, Message, content_of, Event, Boot, Crash, Tick, Ship, Hear, HearOp, Reply, OnSelf, first, act_of, next_operation, sweep_of, AreIssued, RunningValue, ModelNode, ModelRunning, joined, shown, running_shown, refusal_of, refusal_by, meanings, brings, message_of, ticks_by, opening_at, moment_of, note_of, step_by, up, comes_up, goes_on, accepted, some_same, WorldFault, NoSuchNode, ModelWorld, happens, happens_by, answered_by, event_of, handed_by, with_node, Step, Run, start, SetWorld, NodeSet, Issue, Copy, with_set, united, held_by, issues_of, operations_of, copied_by, copied_to, brought_to, booting, issuing, set_step, set_run, no_sets, DistinctDots, claims_issued}
-use Rattle.std.specs.Option.{option_map_or}
+use Rattle.dac_model_world.specs.laws.Common.{nat_lt, option_map, option_map_or, slice_get, false_from_ne_true, map-append, drop_of_length-le, exact_unsigned_eq, NodeId, Origin, Operation, StateValue, meaning_of, IsOperationOf, AreOperationsOf, DotsDetermine, In-append_left, In-append_right, Table, Opening, Shut, Opened, GiveUp, Noted, Note, waits_of, WorldEvent, What, Deliver, Hand, Position, begins, ack_for, heard_from, Body, Interval, Nothing, Message, content_of, Event, Boot, Crash, Tick, Ship, Hear, HearOp, Reply, OnSelf, NotForMe, DotsUsedUp, first, act_of, next_operation, sweep_of, AreIssued, RunningValue, ModelNode, ModelRunning, joined, shown, running_shown, refusal_of, refusal_by, overflows, meanings, brings, body_from, message_of, ticks_by, opening_at, moment_of, note_of, step_by, up, comes_up, goes_on, accepted, some_same, WorldFault, NoSuchNode, ModelWorld, happens, happens_by, answered_by, event_of, handed_by, with_node, Step, Run, start, SetWorld, NodeSet, Issue, Copy, with_set, and_more, united, held_by, issues_of, operations_of, copied_by, copied_to, is_for, alone, brought_to, booting, issuing, going_off, set_step, set_run, no_sets, DistinctDots, claims_issued}
 use Rattle.std.proofs.lemmas.Bool.{leb-true}
-use Rattle.std.proofs.Math.ListN.{drop_of_length-le}
-use Rattle.dac_model_node.specs.Peers.{ack_for, heard_from}
-use Rattle.dac_messages.specs.declared.message.Body.{Body}
-use Rattle.dac_messages.specs.declared.message.Body.TheVariants.{Interval}
 use Rattle.dac_messages.specs.declared.event.Event.TheVariants.{Command as Commanded}
-use Rattle.dac_events.specs.declared.refusal.Refusal.TheVariants.{NotForMe, DotsUsedUp}
-use Rattle.dac_model_node.specs.EventRefusals.{refusal_to_hear, overflows}
-use Rattle.dac_model_node.specs.Transitions.{body_from}
+use Rattle.dac_model_node.specs.EventRefusals.{refusal_to_hear}
 use Rattle.dac_model_world.specs.ModelWorld.{heard_by, counted}
-use Rattle.dac_model_world.specs.SetWorld.{and_more, is_for, alone, going_off}
 use Rattle.dac_model_world.specs.laws.Operations.{one_in, DistinctDots-agree, DistinctDots-push}
 use Rattle.dac_model_world.specs.laws.Gathered.{Entries, gathered, gathered-append, gathered_cases, gathered_take, gathered_drop, each_alone, IsLogOf, log_means, log_length, log_more, log_issued, rest_means}
 use Rattle.dac_model_world.specs.laws.Covers.{Seen, Later, Later-self, later_more, Has, Covered, Sent, Sent-covers}

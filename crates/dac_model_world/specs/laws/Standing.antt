@@ -1,12 +1,9 @@
 -- A dot stands in the meaning of a set if one of the operations has it, and none replaces it.
 use Rattle.std.proofs.Common.{◌≡◌, ◌⊎◌, Bool, true, false, not, cond, inl, inr, List, Option, None, refl, sym, ap, subst, ◌∙◌}
-use Rattle.dac_model_world.specs.laws.Common.{◌↔◌, list_any, eq_by_cmp, Dot, Origin, origin_cmp, origins_total, exact_origins, Key, same_dot_is, same_dot_itself, same_dot, Act, Permit, Start, Stop, Drain, Operation, meaning_of, IsOperationOf, has_dot, found, finds, PermitStands, StartStands, DrainStands}
+use Rattle.dac_model_world.specs.laws.Common.{◌↔◌, list_any, eq_by_cmp, is_eq, tied_itself, false≢true, and_parts, Dot, Origin, dot_cmp, origin_cmp, origins_total, exact_origins, Key, same_dot_is, same_dot_itself, same_dot, Act, Permit, Start, Stop, Drain, Operation, meaning_of, IsOperationOf, has_dot, is_replaced, found, finds, starts-meaning, permits-meaning, drains-meaning, PermitStands, StartStands, DrainStands, IsPermitOf, IsStartOf, IsDrainOf, EndsStart}
 use Rattle.std.specs.Prelude.{is_some}
 use Rattle.std.specs.declared.cmp.Ordering.{Ordering}
-use Rattle.std.specs.Ordering.{is_eq}
-use Rattle.std.specs.Cmp.{tied_itself}
-use Rattle.std.proofs.lemmas.Bool.{false≢true, and_parts, and_from}
-use Rattle.dac_origins.specs.Dots.{dot_cmp}
+use Rattle.std.proofs.lemmas.Bool.{and_from}
 use Rattle.dac_origins.specs.Keys.{has_key}
 use Rattle.dac_lattice.specs.declared.flags.Flag.{Flag}
 use Rattle.dac_wishes.specs.Keys.{key_cmp, same_key}
@@ -16,9 +13,7 @@ use Rattle.dac_wishes.specs.laws.KeyedWrites.{tied_is}
 use Rattle.dac_wishes.specs.DrainsValue.{origin}
 use Rattle.dac_wishes.specs.Writes.{Write, write}
 use Rattle.dac_operations.specs.Operations.{over_list}
-use Rattle.dac_meaning.specs.Meaning.{is_replaced, is_same, vote_says, is_vote, vote_flag, vote_at, permit_vote, drain_vote, says, flag_written, wishes, is_start}
-use Rattle.dac_meaning.specs.laws.Readers.{starts-meaning, permits-meaning, drains-meaning}
-use Rattle.dac_model_world.specs.Causality.{IsPermitOf, IsStartOf, IsDrainOf, EndsStart}
+use Rattle.dac_meaning.specs.Meaning.{is_same, vote_says, is_vote, vote_flag, vote_at, permit_vote, drain_vote, says, flag_written, wishes, is_start}
 use Rattle.dac_model_world.specs.laws.Replacing.{Replaces}
 
 -- one of the operations is such a write and has the dot, and none replaces the dot

@@ -1,10 +1,9 @@
 -- A start gate that has opened stays open.
 use Rattle.std.proofs.Common.{◌≡◌, true, false, cond, nat_eq, List, [], ◌∷◌, Result, Ok, Err, inl, inr, refl, sym, ap, subst, append-nil, eq-eqb}
-use Rattle.dac_model_world.specs.laws.Common.{nat_lt, exact_unsigned_eq, NodeId, Table, Event, Reply, WorldEvent, NoMemory, WorldFault, NoSuchNode, Refused, ModelNode, model_step, Entry, IsHistory, ModelWorld, happens, happens_by, answered_by, event_of, went, AnsweredAs, IsAnswer}
+use Rattle.dac_model_world.specs.laws.Common.{nat_lt, exact_unsigned_eq, NodeId, Table, Event, Reply, WorldEvent, NoMemory, WorldFault, NoSuchNode, Refused, ModelNode, model_step, Entry, IsHistory, ModelWorld, happens, happens_by, answered_by, event_of, went, AnsweredAs, IsAnswer, own_answer, recorded, records_of}
 use Rattle.dac_model_node.specs.Gates.{SaysOpen, SaysShut, SaysOff, Answers, RunsOpen}
 use Rattle.dac_model_node.specs.laws.Gates.{ticks_open, open_stays, open_is_open}
 use Rattle.dac_model_world.specs.Gates.{NoneGoesOff, GatesStayOpen, IsOpenUntilOff, StayOpen}
-use Rattle.dac_model_world.specs.Records.{own_answer, recorded, records_of}
 use Rattle.dac_model_world.specs.laws.Records.{answered_first}
 use Rattle.dac_model_world.specs.laws.Runs.{went_as_answered}
 

@@ -1,14 +1,9 @@
 -- Where all is settled, a tick claims nothing.
 use Rattle.std.proofs.Common.{◌≡◌, ℕ, ◌<◌, List, [], ◌∷◌, true, Option, Some, None, Result, Ok, refl, sym, ap, ◌∙◌}
-use Rattle.dac_settle.specs.laws.Common.{NodeId, AppId, Origin, Operation, StateValue, Table, app_count, verdict_of, candidate_of, waits_of, Noted, Reply, Refusal, Sweep, sweep_of, is_mine, swept_by, ModelNode, ModelRunning, joined, shown, running_shown, refusal_of, step_by, IsSettled}
-use Rattle.std.proofs.lemmas.Bool.{and_parts}
-use Rattle.dac_decide.specs.declared.start_gate.Opening.{Opening}
-use Rattle.dac_decide.specs.declared.start_gate.Opening.TheVariants.{Shut, Opened, GiveUp}
+use Rattle.dac_settle.specs.laws.Common.{and_parts, NodeId, AppId, Origin, Operation, StateValue, Table, app_count, verdict_of, candidate_of, waits_of, Opening, Shut, Opened, GiveUp, Noted, Reply, Refusal, Sweep, sweep_of, is_mine, swept_by, own_if, ModelNode, ModelRunning, joined, shown, running_shown, refusal_of, opening_at, note_of, ticks_by, step_by, IsSettled}
 use Rattle.dac_messages.specs.declared.event.Event.TheVariants.{Tick}
 use Rattle.dac_messages.specs.declared.reply.Reply.TheVariants.{Ticked}
 use Rattle.dac_ticks.specs.laws.Sweeping.{numbered, sweep_reaches}
-use Rattle.dac_ticks.specs.laws.Words.{own_if}
-use Rattle.dac_model_world.specs.Transitions.{opening_at, note_of, ticks_by}
 use Rattle.dac_model_world.specs.Step.{model_step}
 use Rattle.dac_settle.specs.Rules.{judged}
 use Rattle.dac_settle.specs.AtRest.{SettledClaimNothing}

@@ -1,7 +1,7 @@
 -- The conditions under which an application has no candidate, in terms without loads, so that claims of other
 -- applications don't change them.
 use Rattle.std.proofs.Common.{◌≡◌, ◌⊎◌, Option, Some, None, refl, sym, ap, subst, ◌∙◌, inl, inr}
-use Rattle.dac_settle.specs.laws.Common.{false≢true, NodeId, AppId, Origin, Lives, IsLive, StateValue, Table, Verdict, Failover, Halted, Move, Takeover, Kept, Nobody, IsEligible, IsStartedAt, IsAllowedAt, holder_of, IsVerdict, verdict_of, candidate_of, verdict_in_words, MayRunAlike}
+use Rattle.dac_settle.specs.laws.Common.{false≢true, NodeId, AppId, Origin, Lives, IsLive, StateValue, Table, Verdict, Failover, Halted, Move, Takeover, Kept, Nobody, IsEligible, is_eligible, IsEarlier, IsStartedAt, IsAllowedAt, HeldBy, holder_of, IsVerdict, verdict_of, candidate_of, verdict_in_words, MayRunAlike, alike_back}
 use Rattle.std.specs.Prelude.{is_some}
 use Rattle.std.specs.FinSet as set
 use Rattle.std.specs.FinMap as map
@@ -9,9 +9,8 @@ use Rattle.dac_wishes.specs.PermissionsValue.{Permits}
 use Rattle.dac_wishes.specs.DrainsValue.{Drains}
 use Rattle.dac_wishes.specs.Writes.{Writes}
 use Rattle.dac_placement.specs.declared.verdicts.Verdict.TheVariants.{Start}
-use Rattle.dac_placement.specs.Placement.{EachEligible, is_eligible, IsEarlier, IsUp, is_started_at, is_allowed_at, HeldBy, key_of}
+use Rattle.dac_placement.specs.Placement.{EachEligible, IsUp, is_started_at, is_allowed_at, key_of}
 use Rattle.dac_placement.specs.laws.Tests.{eligible_is, started_is, allowed_is}
-use Rattle.dac_ticks.specs.laws.Claimed.{alike_back}
 use Rattle.dac_settle.specs.Placed.{IsFit}
 
 -- at this incarnation the application is started and permitted, and no eligible node is of an earlier group

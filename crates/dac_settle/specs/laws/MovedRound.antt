@@ -1,14 +1,13 @@
 -- The worked case of a drain: its nodes are ready, the verdict is to move the application, and a round moves it.
 use Rattle.std.proofs.Common.{◌≡◌, ℕ, ◌+◌, false, List, [], ◌∷◌, Option, Some, None, option_map, refl, sym, ap, subst, ◌∙◌, arith, inl, inr}
-use Rattle.dac_settle.specs.laws.Common.{nat_lt, option_map_or, NodeId, AppId, MAX_COUNTER, Origin, dot, IsGreatest, claim_cmp, IsLive, keyed_write, write, Operation, StateValue, IsOperationOf, DotsDetermine, meaning_of, life_said, claim_said, SaysFor, starts-meaning, permits-meaning, drains-meaning, app_count, Verdict, Failover, Halted, Move, Takeover, Kept, Nobody, IsStartedAt, IsAllowedAt, IsEligible, IsVerdict, holder_of, key_at, verdict_of, verdict_in_words, IsLost, terms_used_up, DistinctDots-agree, Member, first_node, second_node, IsEither, the_app, worked_table, first_of, start_of, member_with}
+use Rattle.dac_settle.specs.laws.Common.{nat_lt, option_map_or, NodeId, AppId, MAX_COUNTER, Origin, dot, IsGreatest, claim_cmp, IsLive, keyed_write, write, Operation, StateValue, IsOperationOf, DotsDetermine, meaning_of, life_said, claim_said, SaysFor, starts-meaning, permits-meaning, drains-meaning, app_count, Verdict, Failover, Halted, Move, Takeover, Kept, Nobody, IsStartedAt, IsAllowedAt, IsDrainedAt, IsEligible, IsVerdict, HeldBy, holder_of, key_at, verdict_of, verdict_in_words, IsLost, terms_used_up, DistinctDots-agree, Member, first_node, second_node, IsEither, the_app, worked_table, first_of, start_of, member_with, both_hold, first_claim, draining, drained_set}
 use Rattle.std.specs.FinMap as map
 use Rattle.dac_chains.specs.declared.claims.Claim.{Claim}
 use Rattle.dac_wishes.specs.DrainsValue.{origin}
 use Rattle.dac_placement.specs.declared.verdicts.Verdict.TheVariants.{Start as ToStart}
-use Rattle.dac_placement.specs.Placement.{IsUp, IsDrainedAt, HeldBy, key_of}
+use Rattle.dac_placement.specs.Placement.{IsUp, key_of}
 use Rattle.dac_settle.specs.Settling.{IsReady, Rounds}
-use Rattle.dac_settle.specs.Worked.{both_hold}
-use Rattle.dac_settle.specs.WorkedMove.{first_claim, claiming, draining, drained_set, RoundsCanMove}
+use Rattle.dac_settle.specs.WorkedMove.{claiming, RoundsCanMove}
 use Rattle.dac_settle.specs.laws.AnyPlacement.{one}
 use Rattle.dac_settle.specs.laws.BothTick.{is_member, runs, after_all, the_round, both_run}
 use Rattle.dac_settle.specs.laws.OnlyClaims.{claim_greatest}

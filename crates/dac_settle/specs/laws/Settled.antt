@@ -1,16 +1,14 @@
 -- After as many rounds as there are applications, begun in a ready world, each of them is settled.
 use Rattle.std.proofs.Common.{◌≡◌, ℕ, ◌<◌, ◌≤◌, ◌+◌, Bool, true, false, cond, List, [], ◌∷◌, ◌++◌, length, Option, Some, None, option_map, zero, suc, refl, sym, ap, subst, ◌∙◌, arith, inl, inr}
-use Rattle.dac_settle.specs.laws.Common.{false≢true, NodeId, AppId, Lives, IsLive, Operation, AreOperationsOf, meaning_of, In-append_left, Table, app_count, Verdict, Failover, Halted, Move, Takeover, Kept, Nobody, verdict_of, candidate_of, Note, IsLost, IsLostByNewest, IsApp, IsGrown, InCopies, Member, Members, with_member, ticked, MemberEvent, IsSettled, placed}
+use Rattle.dac_settle.specs.laws.Common.{false≢true, eqb-true, eqb-false, NodeId, AppId, Lives, IsLive, Operation, AreOperationsOf, meaning_of, In-append_left, Table, app_count, Verdict, Failover, Halted, Move, Takeover, Kept, Nobody, apps_of, verdict_of, candidate_of, Note, IsLost, IsLostByNewest, Held, IsApp, IsGrown, SetsEvent, Sets, InCopies, with_held, Member, Members, with_member, ticked, MemberEvent, IsSettled, placed}
 use Rattle.std.specs.Prelude.{nat_eq}
 use Rattle.std.specs.Option.{is_some}
-use Rattle.std.proofs.lemmas.Bool.{eqb-true, eqb-false}
 use Rattle.std.proofs.lemmas.List.FromFn.{length-map-range_with_len}
 use Rattle.dac_chains.specs.declared.claims.Claim.{Claim}
 use Rattle.dac_placement.specs.declared.verdicts.Verdict.TheVariants.{Start}
-use Rattle.dac_placement.specs.Placement.{apps_of}
 use Rattle.dac_ticks.specs.laws.Sweeping.{numbered, apps_from}
 use Rattle.dac_ticks.specs.Again.{noting}
-use Rattle.dac_settle.specs.Rounds.{Held, SetsEvent, Sets, with_held, Happens as SetsHappen, Run as SetsRun, IsTickOf as IsSetsTick, Ticks as SetsTick, IsReady as AreReady, IsRound as IsRoundOfSets, Rounds as RoundsOfSets}
+use Rattle.dac_settle.specs.Rounds.{Happens as SetsHappen, Run as SetsRun, IsTickOf as IsSetsTick, Ticks as SetsTick, IsReady as AreReady, IsRound as IsRoundOfSets, Rounds as RoundsOfSets}
 use Rattle.dac_settle.specs.Rounds.SetsEvent.{Tick as Ticked, Ship as Shipped, Deliver as Delivered}
 use Rattle.dac_settle.specs.Settling.{sweep_at, holding, Happens, Run, Ticks, IsReady, IsRound, Rounds, RoundsSettleBy}
 use Rattle.dac_settle.specs.Settling.MemberEvent.{Tick, Ship, Deliver}

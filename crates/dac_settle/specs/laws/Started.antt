@@ -1,15 +1,12 @@
 -- Sets in which two nodes boot their first incarnations and applications are started. The laws say who is live by them,
 -- and that nothing is claimed or permitted.
 use Rattle.std.proofs.Common.{◌≡◌, ℕ, List, Option, Some, None, refl, sym, ap, subst, ◌∙◌, inl, inr}
-use Rattle.dac_settle.specs.laws.Common.{NodeId, AppId, Dot, Life, IsGreatest, IsSaid, IsLive, claim_cmp, Operation, IsOperationOf, meaning_of, pairs, life_said, claim_said, SaysFor, of_said, is_said, lives-meaning, lives_are, IsEither, first_node, second_node, up_of}
+use Rattle.dac_settle.specs.laws.Common.{NodeId, AppId, Dot, Life, IsGreatest, IsSaid, IsLive, life_cmp, claim_cmp, Key, Operation, IsOperationOf, meaning_of, pairs, life_said, claim_said, lives_of, SaysFor, of_said, is_said, lives-meaning, lives_are, claims-meaning, claims_are, IsEither, first_node, second_node, up_of}
 use Rattle.std.specs.FinMap as map
 use Rattle.dac_lattice.specs.declared.flags.Flag.TheVariants.{Up as IsUp}
 use Rattle.dac_chains.specs.declared.claims.Claim.{Claim}
-use Rattle.dac_chains.specs.Lives.{life_cmp}
-use Rattle.dac_wishes.specs.declared.key.Key.{Key}
 use Rattle.dac_operations.specs.declared.act.Act.TheVariants.{Start}
-use Rattle.dac_meaning.specs.Meaning.{lives_of, claims_of}
-use Rattle.dac_meaning.specs.laws.Readers.{claims-meaning, claims_are}
+use Rattle.dac_meaning.specs.Meaning.{claims_of}
 use Rattle.dac_settle.specs.Worked.{begun}
 
 -- ---- what operations say

@@ -1,11 +1,9 @@
 -- A run seen from each node: a node's own events determine its state and results, and the events of all nodes determine
 -- the operations and messages.
 use Rattle.std.proofs.Common.{◌≡◌, ℕ, Bool, true, false, cond, inl, inr, ◌⊎◌, List, [], ◌∷◌, ◌++◌, Result, Ok, Err, nat_eq, refl, sym, ap, subst, ◌∙◌, true≢false, eq-eqb, append-nil}
-use Rattle.dac_weave.specs.laws.Common.{exact_unsigned_eq, NodeId, Table, node_count, Event, Reply, Refusal, Message, Operation, WorldEvent, NoSuchNode, ModelNode, model_step, ModelWorld, happens, event_of, Seen, seen_of, seen_at, node_step, node_step_by, replayed, AreAnswered, run_from}
+use Rattle.dac_weave.specs.laws.Common.{exact_unsigned_eq, NodeId, Table, node_count, Event, Reply, Refusal, Message, Operation, WorldEvent, WorldFault, NoSuchNode, ModelNode, model_step, ModelWorld, WorldStepped, happens, happens_by, answered_by, event_of, Seen, seen_of, seen_at, NodeStepped, moved, node_step, node_step_by, replayed, AreAnswered, run_from}
 use Rattle.std.specs.Prelude.{nat_lt}
-use Rattle.dac_journal.specs.WorldFault.{WorldFault}
-use Rattle.dac_journal.specs.ModelWorld.{WorldStepped, happens_by, answered_by, issued_by, shipped_by}
-use Rattle.dac_weave.specs.Replay.{NodeStepped, moved}
+use Rattle.dac_journal.specs.ModelWorld.{issued_by, shipped_by}
 use Rattle.dac_weave.specs.laws.Members.{IsMember, In-left, In-right, In-cases, not_true}
 
 -- ---- one event
