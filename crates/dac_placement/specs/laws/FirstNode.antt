@@ -4,9 +4,9 @@ use Rattle.std.specs.Prelude.{MatchOption, is_some}
 use Rattle.std.proofs.lemmas.Bool.{false≢true}
 use Rattle.dac_base.specs.declared.NodeId.{NodeId}
 use Rattle.dac_base.specs.declared.AppId.{AppId}
-use Rattle.dac_config.specs.Table.{Table, node_count, group_of}
+use Rattle.dac_config.specs.Table.{Table, group_of}
 use Rattle.dac_state.specs.StateValue.{StateValue}
-use Rattle.dac_placement.specs.Placement.{IsEligible, EachEligible, IsEarlier, load_of, IsPreferred, IsFirst, first_choice}
+use Rattle.dac_placement.specs.Placement.{EachEligible, IsEarlier, load_of, IsPreferred, IsFirst, first_choice}
 use Rattle.dac_placement.specs.laws.Loads.{preferred_is}
 use Rattle.dac_placement.specs.laws.FirstChoice.{first_is}
 
