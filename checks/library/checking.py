@@ -58,7 +58,7 @@ def crate_list() -> List[Check]:
         Check("crates.txt has each crate", lambda: crate_checks.folder_faults(HERE, crates)),
         Check("no crate lists one above it", lambda: crate_checks.layer_faults(crates)),
         Check("what is listed is named, and the other way round", lambda: crate_checks.listing_faults(HERE, crates)),
-        Check("the lists of crates are those of crates.txt", lambda: crate_checks.list_faults(HERE, crates)),
+        Check("docs/crate-list.txt has the crates of crates.txt", lambda: crate_checks.list_faults(HERE, crates)),
         Check("the drawing of the layers is that of crates.txt", lambda: crate_checks.drawing_faults(HERE, crates)),
     ]
 
