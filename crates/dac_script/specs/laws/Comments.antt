@@ -1,6 +1,5 @@
 -- Exactly empty lines and comments are skipped.
-use Rattle.std.proofs.Common.{◌≡◌, ◌==◌, ℕ, List, [], ◌∷◌, refl, subst}
-use Rattle.std.specs.Prelude.{All, filter}
+use Rattle.std.proofs.Common.{◌≡◌, ◌==◌, ℕ, List, [], ◌∷◌, filter, All, refl, subst}
 use Rattle.std.specs.List.{AllZip}
 use Rattle.std.proofs.lemmas.Bool.{cond-true, ne_eqb, not_from_false}
 use Rattle.std.proofs.lemmas.List.Elements.{All-tail}

@@ -60,16 +60,12 @@ space_more [] b line space has = All-cons (λ b. b ≡ 32) b line space has
 space_more (word ∷ words) b line space has =
     (b ∷ has.0, has.1, ap (λ (l : List ℕ). b ∷ l) has.2, All-cons (λ b. b ≡ 32) b has.0 space has.3, has.4, has.5, has.6)
 
--- a leading word is one of the words
-word_first : (word behind : List ℕ) → IsWord word → EndsWord behind → HasWords (words_of behind) behind → HasWords (words_of (word ++ behind)) (word ++ behind)
-word_first word behind is ends has =
-    subst (λ (words : List (List ℕ)). HasWords words (word ++ behind)) (sym (first_word word behind is ends))
-    ([], behind, refl, All-nil (λ b. b ≡ 32), is, ends, has)
-
 -- a piece without spaces, before a space or the end
 cut : (word behind : List ℕ) → HasNoSpace word → EndsWord behind → HasWords (words_of behind) behind → HasWords (words_of (word ++ behind)) (word ++ behind)
 cut [] behind none ends has = has
-cut (b ∷ bs) behind none ends has = word_first (b ∷ bs) behind (omega arith, none) ends has
+cut (b ∷ bs) behind none ends has =
+    let is : IsWord (b ∷ bs) = (omega arith, none) in
+    subst (λ (words : List (List ℕ)). HasWords words (b ∷ bs ++ behind)) (sym (first_word (b ∷ bs) behind is ends)) ([], behind, refl, All-nil (λ b. b ≡ 32), is, ends, has)
 
 -- the words that are read stand in the line; word is the part of the first word scanned so far
 stand : (word line : List ℕ) → HasNoSpace word → HasWords (words_of (word ++ line)) (word ++ line)
