@@ -1,20 +1,12 @@
 -- Reading a script line by line. A line is either sound, or its least fault is returned.
 use Rattle.std.proofs.Common.{◌≡◌, ℕ, ◌+◌, ◌-◌, ◌<◌, ◌≤◌, Bool, true, false, cond, List, [], ◌∷◌, ◌++◌, length, sym, ap, subst, ◌∙◌, arith, append-nil, length-append}
-use Rattle.std.specs.Prelude.{All, Option, Some, None, IfSome, IfNone, filter}
-use Rattle.std.specs.Borrow.{Bor}
-use Rattle.std.specs.List.{AllZip}
-use Rattle.std.proofs.lemmas.List.{get_or_at, take_at}
-use Rattle.std.proofs.lemmas.List.Elements.{All-push, filter-append}
+use Rattle.dac_script.specs.laws.Common.{IfNone, Bor, AllZip, get_or_at, take_at, All-push, filter-append, Table, ScriptFaultKind, Failure, words_of, IsFaultless, IsLeast, lines_of, is_said, IsScriptFailure}
+use Rattle.std.specs.Prelude.{All, Option, Some, None, IfSome, filter}
 use Rattle.std.proofs.lemmas.Option.{slice_get-get_or}
 use Rattle.std.proofs.lemmas.Slice.Zip.{all_zipped_more}
-use Rattle.dac_config.specs.Table.{Table}
 use Rattle.dac_script.specs.declared.fault.ScriptFault.{ScriptFault}
-use Rattle.dac_script.specs.declared.fault.ScriptFaultKind.{ScriptFaultKind}
-use Rattle.dac_script.specs.declared.failure.Failure.{Failure}
 use Rattle.dac_script.specs.declared.failure.Failure.TheVariants as failure
-use Rattle.dac_script.specs.Words.{words_of}
-use Rattle.dac_script.specs.LineFaults.{IsFaultless, IsLeast}
-use Rattle.dac_script.specs.Script.{lines_of, is_said, ReadsAs, IsFirstFault, IsScriptFailure, IsLineFailure}
+use Rattle.dac_script.specs.Script.{ReadsAs, IsFirstFault, IsLineFailure}
 
 -- a text begins with its first line
 begins : (rest line : List ℕ) (behind : Option (Bor (List ℕ))) → IfNone behind (lines_of rest ≡ line ∷ []) → IfSome behind (λ b. lines_of rest ≡ line ∷ lines_of b.now) → (more : List (List ℕ)) × (lines_of rest ≡ line ∷ more)

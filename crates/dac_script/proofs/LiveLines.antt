@@ -1,43 +1,24 @@
 -- Words spell at most one line of `live`, and have no fault if they spell one. For the words after a caller's number
 -- this follows from the lines of `sim`.
 use Rattle.std.proofs.Common.{◌≡◌, ℕ, zero, suc, ◌^◌, ◌<◌, ◌≤◌, true, false, cond, List, [], ◌∷◌, map, Option, Some, None, Result, Ok, Err, codes, decimal, refl, sym, ap, subst, ◌∙◌, arith, inl, inr}
-use Rattle.std.specs.Prelude.{◌≢◌, IfOk, option_map}
-use Rattle.std.specs.Option.{MatchOption}
-use Rattle.std.specs.Result.{MatchResult}
-use Rattle.std.specs.Str.{bytes_eq}
-use Rattle.std.specs.Char.{is_ascii_digit}
-use Rattle.std.proofs.lemmas.Bool.{cond_both, false_from_ne_true, false≢true}
+use Rattle.dac_script.specs.laws.Common.{option_map, MatchOption, MatchResult, bytes_eq, is_ascii_digit, cond_both, false≢true, decimal_digit, same_Some, AllPass-from_list_all, list_all-from_AllPass, bytes_eq-Decides, NodeId, Table, node_count, What, ScriptFaultKind, BadWord, BadNumber, ScriptLine, Feed, Phase, Role, MAX_NUMBER, Slot, AllTell, Word, Node, Number, AreWrong, IsFaultless, IsLeast, caller_of, with_caller, plain_roles, SpellsLive, IsReading, least_of}
+use Rattle.std.specs.Prelude.{◌≢◌, IfOk}
+use Rattle.std.proofs.lemmas.Bool.{false_from_ne_true}
 use Rattle.std.proofs.lemmas.Bool.Decides.{not_from_Decides}
-use Rattle.std.proofs.lemmas.Fmt.{decimal_digit}
-use Rattle.std.proofs.lemmas.Option.{same_Some}
-use Rattle.std.proofs.lemmas.List.Sums.{AllPass-from_list_all, list_all-from_AllPass}
-use Rattle.std.proofs.lemmas.Slice.Eq.{bytes_eq-Decides}
-use Rattle.dac_base.specs.declared.NodeId.{NodeId}
-use Rattle.dac_config.specs.Table.{Table, node_count}
 use Rattle.dac_events.specs.declared.Command.TheVariants as command
-use Rattle.dac_events.specs.declared.What.{What}
 use Rattle.dac_events.specs.declared.What.TheVariants as what
-use Rattle.dac_script.specs.declared.fault.ScriptFaultKind.{ScriptFaultKind}
-use Rattle.dac_script.specs.declared.fault.ScriptFaultKind.TheVariants.{BadWord, BadNumber}
 use Rattle.dac_script.specs.declared.line.Request.{Request}
 use Rattle.dac_script.specs.declared.line.Request.TheVariants as request
-use Rattle.dac_script.specs.declared.line.ScriptLine.{ScriptLine}
 use Rattle.dac_script.specs.declared.line.ScriptLine.TheVariants as says
 use Rattle.dac_script.specs.declared.live_line.LiveLine.{LiveLine}
-use Rattle.dac_script.specs.declared.live_line.LiveLine.TheVariants.{Do, Read, Feed, Phase}
-use Rattle.dac_script.specs.declared.verb.Role.{Role}
+use Rattle.dac_script.specs.declared.live_line.LiveLine.TheVariants.{Do, Read}
 use Rattle.dac_script.specs.declared.verb.Role.TheVariants as role
-use Rattle.dac_script.specs.declared.words.TheConstants.{MAX_NUMBER}
-use Rattle.dac_script.specs.Forms.{Slot, AllTell}
-use Rattle.dac_script.specs.Forms.Slot.{Word, Node, Number, Hex}
-use Rattle.dac_script.specs.LineFaults.{AreWrong, IsFaultless, IsLeast}
-use Rattle.dac_script.specs.LiveCallers.{is_caller_word, caller_of, with_caller, HasActors}
-use Rattle.dac_script.specs.LiveFaults.{plain_roles, asked_roles, IsForCaller, IsNoCaller, IsAskedWrong, IsCallerWrong, IsOtherWrong, HasFault}
-use Rattle.dac_script.specs.LiveForms.{asked_form, live_form, HasCaller, SpellsLive}
+use Rattle.dac_script.specs.Forms.Slot.{Hex}
+use Rattle.dac_script.specs.LiveCallers.{is_caller_word, HasActors}
+use Rattle.dac_script.specs.LiveFaults.{asked_roles, IsForCaller, IsNoCaller, IsAskedWrong, IsCallerWrong, IsOtherWrong, HasFault}
+use Rattle.dac_script.specs.LiveForms.{asked_form, live_form, HasCaller}
 use Rattle.dac_script.specs.LiveInWords.{LiveLinesInWords}
 use Rattle.dac_script.specs.Requests.{what_of}
-use Rattle.dac_script.specs.Script.{IsReading}
-use Rattle.dac_script.specs.Values.{least_of}
 use Rattle.dac_script.proofs.Told.{kind_of, role_kind, alone, only, least_some, least_none, least_as, least_left, least_right, least_both, HasRoles, form_fine, form_same}
 use Rattle.dac_script.proofs.SpelledLines.{said_in, reading, event_below, nodes_below}
 

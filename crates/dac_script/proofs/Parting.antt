@@ -1,16 +1,12 @@
 -- Searching for the line that splits an input.
 use Rattle.std.proofs.Common.{◌≡◌, ℕ, ◌+◌, ◌-◌, ◌<◌, ◌≤◌, false, List, [], ◌∷◌, ◌++◌, length, take, drop, get_or, eqb, refl, sym, ap, subst, ◌∙◌, arith, append_assoc, length-append}
-use Rattle.std.specs.Prelude.{All, ◌≢◌, Option, Some, None, IfSome, IfNone, unwrap_or}
-use Rattle.std.specs.Borrow.{Bor}
-use Rattle.std.specs.List.{join_with_byte}
-use Rattle.std.proofs.lemmas.Bool.{eqb-true}
-use Rattle.std.proofs.Math.Seq.{take-append_seam}
-use Rattle.std.proofs.lemmas.List.{take_all, drop-drop, length-drop}
+use Rattle.dac_script.specs.laws.Common.{IfNone, Bor, join_with_byte, eqb-true, take-append_seam, take_all, length-drop, All-push, join_with_byte-slice_split, slice_split_none, lines_of, divider, with_feeds, IsParted}
+use Rattle.std.specs.Prelude.{All, ◌≢◌, Option, Some, None, IfSome, unwrap_or}
+use Rattle.std.proofs.lemmas.List.{drop-drop}
 use Rattle.std.proofs.lemmas.List.Sums.{split_at_first, passes_at_first, fails_before_first}
-use Rattle.std.proofs.lemmas.List.Elements.{All-from_get_or, All-push}
-use Rattle.std.proofs.lemmas.List.Splits.{join_with_byte-slice_split, slice_split_first, slice_split_none}
-use Rattle.dac_script.specs.Script.{lines_of}
-use Rattle.dac_script.specs.Input.{divider, line_len, with_feeds, IsParted}
+use Rattle.std.proofs.lemmas.List.Elements.{All-from_get_or}
+use Rattle.std.proofs.lemmas.List.Splits.{slice_split_first}
+use Rattle.dac_script.specs.Input.{line_len}
 
 -- the loop's invariant: whole lines without a divider, then the rest
 pub record IsFront (text rest : List ℕ) : Type 0 where

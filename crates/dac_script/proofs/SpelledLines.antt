@@ -1,34 +1,22 @@
 -- Words spell at most one line, and have no fault if they spell one.
 use Rattle.std.proofs.Common.{◌≡◌, ℕ, ◌<◌, false, cond, List, [], ◌∷◌, Option, Some, None, Result, Ok, Err, IfSome, codes, refl, sym, ap, subst, ◌∙◌}
-use Rattle.std.specs.Prelude.{option_map, position}
-use Rattle.std.specs.Option.{MatchOption}
-use Rattle.std.specs.Result.{MatchResult}
-use Rattle.std.specs.Str.{bytes_eq}
-use Rattle.std.proofs.lemmas.Bool.{cond_both}
+use Rattle.dac_script.specs.laws.Common.{option_map, MatchOption, MatchResult, bytes_eq, cond_both, same_Some, bytes_eq-Decides, NodeId, Table, node_count, node_named, What, ScriptFaultKind, BadWord, ScriptLine, Role, Slot, AllTell, Spells, Word, Node, About, App, Number, Flag, roles_of, AreWrong, IsFaultless, IsLeast, IsReading, words_of}
+use Rattle.std.specs.Prelude.{position}
 use Rattle.std.proofs.lemmas.List.Quantifiers.{position-Some}
-use Rattle.std.proofs.lemmas.Option.{same_Some}
-use Rattle.std.proofs.lemmas.Slice.Eq.{bytes_eq-Decides}
-use Rattle.dac_base.specs.declared.NodeId.{NodeId}
-use Rattle.dac_config.specs.Table.{Table, NodeRow, node_count, node_named}
+use Rattle.dac_config.specs.Table.{NodeRow}
 use Rattle.dac_events.specs.declared.Command.TheVariants as command
-use Rattle.dac_events.specs.declared.What.{What}
 use Rattle.dac_events.specs.declared.What.TheVariants as what
-use Rattle.dac_script.specs.declared.fault.ScriptFaultKind.{ScriptFaultKind}
-use Rattle.dac_script.specs.declared.fault.ScriptFaultKind.TheVariants.{BadWord}
-use Rattle.dac_script.specs.declared.line.ScriptLine.{ScriptLine}
 use Rattle.dac_script.specs.declared.line.ScriptLine.TheVariants as says
 use Rattle.dac_script.specs.declared.verb.Ask.{Ask}
 use Rattle.dac_script.specs.declared.verb.Ask.TheVariants as ask
 use Rattle.dac_script.specs.declared.verb.Verb.{Verb}
 use Rattle.dac_script.specs.declared.verb.Verb.TheVariants as verb
-use Rattle.dac_script.specs.declared.verb.Role.{Role}
 use Rattle.dac_script.specs.Actors.{HasActors}
-use Rattle.dac_script.specs.Forms.{Slot, AllTell, event_form, form_of, Spells}
-use Rattle.dac_script.specs.Forms.Slot.{Word, Node, About, App, Number, Flag, Hex}
+use Rattle.dac_script.specs.Forms.{event_form, form_of}
+use Rattle.dac_script.specs.Forms.Slot.{Hex}
 use Rattle.dac_script.specs.InWords.{LinesInWords}
-use Rattle.dac_script.specs.LineFaults.{roles_of, AreWrong, HasFault, IsFaultless, IsLeast}
-use Rattle.dac_script.specs.Script.{IsAcceptedInWords, IsExact, IsReading}
-use Rattle.dac_script.specs.Words.{words_of}
+use Rattle.dac_script.specs.LineFaults.{HasFault}
+use Rattle.dac_script.specs.Script.{IsAcceptedInWords, IsExact}
 use Rattle.dac_script.specs.Verbs.{ask_text, text_of, ask_of, verb_of}
 use Rattle.dac_script.specs.laws.Spaces.{words_in_words}
 use Rattle.dac_script.proofs.Told.{only, least_some, least_none, HasRoles, form_fine, form_same}

@@ -1,27 +1,21 @@
 -- A word that spells the value of its place has no fault in that role and spells no other value. Of many words the
 -- least fault is returned.
 use Rattle.std.proofs.Common.{◌≡◌, ℕ, zero, suc, ◌-◌, ◌<◌, ◌≤◌, Bool, true, false, List, [], ◌∷◌, length, take, drop, get_or, map, Option, Some, None, unwrap_or, refl, sym, ap, subst, ◌∙◌, arith, inl, inr}
+use Rattle.dac_script.specs.laws.Common.{Bor, MatchOption, cond_both, ltb-true, length-drop, length-map, take_all, none-some, same_Some, NodeId, Table, node_count, node_named, ScriptFaultKind, BadNumber, Role, name_in, number_in, bytes_in, Slot, AllTell, Word, Node, About, App, Number, Flag, IsNoHex, AreWrong, IsFaultless, IsLeast, slot_of, least_of}
 use Rattle.std.specs.Prelude.{◌≢◌, ◌⊎◌, ◌↔◌, nat_lt}
-use Rattle.std.specs.Borrow.{Bor}
-use Rattle.std.specs.Option.{MatchOption, IsSomeAnd}
+use Rattle.std.specs.Option.{IsSomeAnd}
 use Rattle.std.specs.List.{Any, zip}
-use Rattle.std.proofs.lemmas.Bool.{cond_both, ltb-false, ltb-true}
-use Rattle.std.proofs.lemmas.List.{length-drop, length-map, take_all}
-use Rattle.std.proofs.lemmas.Option.{none-some, same_Some}
+use Rattle.std.proofs.lemmas.Bool.{ltb-false}
 use Rattle.std.proofs.lemmas.Slice.Zip.{AllZip-long}
-use Rattle.dac_base.specs.declared.NodeId.{NodeId}
-use Rattle.dac_config.specs.Table.{Table, node_count, app_count, node_named, app_named}
-use Rattle.dac_script.specs.declared.fault.ScriptFaultKind.{ScriptFaultKind}
-use Rattle.dac_script.specs.declared.fault.ScriptFaultKind.TheVariants.{BadCount, BadName, BadNumber, UnknownActor, BadHex}
+use Rattle.dac_config.specs.Table.{app_count, app_named}
+use Rattle.dac_script.specs.declared.fault.ScriptFaultKind.TheVariants.{BadCount, BadName, UnknownActor, BadHex}
 use Rattle.dac_script.specs.declared.values.Values.{Values}
-use Rattle.dac_script.specs.declared.verb.Role.{Role}
 use Rattle.dac_script.specs.declared.verb.Role.TheVariants as role
 use Rattle.dac_script.specs.Faults.{script_number}
-use Rattle.dac_script.specs.Words.{name_in, number_in, bytes_in}
-use Rattle.dac_script.specs.Forms.{Slot, Tells, AllTell, flag_word}
-use Rattle.dac_script.specs.Forms.Slot.{Word, Node, About, App, Number, Flag, Hex}
-use Rattle.dac_script.specs.LineFaults.{IsNoHex, IsNoNode, IsWrong, IsAnyWrong, AreWrong, AreDistinct, IsOutside, IsFaultless, IsLeast}
-use Rattle.dac_script.specs.Values.{slot_of, least_of, lesser}
+use Rattle.dac_script.specs.Forms.{Tells, flag_word}
+use Rattle.dac_script.specs.Forms.Slot.{Hex}
+use Rattle.dac_script.specs.LineFaults.{IsNoNode, IsWrong, IsAnyWrong, AreDistinct, IsOutside}
+use Rattle.dac_script.specs.Values.{lesser}
 use Rattle.dac_script.specs.laws.Atoms.{name_read, name_spelled}
 use Rattle.dac_script.specs.laws.Numbers.{number_read}
 use Rattle.dac_script.specs.laws.Digits.{some_bytes, no_bytes, bytes_read}

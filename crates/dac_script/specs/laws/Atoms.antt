@@ -1,19 +1,15 @@
 -- A word has a name exactly if it is an atom of that name.
 use Rattle.std.proofs.Common.{◌≡◌, ℕ, ◌+◌, true, cond, not, ◌&&◌, List, [], ◌∷◌, ◌++◌, length, take, slice_index, All, Some, None, codes, ◌==◌, refl, sym, ap, subst, ◌∙◌, arith, inl, inr, length-append}
+use Rattle.dac_script.specs.laws.Common.{list_all, bytes_eq, and_from, and_parts, cond-true, cond_both, eq-eqb, eqb-true, nat_tests, take_all, take_at, get_or_at, none-some, same_Some, cond_some, bytes_eq-Decides, name_in}
 use Rattle.std.specs.Bool.{Decides}
-use Rattle.std.specs.List.{list_all}
-use Rattle.std.specs.Str.{bytes_eq}
 use Rattle.std.specs.Char.{IsAsciiLowercase}
-use Rattle.std.proofs.lemmas.Bool.{and_from, and_parts, cond-true, cond_both, eq-eqb, eqb-true}
-use Rattle.std.proofs.lemmas.Bool.Decides.{nat_tests, Decides-and, Decides-by_and, Decides-not}
-use Rattle.std.proofs.lemmas.List.{take_all, take_at, take_more, get_or_at}
-use Rattle.std.proofs.lemmas.Option.{none-some, same_Some, cond_some}
-use Rattle.std.proofs.lemmas.Slice.Eq.{bytes_eq-Decides}
+use Rattle.std.proofs.lemmas.Bool.Decides.{Decides-and, Decides-by_and, Decides-not}
+use Rattle.std.proofs.lemmas.List.{take_more}
 use Rattle.dac_tokens.specs.Scan.{is_name_byte, is_quotable}
 use Rattle.dac_tokens.specs.TokenGrammar.{Begins, IsNameByte, IsBareAtom, IsQuotable, IsQuoted}
 use Rattle.dac_tokens.specs.laws.NameBytes.{tells_letter, tells_name_byte}
 use Rattle.dac_config.specs.Canonical.{begins_small, is_bare}
-use Rattle.dac_script.specs.Words.{before_quote, quoted_name, name_in}
+use Rattle.dac_script.specs.Words.{before_quote, quoted_name}
 use Rattle.dac_script.specs.Forms.{IsAtom}
 
 -- ---- tests of bytes

@@ -1,18 +1,15 @@
 -- A word spells bytes exactly if it has an even number of lower-case hexadecimal digits, and it is then the text of
 -- those bytes.
 use Rattle.std.proofs.Common.{◌≡◌, ℕ, zero, suc, ◌+◌, ◌-◌, ◌*◌, ◌/◌, ◌%◌, ◌<◌, Bool, true, false, cond, not, ◌&&◌, ◌||◌, List, [], ◌∷◌, length, leb, ltb, slice_index, ◌==◌, Some, None, Result, Ok, Err, refl, sym, ap, ◌∙◌, arith, inl, inr}
+use Rattle.dac_script.specs.laws.Common.{list_all, and_from, and_parts, cases_eq, cond-true, eqb-true, ltb-true, not-true, nat_tests, AllPass-from_list_all, list_all-from_AllPass, none-some, same_Some, bytes_in, IsNoHex}
 use Rattle.std.specs.Prelude.{slice_index_or}
-use Rattle.std.specs.List.{AllPass, list_all}
+use Rattle.std.specs.List.{AllPass}
 use Rattle.std.specs.Result.{result_ok, result_unwrap_or}
-use Rattle.std.proofs.lemmas.Bool.{agree_below_at, and_from, and_parts, both_ways, cases_eq, cond-true, eqb-true, ltb-true, not-true, or_cases}
-use Rattle.std.proofs.lemmas.Bool.Decides.{nat_tests}
-use Rattle.std.proofs.lemmas.List.Sums.{AllPass-from_list_all, list_all-from_AllPass}
-use Rattle.std.proofs.lemmas.Option.{none-some, same_Some}
+use Rattle.std.proofs.lemmas.Bool.{agree_below_at, both_ways, or_cases}
 use Rattle.hex.specs.Hex.{IsBytes, decode_of, encode_lower, encode_with, is_hex_digit, lower_digits}
 use Rattle.hex.specs.declared.error.FromHexError.{FromHexError}
 use Rattle.hex.proofs.HexLemmas.{decode_of-digits, decode_of-encode_lower, decode_of-ok}
-use Rattle.dac_script.specs.Words.{is_small_digit, bytes_in}
-use Rattle.dac_script.specs.LineFaults.{IsNoHex}
+use Rattle.dac_script.specs.Words.{is_small_digit}
 
 -- a lower-case hexadecimal digit is a hexadecimal digit
 is_digit : (digit : ℕ) → is_small_digit digit ≡ true → is_hex_digit digit ≡ true

@@ -1,11 +1,7 @@
 -- An input is divided at its first line `--`.
 use Rattle.std.proofs.Common.{◌≡◌, ◌≢◌, ◌⊎◌, ◌==◌, ℕ, Bool, length, arith, List, [], ◌∷◌, ◌++◌, All, codes, refl, sym, ap, subst, ◌∙◌, inl, inr, append_assoc, append-nil}
-use Rattle.std.specs.List.{join_with_byte}
-use Rattle.std.proofs.Math.Seq.{take-append_seam}
-use Rattle.std.proofs.lemmas.List.Elements.{All-cons, All-contains, All-head, All-nil, All-push, All-tail, All-take, Contains-append_right}
-use Rattle.std.proofs.lemmas.List.Splits.{join_with_byte-slice_split, slice_split_at}
-use Rattle.dac_script.specs.Script.{lines_of}
-use Rattle.dac_script.specs.Input.{divider, with_feeds, IsParted}
+use Rattle.dac_script.specs.laws.Common.{join_with_byte, take-append_seam, All-cons, All-head, All-nil, All-push, All-tail, join_with_byte-slice_split, slice_split_at, lines_of, divider, with_feeds, IsParted}
+use Rattle.std.proofs.lemmas.List.Elements.{All-contains, All-take, Contains-append_right}
 use Rattle.dac_script.specs.OwnWords.{EndsLine, IsDividedAtFirst, DividedInWords}
 use Rattle.dac_script.specs.laws.Splits.{split_append, parts_uncut, IsUncut}
 

@@ -1,10 +1,7 @@
 -- The words of a line are separated by its spaces.
 use Rattle.std.proofs.Common.{◌≡◌, ◌≢◌, ℕ, ◌<◌, Bool, false, not, List, [], ◌∷◌, ◌++◌, length, filter, All, ◌==◌, refl, sym, ap, subst, ◌∙◌, arith, inl, inr, append_assoc, append-nil}
-use Rattle.std.specs.List.{slice_split}
-use Rattle.std.proofs.lemmas.Bool.{cases_eq, cond-true, eq-eqb, ne_eqb, not_from_false}
-use Rattle.std.proofs.lemmas.List.Elements.{All-cons, All-head, All-nil, All-push, All-tail, All-weaker, filter-append}
-use Rattle.std.proofs.lemmas.List.Splits.{slice_split-cons_yes, slice_split_at, slice_split_none}
-use Rattle.dac_script.specs.Words.{words_of}
+use Rattle.dac_script.specs.laws.Common.{slice_split, cases_eq, cond-true, eq-eqb, ne_eqb, not_from_false, All-cons, All-head, All-nil, All-push, All-tail, filter-append, slice_split-cons_yes, slice_split_at, slice_split_none, words_of}
+use Rattle.std.proofs.lemmas.List.Elements.{All-weaker}
 use Rattle.dac_script.specs.Forms.{AreSpaces, IsWord, EndsWord, HasWords}
 use Rattle.dac_script.specs.InWords.{WordsInWords}
 use Rattle.dac_script.specs.OwnWords.{OnlySpacesSeparate}

@@ -1,22 +1,18 @@
 -- From the text read to the input, for scripts of `sim` or `live`.
 use Rattle.std.proofs.Common.{◌≡◌, ℕ, List, Option, IfSome, Some, None, Err, sym, subst}
+use Rattle.dac_script.specs.laws.Common.{Table, Failure, ScriptFaultKind, MAX_INPUT, lines_of, IsScriptFailure, IsParted, IsInputFailure}
 use Rattle.std.proofs.lemmas.Option.{IfSome_then}
 use Rattle.dac_tokens.specs.declared.fault.ConfigFault.{ConfigFault}
 use Rattle.dac_tokens.specs.declared.fault.FaultKind.{FaultKind}
 use Rattle.dac_tokens.specs.declared.fault.FaultKind.TheVariants.{NoMemory}
 use Rattle.dac_tokens.specs.Gives.{OrMemory}
-use Rattle.dac_config.specs.Table.{Table}
 use Rattle.dac_config.specs.Says.{IsConfigOf}
 use Rattle.dac_config.specs.Reading.{config_at}
-use Rattle.dac_script.specs.declared.failure.Failure.{Failure}
 use Rattle.dac_script.specs.declared.failure.Failure.TheVariants as failure
 use Rattle.dac_script.specs.declared.fault.InputFault.TheVariants.{TooLong, NoScript, Read}
-use Rattle.dac_script.specs.declared.fault.ScriptFaultKind.{ScriptFaultKind}
-use Rattle.dac_script.specs.declared.input.TheConstants.{MAX_INPUT}
 use Rattle.dac_script.specs.Failures.{failure_of_kind}
-use Rattle.dac_script.specs.Script.{lines_of, IsScriptFailure}
-use Rattle.dac_script.specs.Input.{IsTaken, IsParted, IsReadFailure}
-use Rattle.dac_script.specs.Inputs.{IsPartsFailure, IsInputFailure}
+use Rattle.dac_script.specs.Input.{IsTaken, IsReadFailure}
+use Rattle.dac_script.specs.Inputs.{IsPartsFailure}
 use Rattle.dac_script.specs.Sources.{Sourced, IsLeftBy}
 use Rattle.dac_script.specs.declared.source.Progress.TheVariants.{Ended}
 

@@ -1,5 +1,5 @@
 use Rattle.std.proofs.Common.{ℕ, ◌+◌, ◌≤◌, List, ◌++◌, length, Option, Result, arith, length-append}
-use Rattle.std.specs.Io.KnownBytes.{Consumes}
+use Rattle.dac_script.specs.laws.Common.{Consumes}
 use Rattle.std.proofs.KnownBytes.{Consumes-trans}
 use Rattle.dac_script.specs.Input.{Takes, TakesAtMost}
 use Rattle.dac_script.proofs.input.read_input.Goals as goal

@@ -1,6 +1,5 @@
 use Rattle.std.proofs.Common.{◌≡◌, ◌≤◌, ◌-◌, length}
-use Rattle.std.specs.Io.KnownBytes.{Consumes}
-use Rattle.dac_script.specs.declared.input.TheConstants.{MAX_INPUT}
+use Rattle.dac_script.specs.laws.Common.{Consumes, MAX_INPUT}
 use Rattle.dac_script.specs.declared.source.TheConstants.{MAX_READS}
 use Rattle.dac_script.proofs.input.read_input.Given as goal
 

@@ -1,4 +1,4 @@
-use Rattle.dac_script.specs.Forms.{Spells}
+use Rattle.dac_script.specs.laws.Common.{Spells}
 use Rattle.dac_script.specs.LineFaults.{HasFault}
 use Rattle.dac_script.specs.laws.Comments.{only_comments}
 use Rattle.dac_script.specs.laws.Divided.{divided_in_words}

@@ -1,5 +1,5 @@
 use Rattle.dac_script.specs.LiveFaults.{HasFault}
-use Rattle.dac_script.specs.LiveForms.{SpellsLive}
+use Rattle.dac_script.specs.laws.Common.{SpellsLive}
 use Rattle.dac_script.specs.laws.Comments.{only_comments}
 use Rattle.dac_script.proofs.SpelledLines.{accepted}
 use Rattle.dac_script.proofs.LiveLines.{live_lines_in_words}

@@ -1,7 +1,6 @@
 use Rattle.std.proofs.Common.{◌∷◌, Ok, Err, map, sym}
-use Rattle.dac_script.specs.Forms.{Spells}
-use Rattle.dac_script.specs.LineFaults.{roles_of, HasFault}
-use Rattle.dac_script.specs.Values.{slot_of}
+use Rattle.dac_script.specs.laws.Common.{Spells, roles_of, slot_of}
+use Rattle.dac_script.specs.LineFaults.{HasFault}
 use Rattle.dac_script.proofs.SpelledLines.{lines_in_words, reading, verb_spells, verb_fails, actors_are}
 use Rattle.dac_script.proofs.line.line_of.Goals as goal
 

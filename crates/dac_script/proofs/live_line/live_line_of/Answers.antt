@@ -1,10 +1,6 @@
 use Rattle.std.proofs.Common.{◌∷◌, [], Ok, Err, map, sym, ap, ◌∙◌}
-use Rattle.std.specs.Cmp.Lexicographic.{same_text, other_text}
-use Rattle.dac_script.specs.declared.fault.ScriptFaultKind.TheVariants.{BadWord}
-use Rattle.dac_script.specs.declared.live_line.LiveLine.TheVariants.{Feed, Phase}
+use Rattle.dac_script.specs.laws.Common.{same_text, other_text, BadWord, Feed, Phase, caller_of, with_caller, plain_roles}
 use Rattle.dac_script.specs.declared.verb.Role.TheVariants.{Hex}
-use Rattle.dac_script.specs.LiveCallers.{caller_of, with_caller}
-use Rattle.dac_script.specs.LiveFaults.{plain_roles}
 use Rattle.dac_script.proofs.LiveLines.{live_read, plain_fails, other_fails, no_plain, no_caller_word, caller_judged}
 use Rattle.dac_script.proofs.live_line.live_line_of.Goals.{in-Ok, in-Err}
 use Rattle.dac_script.proofs.live_line.live_line_of.Goals as goal
