@@ -9,7 +9,6 @@ use Rattle.dac_meaning.specs.laws.Members.{In-append_left, In-append_right, In-a
 use Rattle.dac_events.specs.declared.What.{What}
 use Rattle.dac_events.specs.declared.refusal.Refusal.TheVariants.{IncarnationsUsedUp}
 use Rattle.dac_events.specs.declared.world_fault.WorldFault.TheVariants.{NoSuchNode}
-use Rattle.dac_messages.specs.declared.event.Event.TheVariants.{Command as Commanded}
 use Rattle.dac_model_node.specs.Effect.{issued_by}
 use Rattle.dac_model_node.specs.EventRefusals.{refusal_off, refusal_by}
 use Rattle.dac_model_node.specs.Transitions.{moment_of}

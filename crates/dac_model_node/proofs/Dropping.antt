@@ -2,7 +2,6 @@
 use Rattle.std.proofs.Common.{◌≡◌, ◌⊎◌, ◌↔◌, ℕ, ◌+◌, ◌-◌, ◌<◌, ◌≤◌, Bool, true, false, length, Option, Some, None, inl, inr, refl, sym, ap, subst, ◌∙◌, arith}
 use Rattle.dac_model_node.specs.laws.Common.{min, max, nat_eq, nat_lt, ltb-true, ltb-false, eqb-true, NodeId, StateValue, Table, node_count, KeptDeltas, MAX_DELTAS, Event, Boot, Hear, Reply, Ticked, Held, Shipped, PeersValue, RunningValue, LeavesRunning, RunsOn, deltas_in, had_by_all}
 use Rattle.std.proofs.lemmas.Bool.{eqb-false}
-use Rattle.dac_messages.specs.declared.event.Event.TheVariants.{Command as Commanded}
 use Rattle.dac_messages.specs.declared.reply.Reply.TheVariants.{Booted, Crashed, Issued, GaveUp, Heard}
 use Rattle.dac_peers.specs.Peers.{number_acked, acked_by_all}
 use Rattle.dac_peers.specs.InWords.{IsNumberOf, IsOther}
