@@ -7,7 +7,7 @@ ghost use Rattle.dac_crews.specs.Compared.{found};
 ghost use Rattle.dac_live.specs.Asked.{answer_one};
 ghost use Rattle.dac_live.specs.Lines.{AreAnswered, CallerHolds, NodeHolds, CallersHold, IsStrange};
 
-use crate::lines::told_to;
+use crate::lines::results_of_caller;
 use crate::lists::AnswerList;
 use dac_base::{NoMemory, NodeId};
 use dac_crews::{Answer, CALLERS, Closed, Phase, Record};
@@ -104,7 +104,7 @@ fn caller_holds(
     if !are_asked(asked.as_slice(), records, seat) {
         return Ok(false);
     }
-    let told = told_to(alloc, phases, answers, node, caller)?;
+    let told = results_of_caller(alloc, phases, answers, node, caller)?;
     Ok(are_told(told.as_slice(), records, seat))
 }
 
@@ -131,7 +131,7 @@ fn node_holds(
 
 /// The first node at which a caller's seat has other records than its lines ask for, or other results than its lines
 /// have.
-pub fn strange_node(
+pub fn mismatched_node(
     alloc: Global,
     phases: &[Phase],
     answers: &[AnswerList],

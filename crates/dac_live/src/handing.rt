@@ -139,8 +139,8 @@ pub(crate) fn mismatch(node: NodeId) -> RunFault {
 }
 
 /// The result and the page of each line of each phase, from the callers' reads and the journals. Only
-/// [`are_answered`](crate::are_answered), [`strange_node`](crate::strange_node), [`last_pages`](crate::last_pages) and
-/// [`strange_read`](crate::receipts::strange_read) check that they are right.
+/// [`are_answered`](crate::are_answered), [`mismatched_node`](crate::mismatched_node), [`last_pages`](crate::last_pages) and
+/// [`mismatched_read`](crate::receipts::mismatched_read) check that they are right.
 pub(crate) fn all_told(
     alloc: Global,
     phases: &[Phase],

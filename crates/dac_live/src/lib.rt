@@ -7,15 +7,17 @@
 //! no other. Lists with an item for each node are in order of name.
 #![tactic(auto)]
 
-pub use callers::{answers_of, are_told, strange_node};
+pub use callers::{answers_of, are_told, mismatched_node};
 pub use dac_crews::{Ask, CALLERS, Closed, Gate, Line, Page, Phase, RunFault};
-pub use dac_phases::{are_asked, asked_by, is_of, lost_link, seats_are_in_order, stray_node};
+pub use dac_phases::{
+    are_asked, asked_by, is_of, lost_link, node_out_of_phase, seats_are_in_order,
+};
 pub use dac_sites::{
     Answer, Call, CloseFault, LiveFault, OpenFault, PageReader, PagedJournal, Receipt, Record,
     Seat, Site, SiteBlank, SiteName, blank_site, laws, open_site,
 };
 pub use dac_workers::{Reading, fresh_page, links};
-pub use lines::{are_answered, told_to};
+pub use lines::{are_answered, results_of_caller};
 pub use lists::{
     AnswerList, AnswersByPhase, BoxedPage, ClosedList, PageList, ReadList, ReadsByPhase,
 };

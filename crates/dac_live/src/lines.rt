@@ -53,7 +53,7 @@ fn with_answers<'a>(
 }
 
 /// The results of this caller's lines, over all phases, in order.
-pub fn told_to<'a>(
+pub fn results_of_caller<'a>(
     alloc: Global,
     phases: &[Phase],
     answers: &'a [AnswerList],

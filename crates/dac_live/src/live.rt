@@ -9,18 +9,18 @@ ghost use Rattle.dac_phases.specs.Pairs.{LinksHold, SeatsHold};
 ghost use Rattle.dac_phases.specs.Phases.{FallIntoPhases};
 ghost use Rattle.dac_live.specs.Reads.{AreNoted, PagesAreRead, ReadsHold};
 
-use crate::callers::strange_node;
+use crate::callers::mismatched_node;
 use crate::handing::{all_told, mismatch};
 use crate::lines::are_answered;
 use crate::lists::{AnswerList, AnswersByPhase, ClosedList, PageList, ReadList, ReadsByPhase};
 use crate::nodes::last_pages;
 use crate::reads::are_noted;
-use crate::receipts::strange_read;
+use crate::receipts::mismatched_read;
 use crate::report::LiveReport;
 use dac_base::NodeId;
 use dac_config::Config;
 use dac_crews::{Closed, Gate, MAX_SITES, Outcome, Phase, RunFault, run_sites};
-use dac_phases::{check_seats, lost_link, stray_node};
+use dac_phases::{check_seats, lost_link, node_out_of_phase};
 use std::alloc::Global;
 use std::sync::Wait;
 use std::thread::Threads;
@@ -41,7 +41,7 @@ fn check_phases(alloc: Global, phases: &[Phase], closed: &[Closed]) -> Result<()
     requires { length closed.now ≤ MAX_NODES }
     ensures { OnOk result (FallIntoPhases phases.now closed.now) }
 {
-    match stray_node(alloc, phases, closed)? {
+    match node_out_of_phase(alloc, phases, closed)? {
         None => Ok(()),
         Some(node) => Err(mismatch(node)),
     }
@@ -61,7 +61,7 @@ fn check_callers(
     if !are_answered(phases, answers) {
         return Err(mismatch(NodeId(0)));
     }
-    match strange_node(alloc, phases, answers, closed)? {
+    match mismatched_node(alloc, phases, answers, closed)? {
         None => Ok(()),
         Some(node) => Err(mismatch(node)),
     }
@@ -92,7 +92,7 @@ fn check_reads(
     requires pages { PagesAreRead config.now phases.now reads.now closed.now }
     ensures { OnOk result (ReadsHold config.now phases.now answers.now reads.now closed.now) }
 {
-    match strange_read(alloc, phases, answers, reads, closed)? {
+    match mismatched_read(alloc, phases, answers, reads, closed)? {
         None => Ok(()),
         Some(node) => Err(mismatch(node)),
     }

@@ -191,7 +191,7 @@ fn node_follows(
 
 /// The first node at which the result of a caller's line contradicts the page that it read, or at which that page
 /// contradicts the caller's calls before or after the line.
-pub fn strange_read(
+pub fn mismatched_read(
     alloc: Global,
     phases: &[Phase],
     answers: &[AnswerList],

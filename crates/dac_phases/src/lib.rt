@@ -6,7 +6,7 @@
 
 pub use asked::{are_asked, asked_by, is_of};
 pub use pairs::lost_link;
-pub use phases::stray_node;
+pub use phases::node_out_of_phase;
 pub use seats::{check_seats, seats_are_in_order};
 
 mod asked;

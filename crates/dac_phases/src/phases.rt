@@ -175,7 +175,7 @@ fn records_of(alloc: Global, closed: &[Closed]) -> Result<Vec<&[Record]>, NoMemo
 /// A node whose journal doesn't consist of the phases, or `None` if all do. In the records of a phase the callers'
 /// seats call the phase's lines, each shipper ships five times, and each link worker hears exactly what its shipper
 /// ships in that phase.
-pub fn stray_node(
+pub fn node_out_of_phase(
     alloc: Global,
     phases: &[Phase],
     closed: &[Closed],

@@ -23,7 +23,7 @@ fn is_seat(nodes: usize, seat: u16) -> bool
 }
 
 /// The place, from 1, of the first record of a seat that a node doesn't have.
-fn strange_place(nodes: usize, records: &[Record]) -> Option<u64>
+fn mismatched_place(nodes: usize, records: &[Record]) -> Option<u64>
     requires { nodes ≤ MAX_NODES }
     ensures { result ≡ None → AreOfSeats nodes records.now }
 {
@@ -43,7 +43,7 @@ pub fn check_seats(closed: &[Closed]) -> Result<(), RunFault>
 {
     for i in 0..closed.len() {
         let one = &closed[i];
-        match strange_place(closed.len(), one.records()) {
+        match mismatched_place(closed.len(), one.records()) {
             None => {}
             Some(place) => {
                 let node = NodeId(i as u8);

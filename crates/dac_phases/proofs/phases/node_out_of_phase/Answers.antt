@@ -1,7 +1,7 @@
 use Rattle.std.proofs.Common.{◌≡◌, All, List, [], Bor, length, map, ap, subst, arith}
 use Rattle.dac_phases.specs.laws.Common.{length-map, Record, JournalValue, AreParted, PhaseHolds, ArePhased, FallIntoPhases}
 use Rattle.dac_phases.proofs.Parted.{falls_on, falls_last}
-use Rattle.dac_phases.proofs.phases.stray_node.Goals as goal
+use Rattle.dac_phases.proofs.phases.node_out_of_phase.Goals as goal
 
 pub loop-i-init : goal.loop-i-init
 loop-i-init c =

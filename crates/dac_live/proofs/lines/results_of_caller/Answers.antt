@@ -1,6 +1,6 @@
 use Rattle.std.proofs.Common.{◌++◌, List, length, zip, flat_map, sym, ap, ◌∙◌, arith}
 use Rattle.dac_live.proofs.Common.{AllZip-long, Line, Phase, LineAnswer, Answers, LinesAnswered, told_in, flat_more, zip_within, zip_at, zip_all, all_zip_at}
-use Rattle.dac_live.proofs.lines.told_to.Goals as goal
+use Rattle.dac_live.proofs.lines.results_of_caller.Goals as goal
 
 -- the results fit the lines of a phase
 abbrev fits : Phase → List LineAnswer → Type 0
