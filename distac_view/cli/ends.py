@@ -62,10 +62,10 @@ def make(folder: str) -> None:
 
 
 def keep(reply: Reply, folder: str) -> None:
-    """Writes the scripts of each end into a folder: the small one and the whole schedule."""
+    """Writes the scripts of each end into a folder: the small one, and the whole schedule if a script may be so long."""
     for number, end in enumerate(reply.ends, 1):
-        for name, script in ((f"end-{number}.distac", end.small), (f"end-{number}-whole.distac", end.whole)):
-            write_whole(os.path.join(folder, name), script.source, [reply.search.race.path])
+        for suffix, script in end.scripts.items():
+            write_whole(os.path.join(folder, f"end-{number}{suffix}.distac"), script.source, [reply.search.race.path])
 
 
 def seed(word: str) -> int:
