@@ -13,6 +13,7 @@ from checks.library.modules import Modules
 from checks.library.printed import printed
 from checks.library.promises import Promises
 from checks.library.restated import Restated
+from checks.library.spare import copied_lemmas, spare_faults, spare_imports
 
 WHAT = """Checks that documents, crates.txt, edits and scripts agree with each other and with the sources.
 
@@ -44,6 +45,8 @@ def document_list() -> List[Check]:
         Check("clauses, rows and tests that state a rule again are there", Restated(HERE, sources, modules).faults),
         Check("docs/sources.txt names definitions that are there", lambda: DefinitionSources(HERE).faults(modules)),
         Check("a contract, a proof or a document reaches each definition", dead_faults),
+        Check("each file uses what it imports, but for what is kept", lambda: spare_faults("import", spare_imports(HERE))),
+        Check("no two lemmas state the same, but for those kept", lambda: spare_faults("copy", copied_lemmas(HERE))),
         Check("pages CALLING.md name each public call", lambda: document_checks.calling_faults(HERE, sources)),
     ]
 
@@ -55,7 +58,7 @@ def crate_list() -> List[Check]:
         Check("crates.txt has each crate", lambda: crate_checks.folder_faults(HERE, crates)),
         Check("no crate lists one above it", lambda: crate_checks.layer_faults(crates)),
         Check("what is listed is named, and the other way round", lambda: crate_checks.listing_faults(HERE, crates)),
-        Check("the lists of crates are those of crates.txt", lambda: crate_checks.list_faults(HERE, crates)),
+        Check("docs/crate-list.txt has the crates of crates.txt", lambda: crate_checks.list_faults(HERE, crates)),
         Check("the drawing of the layers is that of crates.txt", lambda: crate_checks.drawing_faults(HERE, crates)),
     ]
 

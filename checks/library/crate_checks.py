@@ -1,12 +1,12 @@
-"""Checks that crates.txt lists the crates that are named, and that docs/ARCHITECTURE.md agrees with crates.txt."""
+"""Checks that crates.txt lists the crates that are named, and that docs/crate-list.txt and docs/ARCHITECTURE.md agree with it."""
 
 import pathlib
 import re
 from typing import Dict, FrozenSet, Iterator, List
 
 from checks.library.crates import Crates
-from checks.library.spans import SPAN
 
+LIST = "docs/crate-list.txt"
 CODE_PATH = re.compile(r"(?<![\w:.])(\w+)::")
 DEFINITION_PATH = re.compile(r"\bRattle\.(\w+)\b")
 
@@ -59,28 +59,25 @@ def folder_faults(root: pathlib.Path, crates: Crates) -> Iterator[str]:
 
 
 def lists_of(root: pathlib.Path) -> Dict[str, List[str]]:
-    """The crates listed in docs/ARCHITECTURE.md, by layers."""
+    """The crates in docs/crate-list.txt, by layers."""
     found: Dict[str, List[str]] = {}
-    text = (root / "docs" / "ARCHITECTURE.md").read_text(encoding="utf-8")
-    section = text[text.index("## Crates, lowest first") :].split("\n## ")[0]
-    for layer in section.split("\n### ")[1:]:
-        name, _, rest = layer.partition("\n")
-        items = re.findall(r"^- (.*(?:\n  .*)*)", rest, re.MULTILINE)
-        found[name] = [crate for item in items for crate in SPAN.findall(item.split(":")[0])]
+    for layer in (root / LIST).read_text(encoding="utf-8").split("==== ")[1:]:
+        name, *lines = layer.splitlines()
+        found[name] = [crate.strip("* ") for line in lines for crate in line.split(":")[0].split(",")]
     return found
 
 
 def list_faults(root: pathlib.Path, crates: Crates) -> Iterator[str]:
-    """Differences between these lists and crates.txt."""
+    """Differences between this list and crates.txt."""
     lists = lists_of(root)
     if list(lists) != list(crates.layers):
-        yield f"docs/ARCHITECTURE.md: the layers of the lists are {', '.join(lists)}"
+        yield f"{LIST}: the layers are {', '.join(lists)}"
     for layer, listed in crates.layers.items():
         rows = lists.get(layer, [])
         if layer == "Tests":
             rows, listed = sorted(rows), tuple(sorted(listed))
         if rows != list(listed):
-            yield f"docs/ARCHITECTURE.md: of {layer} the list has {', '.join(rows)}, crates.txt {', '.join(listed)}"
+            yield f"{LIST}: of {layer} it has {', '.join(rows)}, crates.txt {', '.join(listed)}"
 
 
 def drawing_faults(root: pathlib.Path, crates: Crates) -> Iterator[str]:
@@ -90,7 +87,7 @@ def drawing_faults(root: pathlib.Path, crates: Crates) -> Iterator[str]:
     for line in text.split("```")[1].split("\n"):
         words = line.split()
         if words and re.match(r"^ [a-z]", line):
-            drawn[words[0].capitalize()] = words[1:]
+            drawn[words[0].capitalize()] = [word.strip("*") for word in words[1:]]
     layers = [layer for layer in crates.layers if layer != "Tests"]
     if list(drawn) != layers[::-1]:
         yield f"docs/ARCHITECTURE.md: the drawing has the layers {', '.join(drawn)}"

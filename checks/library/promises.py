@@ -91,7 +91,9 @@ def promises_of(text: str) -> Iterator[Promise]:
 
 
 def functions_of(one: Cited, crate: str, sources: Sources) -> List[Function]:
-    """The functions that a name means: itself, those of a type or those of a module. The item's crate is preferred."""
+    """The functions that a name means: itself, those of a type, of a module or of a crate. The item's crate is preferred."""
+    if one.name in sources.crates.listed:
+        return [each for each in sources.public() if each.crate == one.name]
     asked = tuple(one.name.split("::"))
     found = [each for each in sources.functions if is_within(asked, each.whole())]
     if not found:

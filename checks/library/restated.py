@@ -1,5 +1,4 @@
-"""Reads the tables "Stated a second time" in docs/CONTRIBUTING.md: which clause, row or test states each rule without using
-its definition."""
+"""Reads the rules in checks/library/restated.txt: which clause, row or test states each one without using its definition."""
 
 import pathlib
 import re
@@ -10,10 +9,9 @@ from checks.library.modules import Modules
 from checks.library.promises import cited_in, faults_of_cited
 from checks.library.spans import SPAN
 
-PAGE = "docs/CONTRIBUTING.md"
-SECTION = "## Stated a second time"
-# the lines of a table's head, and its columns
-HEAD, COLUMNS = 2, 3
+PAGE = "checks/library/restated.txt"
+# what names the rules below it, and how many cells a rule has
+GROUP, CELLS = "==== ", 3
 # the clauses of a function, after its name
 CLAUSES = re.compile(r"\(`[^)]*\)")
 # a row is named by its folder, a test of distac-view by its file
@@ -22,28 +20,27 @@ PYTHON_TEST = re.compile(r"(distac_view/tests/test_\w+\.py)::(test_\w+)")
 
 
 class Rule(NamedTuple):
-    """A row of the table: a rule, its definition, and what states it again."""
+    """A line of the file: a rule, its definition, and what states it again."""
 
     line: int
     cells: List[str]
 
 
 def rules_of(text: str) -> Iterator[Rule]:
-    """The rows of the section's tables, without their heads."""
-    inside, place = False, 0
+    """The lines below the first group, without the names of groups."""
+    inside = False
     for number, line in enumerate(text.split("\n"), 1):
-        place = place + 1 if line.startswith("|") else 0
-        if line.startswith("## "):
-            inside = line == SECTION
-        elif inside and place > HEAD:
-            yield Rule(number, [cell.strip() for cell in line.strip("|").split("|")])
+        if line.startswith(GROUP):
+            inside = True
+        elif inside and line:
+            yield Rule(number, [cell.strip() for cell in line.split("|")])
 
 
 class Restated:
-    """The rules of the tables, with what their last cells name."""
+    """The rules, with what their last cells name."""
 
     def __init__(self, root: pathlib.Path, sources: Sources, modules: Modules) -> None:
-        """Reads the document."""
+        """Reads the file."""
         self.root = root
         self.sources = sources
         self.definitions = {one.name for crate in modules.crates.order() for one in modules.definitions_of(crate)}
@@ -53,9 +50,9 @@ class Restated:
     def faults(self) -> Iterator[str]:
         """Rules that nothing states again, and missing definitions, clauses, rows and tests."""
         if not self.rules:
-            yield f"{PAGE}: no rule below {SECTION}"
+            yield f"{PAGE}: no rule below a line of four equal signs"
         for rule in self.rules:
-            if len(rule.cells) != COLUMNS or not all(map(SPAN.search, rule.cells[1:])):
+            if len(rule.cells) != CELLS or not all(map(SPAN.search, rule.cells[1:])):
                 yield f"{PAGE}:{rule.line}: a rule has a definition, and a clause, a row or a test"
                 continue
             for fault in [*self.faults_of_definitions(rule.cells[1]), *self.faults_of_statements(rule.cells[2])]:

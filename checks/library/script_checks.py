@@ -18,6 +18,7 @@ OLDEST: Tuple[Tuple[str, Tuple[int, int]], ...] = (
     ("checks/__init__.py", (3, 8)),
     ("checks/check-documents", (3, 8)),
     ("checks/dead-names", (3, 8)),
+    ("checks/lines", (3, 8)),
     ("believe", (3, 8)),
 )
 # the oldest mypy with correct results, that of Debian 12

@@ -1,11 +1,8 @@
 -- The canonical text spells the same configuration: drafts can be spelled, each of their nodes occurs in a parameter,
 -- and the canonical draft has the same table.
 use Rattle.std.proofs.Common.{◌≡◌, ◌≢◌, ℕ, ◌+◌, ◌<◌, ◌≤◌, Bool, true, false, cond, not, ◌||◌, ◌&&◌, List, [], ◌∷◌, ◌++◌, length, map, get_or, filter, count_by, All, bytes_eq, ⊎_elim, refl, sym, ap, subst, ◌∙◌, arith, append_assoc, append-nil}
-use Rattle.std.specs.List.{AllByRecursion as Each, AllZip, IsDistinct}
-use Rattle.std.proofs.Math.Bool.{or-true, or-false, and-true, and-or_distrib_right}
-use Rattle.std.proofs.lemmas.Bool.{and_parts, and_from, cond_both, or_cases, or_left, or_right}
-use Rattle.std.proofs.lemmas.List.{length-map, length-append}
-use Rattle.std.proofs.lemmas.List.Elements.{All-head, All-tail, All-append, All-map, All-filter, All-weaker, All-from_recursion, recursion_from_All}
+use Rattle.dac_config.proofs.Common.{AllZip, IsDistinct, or-true, or-false, and-true, and-or_distrib_right, and_parts, and_from, cond_both, or_cases, or_left, or_right, length-map, length-append, All-head, All-tail, All-append, All-map, All-filter, All-weaker, All-from_recursion, recursion_from_All, App, Permission, Param, Distributed, Permissions, Mandatory, Optional, Timeout, Kernel, Written, name_of, put, put_all, unsaid, written, is_among, is_named, IsFile, IsTextOf, joined, params_in, names_of_app, names_of_param, names_in, nodes_in, AreAppsWithin, IsValueWithin, AreWithinLimits, IsWithinLimits, NodeRow, AppRow, Table, canonical_text, name_cmp, numbers_from, numbered_node, numbered_nodes, permitted, numbered_app, numbered, in_byte_order, IsGroup, IsDefaultPermission, IsApp, IsTableOf, IsConfigOf, IsSaid, By}
+use Rattle.std.specs.List.{AllByRecursion as Each}
 use Rattle.std.proofs.lemmas.List.Kept.{IsStrictlySortedBy-filter}
 use Rattle.std.proofs.lemmas.List.Sums.{sum_by-cons}
 use Rattle.std.proofs.lemmas.Map.Keys.{IsDistinct-from_sorted}
@@ -16,15 +13,7 @@ use Rattle.dac_shapes.specs.declared.draft.SyncWait.{SyncWait}
 use Rattle.dac_shapes.specs.declared.draft.SyncWait.TheVariants.{NoSync, Forever, Ms}
 use Rattle.dac_shapes.specs.declared.param.ParamName.{ParamName}
 use Rattle.dac_shapes.specs.declared.param.ParamName.TheVariants as named
-use Rattle.dac_shapes.specs.Written.{App, Permission, Param, Distributed, Permissions, Mandatory, Optional, Timeout, Kernel, Written, name_of, put, put_all, unsaid, written}
-use Rattle.dac_shapes.specs.Limits.{is_among, is_named}
-use Rattle.dac_shapes.specs.Grammar.{IsFile, IsTextOf}
-use Rattle.dac_shapes.specs.Within.{joined, params_in, names_of_app, names_of_param, names_in, nodes_in, AreAppsWithin, IsValueWithin, AreWithinLimits, IsWithinLimits}
 use Rattle.dac_shapes.specs.laws.Params.{put_params, nodes_stay}
-use Rattle.dac_config.specs.Table.{NodeRow, AppRow, Table}
-use Rattle.dac_config.specs.Canonical.{canonical_text}
-use Rattle.dac_config.specs.Numbering.{name_cmp, numbers_from, numbered_node, numbered_nodes, permitted, numbered_app, numbered, in_byte_order}
-use Rattle.dac_config.specs.Says.{IsGroup, IsDefaultPermission, IsApp, IsTableOf, IsConfigOf, IsSaid, By}
 use Rattle.dac_config.proofs.Names.{Within, first_among, later_among, among_append, among_all, all_among, named_in, among_named, all_parts, all_joined, joined_all, all_mapped, among_firsts, few_firsts, Differ, differ_joined, same_name}
 use Rattle.dac_config.proofs.Numbers.{group_numbered, permission_found, names_numbered, sorted_rising, sorted_names, numbered_says, table_same}
 use Rattle.dac_config.proofs.Writes.{CanSpellGroup, CanSpellApp, CanSpellWait, CanSpell, name_at, written_app, ban, written_bans, wait_params, params_of, file_written, file_spells}
@@ -52,11 +41,10 @@ wait_spells (Ms n) can = (can, tt)
 
 put_spells : (w : Written) (param : Param) → CanSpell param → Each CanSpell (said_params w) → Each CanSpell (said_params (put w param))
 put_spells w (Distributed apps) can h = (can, h.1)
-put_spells w (Permissions permissions) can h = h
 put_spells w (Mandatory names) can h = (h.0, (can, h.1.1))
 put_spells w (Optional names) can h = (h.0, (h.1.0, (can, h.1.1.1)))
 put_spells w (Timeout wait) can h = (h.0, (h.1.0, (h.1.1.0, wait_spells wait can)))
-put_spells w Param.Other can h = h
+put_spells w _ can h = h
 
 all_spell : (w : Written) (params : List Param) → Each CanSpell params → Each CanSpell (said_params w) → Each CanSpell (said_params (put_all w params))
 all_spell w [] can h = h
@@ -69,8 +57,7 @@ abbrev Says : List ℕ → ParamName → Written → Type 0
 Says name named.Distributed w = is_among name (joined (map names_of_app w.apps)) ≡ true
 Says name named.Mandatory w = is_among name w.mandatory ≡ true
 Says name named.Optional w = is_among name w.optional ≡ true
-Says name named.Timeout w = ⊥
-Says name named.Permissions w = ⊥
+Says name _ w = ⊥
 
 abbrev count_of : ParamName → List Param → ℕ
 count_of n params = count_by (λ param. is_named n (name_of param)) params
@@ -107,8 +94,7 @@ says_names name n w h =
     by named.Distributed k = or_left _ _ k
     by named.Mandatory k = or_right _ _ (or_left _ _ k)
     by named.Optional k = or_right _ _ (or_right _ _ k)
-    by named.Timeout k = absurd k
-    by named.Permissions k = absurd k
+    by _ k = absurd k
 
 -- if each parameter occurs once, every node in a parameter is in the draft
 all_said : (name : List ℕ) (w : Written) (params : List Param) → ((n : ParamName) → count_of n params ≤ 1) → is_among name (joined (map names_of_param params)) ≡ true → is_among name (said_names (put_all w params)) ≡ true
@@ -273,14 +259,11 @@ module _ (w : Written) (know : Known w) where
 
   no_names : (wait : SyncWait) → joined (map names_of_param (wait_params wait ++ [])) ≡ []
   no_names NoSync = refl
-  no_names Forever = refl
-  no_names (Ms n) = refl
+  no_names _ = refl
 
   -- a name in the draft is a node
   and_known : (a b : Bool) → (b ≡ true → a ≡ true) → (a && b) ≡ b
-  and_known true b h = refl
-  and_known false true h = h refl
-  and_known false false h = refl
+  and_known a b h = grind arith
 
   names_same : (name : List ℕ) → is_among name (names_in (Kernel (params_again w) ∷ [])) ≡ is_among name w.nodes
   names_same name =
@@ -312,8 +295,7 @@ module _ (w : Written) (know : Known w) where
 
   wait_within : (wait : SyncWait) → Each IsValueWithin (wait_params wait ++ [])
   wait_within NoSync = tt
-  wait_within Forever = (tt, tt)
-  wait_within (Ms n) = (tt, tt)
+  wait_within _ = (tt, tt)
 
   once : (wait : SyncWait) (n : ParamName) (apps : List App) (bans : List Permission) (mandatory optional : List (List ℕ))
       → count_by (λ param. is_named n (name_of param)) (Distributed apps ∷ Permissions bans ∷ Mandatory mandatory ∷ Optional optional ∷ (wait_params wait ++ [])) ≤ 1
@@ -349,8 +331,7 @@ module _ (w : Written) (know : Known w) where
 
   waiting : (nodes : List (List ℕ)) (wait : SyncWait) → put_all (again nodes NoSync) (wait_params wait) ≡ again nodes wait
   waiting nodes NoSync = refl
-  waiting nodes Forever = refl
-  waiting nodes (Ms n) = refl
+  waiting nodes _ = refl
 
   -- a node remains in each list that contains it when the list is sorted
   stays : (group : List (List ℕ)) → All (λ name. is_among name group ≡ is_among name (named_in (sorted w) group)) (sorted w)
@@ -372,12 +353,7 @@ module _ (w : Written) (know : Known w) where
       (subst (IsGroup (numbered_nodes w) other) (sym same) (group_numbered (numbered_nodes w) other), groups_again groups)
 
   ban_passes : (c e p m x : Bool) → (e ≡ true → c ≡ p) → x ≡ (p || not m) → cond c x (cond e false x) ≡ (p || not (e || m))
-  ban_passes true true true m x same is = is
-  ban_passes true true false m x same is = let h : true ≡ false = same refl in absurd cc
-  ban_passes true false p m x same is = is
-  ban_passes false true true m x same is = let h : false ≡ true = same refl in absurd cc
-  ban_passes false true false m x same is = refl
-  ban_passes false false p m x same is = is
+  ban_passes c e p m x same is = grind arith
 
   ban_split : (row : AppRow) (rest : List AppRow) (name : List ℕ) (c : Bool) → permitted (map ban (cond (not c) (row ∷ rest) rest)) name ≡ cond c (permitted (map ban rest) name) (cond (bytes_eq row.name name) false (permitted (map ban rest) name))
   ban_split row rest name true = refl

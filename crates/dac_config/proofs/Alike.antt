@@ -1,9 +1,7 @@
 -- Equal lists of groups.
 use Rattle.std.proofs.Common.{◌≡◌, ℕ, ◌+◌, ◌<◌, true, false, List, length, get_or, map, subst, refl, sym, ap, ◌∙◌, arith}
 use Rattle.std.specs.Prelude.{nat_lt}
-use Rattle.std.specs.Global.{Vec}
-use Rattle.std.proofs.lemmas.Bool.{ltb-true, ltb-false}
-use Rattle.std.proofs.lemmas.List.{get_or-map}
+use Rattle.dac_config.proofs.Common.{Vec, ltb-true, ltb-false, get_or-map}
 
 abbrev pub nodes_of : List (Vec ℕ) → List (List ℕ)
 nodes_of groups = map (λ group. group.items) groups

@@ -1,11 +1,9 @@
 -- Texts that are written in pieces.
 use Rattle.std.proofs.Common.{◌≡◌, ℕ, List, [], ◌∷◌, ◌++◌, sym, subst, append_assoc, append-nil, Result, IfOk}
-use Rattle.std.specs.Global.{Vec}
-use Rattle.std.proofs.lemmas.Result.{IfOk-weaker}
+use Rattle.dac_config.proofs.Common.{Vec, IfOk-weaker, separated_after}
 use Rattle.dac_base.specs.declared.NoMemory.{NoMemory}
 use Rattle.dac_config.specs.declared.sink.Text.{Text}
 use Rattle.dac_config.specs.Sinks.{Gains, IsWritten, HasText}
-use Rattle.dac_config.specs.Canonical.{separated_after}
 
 -- writing these texts, the first after `before`, completes the total
 pub record Goes {S : Type 0} (H : S → List ℕ → Type 0) (start now : S) (before : List ℕ) (left : List (List ℕ)) (total : List ℕ) : Type 0 where

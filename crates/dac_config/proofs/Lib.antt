@@ -1,3 +1,4 @@
+pub mod Common
 pub mod Names
 pub mod Tables
 pub mod Numbers

@@ -2,19 +2,12 @@
 use Rattle.std.proofs.Common.{◌≡◌, ℕ, ◌≤◌, Bool, true, false, ◌||◌, ◌&&◌, List, [], ◌∷◌, ◌++◌, length, map, fold, filter, All, Bor, bytes_eq, ⊎_elim, refl, sym, ap, subst, ◌∙◌, arith}
 use Rattle.std.specs.Cmp.{IsEquivalence}
 use Rattle.std.specs.Cmp.Lexicographic.{same_text}
-use Rattle.std.specs.List.{Contains, list_any, IsDistinct, AllZip, AllByRecursion as Each}
-use Rattle.std.proofs.Math.Bool.{or-true, or-false, or_assoc}
-use Rattle.std.proofs.lemmas.Bool.{both_ways, cond_both, false_from_ne_true, or_cases, or_parts, or_left, or_right}
-use Rattle.std.proofs.lemmas.Cmp.{nat_list_eq_equiv}
-use Rattle.std.proofs.lemmas.List.{length-map, get_or-map}
-use Rattle.std.proofs.lemmas.List.Elements.{All-contains, All-nil, All-cons, All-head, All-tail, All-append, All-from_recursion, recursion_from_All}
+use Rattle.dac_config.proofs.Common.{Contains, list_any, IsDistinct, AllZip, or-true, or-false, or_assoc, both_ways, cond_both, false_from_ne_true, or_cases, or_parts, or_left, or_right, nat_list_eq_equiv, length-map, get_or-map, All-contains, All-nil, All-cons, All-head, All-tail, All-append, All-from_recursion, recursion_from_All, is_among, with_name, names_of, joined, firsts}
+use Rattle.std.specs.List.{AllByRecursion as Each}
 use Rattle.std.proofs.lemmas.List.Folds.{list_any-append}
 use Rattle.std.proofs.lemmas.Map.Keys.{IsDistinct-push}
 use Rattle.std.proofs.lemmas.Map.Made.{length-le_from_is_member}
 use Rattle.std.proofs.lemmas.Map.Views.{Contains-from_any, All-from_any, any-filter_same}
-use Rattle.dac_shapes.specs.Limits.{is_among, with_name}
-use Rattle.dac_shapes.specs.Views.{names_of}
-use Rattle.dac_shapes.specs.Within.{joined, firsts}
 
 pub among_names : (name : List ℕ) (names : List (Bor (List ℕ))) → is_among name (names_of names) ≡ list_any (λ other. bytes_eq other.now name) names
 among_names name [] = refl

@@ -5,32 +5,17 @@ use Rattle.std.specs.Cmp.{IsTotalOrder, unsigned_ties, both_ways}
 use Rattle.std.specs.Cmp.Lexicographic.{texts_ties}
 use Rattle.std.specs.BTreeSet.{insert_key}
 use Rattle.std.specs.FinMap.{IsAntisymmetric, nat_cmp-IsAntisymmetric, slice_cmp-IsAntisymmetric}
-use Rattle.std.specs.List.{list_any, AllZip, AllByRecursion, dedup, dedup_from}
+use Rattle.dac_config.proofs.Common.{list_any, AllZip, AllByRecursion, dedup, dedup_from, or-false, or_assoc, or_comm, or_self, cond_both, lt-ltb, ne_eqb, eq-eqb, or_parts, eq_by_cmp_equiv, nat_cmp_total, nat_list_cmp_total, nat_list_eq_equiv, drop_more, length-map, get_or-map, All-map, All-nil, All-cons, All-head, All-tail, All-weaker, All-from_recursion, recursion_from_All, MAX_NODES, App, Permission, Written, is_among, names_of, IsTextOf, IsWithinLimits, Tables, node_row, app_row, table_of, NodeRow, AppRow, Table, name_cmp, in_byte_order, numbers_from, numbered_node, numbered_nodes, permitted, numbered_app, numbered, IsGroup, IsUnmentioned, IsDefaultPermission, IsApp, IsTableOf, By, IsTable}
 use Rattle.std.specs.List.Retain.{IsFiltered, DiffersFromLast}
 use Rattle.std.specs.List.Sorted.{IsStrictlySortedBy, IsPermutation, IsSorted}
-use Rattle.std.proofs.Math.Bool.{or-false, or_assoc, or_comm, or_self}
-use Rattle.std.proofs.lemmas.Bool.{cond_both, lt-ltb, ne_eqb, eq-eqb, or_parts}
-use Rattle.std.proofs.lemmas.Cmp.{eq_by_cmp_equiv, nat_cmp_total, nat_list_cmp_total, nat_list_eq_equiv}
-use Rattle.std.proofs.lemmas.List.{drop_more, length-map, get_or-map}
-use Rattle.std.proofs.lemmas.List.Elements.{All-map, All-nil, All-cons, All-head, All-tail, All-weaker, All-from_recursion, recursion_from_All}
 use Rattle.std.proofs.lemmas.List.Filters.{dedup_is}
 use Rattle.std.proofs.lemmas.List.Kept.{Contains-dedup, Contains-from_dedup, IsStrictlySortedBy-dedup}
 use Rattle.std.proofs.lemmas.List.Sorted.{list_any-IsPermutation}
 use Rattle.std.proofs.lemmas.Map.Lookups.{btree_set_from_contains}
 use Rattle.std.proofs.lemmas.Map.Views.{All-insert_key, list_any-from_Contains}
 use Rattle.std.proofs.lemmas.Simd.{map-map}
-use Rattle.dac_base.specs.declared.limits.TheConstants.{MAX_NODES}
-use Rattle.dac_shapes.specs.Written.{App, Permission, Written}
-use Rattle.dac_shapes.specs.Limits.{is_among}
-use Rattle.dac_shapes.specs.Views.{names_of}
-use Rattle.dac_shapes.specs.Grammar.{IsTextOf}
-use Rattle.dac_shapes.specs.Within.{IsWithinLimits}
 use Rattle.dac_config.specs.declared.config.Node.{Node}
-use Rattle.dac_config.specs.declared.config.Tables.{Tables}
-use Rattle.dac_config.specs.ConfigView.{node_row, app_row, table_of}
-use Rattle.dac_config.specs.Table.{NodeRow, AppRow, Table}
-use Rattle.dac_config.specs.Numbering.{name_cmp, in_byte_order, numbers_from, numbered_node, numbered_nodes, permitted, numbered_app, numbered}
-use Rattle.dac_config.specs.Says.{is_named, IsGroup, IsUnmentioned, IsDefaultPermission, IsApp, IsTableOf, By, IsTable}
+use Rattle.dac_config.specs.Says.{is_named}
 use Rattle.dac_config.proofs.Names.{among_names, same_name, names_equal, contained, maps_from_zip}
 
 -- ---- strictly sorted lists

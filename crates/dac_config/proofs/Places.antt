@@ -1,20 +1,13 @@
 -- The stored indices of the groups of nodes.
 use Rattle.std.proofs.Common.{◌≡◌, ℕ, ◌+◌, ◌<◌, ◌≤◌, get_or, true, false, cond, eqb, List, [], ◌∷◌, length, map, All, Bor, position, Option, Some, None, slice_get, refl, sym, ap, ◌∙◌, arith}
 use Rattle.std.specs.Prelude.{nat_lt}
-use Rattle.std.specs.Global.{Vec}
-use Rattle.std.specs.List.{list_any, position_from}
+use Rattle.dac_config.proofs.Common.{Vec, list_any, position_from, false_from_ne_true, eqb-true, ltb-true, ltb-false, lt-ltb, All-head, All-tail, MAX_NODES, Tables, group_among, place_by, place_at, ArePlaces, IsPlaced}
 use Rattle.std.specs.Option.{option_map, option_and_then}
 use Rattle.std.specs.Map.Iter.{deref_pair}
-use Rattle.std.proofs.lemmas.Bool.{false_from_ne_true, eqb-true, ltb-true, ltb-false, lt-ltb}
 use Rattle.std.proofs.lemmas.Iterator.Adapters.{position_from-zero}
-use Rattle.std.proofs.lemmas.List.Elements.{All-head, All-tail}
 use Rattle.std.proofs.lemmas.List.Folds.{list_any_none}
 use Rattle.std.proofs.lemmas.Option.{slice_get_past}
-use Rattle.dac_base.specs.declared.limits.TheConstants.{MAX_NODES}
 use Rattle.dac_config.specs.declared.config.App.{App}
-use Rattle.dac_config.specs.declared.config.Tables.{Tables}
-use Rattle.dac_config.specs.Table.{group_among}
-use Rattle.dac_config.specs.ConfigView.{place_by, place_at, ArePlaces, IsPlaced}
 use Rattle.dac_config.proofs.Tables.{position-map, all_at}
 
 -- an index below MAX_NODES represents itself

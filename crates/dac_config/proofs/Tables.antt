@@ -1,22 +1,13 @@
 -- The tables of a configuration: lookups by number and by name, construction, and copies.
 use Rattle.std.proofs.Common.{◌≡◌, ℕ, ◌+◌, ◌<◌, drop, get_or, Bool, false, cond, not, List, [], ◌∷◌, ◌++◌, length, map, All, Bor, bytes_eq, position, Option, Some, None, option_map, slice_get, refl, sym, ap, subst, ◌∙◌, append_assoc, append-nil}
-use Rattle.std.specs.Global.{Vec}
-use Rattle.std.specs.List.{prefix_len, position_from}
+use Rattle.dac_config.proofs.Common.{Vec, prefix_len, position_from, or_parts, nat_list_eq_equiv, drop_more, length-map, map_push, All-push, is_among, Tables, NodeRow, AppRow, Table, node_name, app_named, node_row, named_row, app_row, table_of, HasMembersBelow, groups_in, ArePlaces, IsPlaced}
 use Rattle.std.specs.Map.{keys_of, lookup}
 use Rattle.std.specs.Map.Iter.{deref_pair}
-use Rattle.std.proofs.lemmas.Bool.{or_parts}
-use Rattle.std.proofs.lemmas.Cmp.{nat_list_eq_equiv}
-use Rattle.std.proofs.lemmas.List.{drop_more, length-map, map_push}
-use Rattle.std.proofs.lemmas.List.Elements.{All-push}
 use Rattle.std.proofs.lemmas.Option.{slice_get-map, slice_get-get_or, slice_get_within, get_or_from_slice_get}
 use Rattle.indexmap.specs.IndexMap.{IndexMap, insert_entry}
 use Rattle.indexmap.proofs.CallerLemmas.{insert_entry-new}
-use Rattle.dac_shapes.specs.Limits.{is_among}
 use Rattle.dac_config.specs.declared.config.App.{App}
 use Rattle.dac_config.specs.declared.config.Node.{Node}
-use Rattle.dac_config.specs.declared.config.Tables.{Tables}
-use Rattle.dac_config.specs.Table.{NodeRow, AppRow, Table, node_name, app_named}
-use Rattle.dac_config.specs.ConfigView.{node_row, named_row, app_row, table_of, HasMembersBelow, groups_in, ArePlaces, IsPlaced}
 use Rattle.dac_config.proofs.Names.{Differ, all_mapped}
 
 prefix_len-map : {A B : Type 0} (f : A → B) (p : B → Bool) (xs : List A) → prefix_len p (map f xs) ≡ prefix_len (λ x. p (f x)) xs

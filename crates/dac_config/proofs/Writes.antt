@@ -2,12 +2,11 @@
 -- words.
 use Rattle.std.proofs.Common.{◌≡◌, ◌⊎◌, inl, inr, ℕ, ◌+◌, ◌-◌, ◌*◌, ◌/◌, ◌%◌, ◌<◌, ◌≤◌, Bool, true, false, cond, not, ◌&&◌, List, [], ◌∷◌, ◌++◌, length, map, filter, All, codes, decimal, unwrap_or, option_map, slice_get, bytes_eq, refl, sym, ap, subst, ◌∙◌, arith, append_assoc, append-nil}
 use Rattle.std.specs.Bool.{Decides}
-use Rattle.std.specs.List.{list_all, AllByRecursion as Each}
+use Rattle.dac_config.proofs.Common.{list_all, length-map, All-nil, All-cons, All-head, All-tail, All-push, App, Permission, Param, Distributed, Permissions, Mandatory, Optional, Timeout, Section, Kernel, spelled, params_in, Parted, between, IsListOf, IsPair, IsNode, IsItem, IsMs, IsPermission, strict, IsTimeout, IsAppValue, IsWait, IsParam, IsSection, IsFile, NodeRow, AppRow, Table, begins_small, is_bare, name_text, separated_after, parted, list_text, pair_text, node_name_text, group_text, app_text, forbidden_text, wait_texts, param_texts, canonical_text}
+use Rattle.std.specs.List.{AllByRecursion as Each}
 use Rattle.std.specs.Char.{IsAsciiDigit, IsAsciiLowercase}
 use Rattle.std.proofs.lemmas.Bool.Decides.{Decides-and, Decides-by_and, Decides-not}
 use Rattle.std.proofs.lemmas.Fmt.{decimal_by_steps}
-use Rattle.std.proofs.lemmas.List.{length-map}
-use Rattle.std.proofs.lemmas.List.Elements.{All-nil, All-cons, All-head, All-tail, All-push}
 use Rattle.std.proofs.lemmas.Slice.Eq.{bytes_eq-Decides}
 use Rattle.dac_tokens.specs.declared.token.Symbol.TheVariants.{OpenList, CloseList, OpenTuple, CloseTuple, Comma, FullStop}
 use Rattle.dac_tokens.specs.Digits.{value_from}
@@ -18,12 +17,8 @@ use Rattle.dac_tokens.specs.TokenGrammar.{Nothing, Blank, Closed, IsNameByte, Be
 use Rattle.dac_shapes.specs.declared.draft.SyncWait.{SyncWait}
 use Rattle.dac_shapes.specs.declared.draft.SyncWait.TheVariants.{NoSync, Forever, Ms}
 use Rattle.dac_shapes.specs.declared.param.ParamName.TheVariants as named
-use Rattle.dac_shapes.specs.Written.{App, Permission, Param, Distributed, Permissions, Mandatory, Optional, Timeout, Section, Kernel, spelled}
-use Rattle.dac_shapes.specs.Within.{params_in}
-use Rattle.dac_shapes.specs.Grammar.{Parted, between, IsListOf, IsPair, IsNode, IsItem, IsMs, IsPermission, strict, IsTimeout, IsAppValue, IsApp, IsWait, IsParam, IsSection, IsFile}
-use Rattle.dac_shapes.specs.laws.Params.{each_append}
-use Rattle.dac_config.specs.Table.{NodeRow, AppRow, Table}
-use Rattle.dac_config.specs.Canonical.{begins_small, is_bare, name_text, separated_after, parted, list_text, pair_text, node_name_text, group_text, app_text, forbidden_text, wait_texts, param_texts, canonical_text}
+use Rattle.dac_shapes.specs.Grammar.{IsApp}
+use Rattle.dac_shapes.specs.laws.Params.{ParamsHave, params_have}
 use Rattle.dac_config.proofs.Names.{each_parts}
 
 -- ---- spelling
@@ -191,8 +186,7 @@ written_bans apps = map ban (filter (λ app. not app.permission) apps)
 
 abbrev pub wait_params : SyncWait → List Param
 wait_params NoSync = []
-wait_params Forever = Timeout Forever ∷ []
-wait_params (Ms n) = Timeout (Ms n) ∷ []
+wait_params w = Timeout w ∷ []
 
 abbrev pub params_of : Table → List Param
 params_of table =
@@ -457,21 +451,12 @@ param_spells words (Optional names) quotes h = listed_spells IsNode (All IsQuota
 param_spells words (Timeout wait) quotes h = wait_spells h.0 wait h.2
 param_spells words Param.Other quotes h = tt
 
-abbrev CanSpellSection : Section → Type 0
-CanSpellSection (Kernel params) = Each CanSpell params
-CanSpellSection Section.Other = Unit {0}
-
-section_spells : (words : List Word) (section : Section) → Each Quotes words → IsSection strict words section → CanSpellSection section
+section_spells : (words : List Word) (section : Section) → Each Quotes words → IsSection strict words section → ParamsHave CanSpell section
 section_spells words (Kernel params) quotes h = listed_spells (IsParam strict) CanSpell param_spells h.0 params (pair_spells (codes "kernel") _ words quotes h).1 h.2
 section_spells words Section.Other quotes h = tt
-
-params_spell : (sections : List Section) → Each CanSpellSection sections → Each CanSpell (params_in sections)
-params_spell [] h = tt
-params_spell (Kernel params ∷ sections) h = each_append CanSpell params (params_in sections) h.0 (params_spell sections h.1)
-params_spell (Section.Other ∷ sections) h = params_spell sections h.1
 
 -- the sections of a file can be spelled
 pub file_spells : (bytes : List ℕ) (tokens : List Located) (sections : List Section) → AreSpelled 0 bytes tokens → IsFile (map (λ t. t.word) tokens) sections → Each CanSpell (params_in sections)
 file_spells bytes tokens sections spelled h =
     let parts : Each Quotes (h.0 ++ Punctuation FullStop ∷ []) = subst (Each Quotes) h.1 (tokens_quote 0 bytes tokens spelled) in
-    params_spell sections (listed_spells (IsSection strict) CanSpellSection section_spells h.0 sections (each_parts Quotes h.0 (Punctuation FullStop ∷ []) parts).0 h.2)
+    params_have CanSpell sections (listed_spells (IsSection strict) (ParamsHave CanSpell) section_spells h.0 sections (each_parts Quotes h.0 (Punctuation FullStop ∷ []) parts).0 h.2)

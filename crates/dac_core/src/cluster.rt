@@ -57,7 +57,7 @@ impl Model for Cluster {
 }
 
 impl Cluster {
-    ghost use Rattle.std.specs.Prelude.{◌≡◌, ◌<◌, IfOk, IfErr, OnErr, Some, Ok, Err, length, slice_get};
+    ghost use Rattle.std.specs.Prelude.{◌≡◌, ◌<◌, IfOk, IfErr, OnErr, Some, Ok, Err, length};
     ghost use Rattle.dac_settle.specs.dac_model_world.ModelWorld.{Shows, start, Follows, happens, event_of, heard_by, handed_by, counted, out_of_memory};
     ghost use Rattle.dac_settle.specs.dac_model_world.Made.{IsMade};
     ghost use Rattle.dac_settle.specs.dac_model_world.AtNode.{HearsIn, HappensAt};

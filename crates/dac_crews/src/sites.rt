@@ -5,7 +5,6 @@
 //! `run_at_second` and later ones open the site of the node before theirs instead. So the last node's site is opened
 //! first and ended last.
 
-ghost use Rattle.std.specs.Prelude.{◌≡◌};
 ghost use Rattle.dac_workers.specs.Sites.{IsBlankOf};
 
 use crate::assignments::{Assignment, Shared};

@@ -1,21 +1,10 @@
 -- The law of the first fault admits at most one fault of a text.
 use Rattle.std.proofs.Common.{◌≡◌, ℕ, zero, suc, ◌<◌, ◌≤◌, Bool, true, false, ltb, List, [], ◌∷◌, ◌++◌, length, Result, Ok, Err, refl, sym, ap, subst, ◌∙◌, append_assoc, append-nil, arith, inl, inr}
-use Rattle.std.specs.Prelude.{◌⊎◌, ◌↔◌}
-use Rattle.std.proofs.lemmas.Bool.{ltb-true, ltb-false}
-use Rattle.std.proofs.lemmas.List.Elements.{All-nil}
-use Rattle.dac_tokens.specs.declared.fault.FaultKind.{FaultKind}
+use Rattle.dac_shapes.specs.laws.Common.{◌⊎◌, ◌↔◌, ltb-true, ltb-false, All-nil, FaultKind, ConfigFault, Symbol, CloseList, CloseTuple, Word, Punctuation, Name, Number, Text, End, Located, Stream, stopped, AreTokensOf, StopAt, Section, IsFile, cons_is, map-append}
 use Rattle.dac_tokens.specs.declared.fault.FaultKind.TheVariants as kind
-use Rattle.dac_tokens.specs.declared.fault.ConfigFault.{ConfigFault}
-use Rattle.dac_tokens.specs.declared.token.Symbol.{Symbol}
-use Rattle.dac_tokens.specs.declared.token.Symbol.TheVariants.{CloseList, CloseTuple}
-use Rattle.dac_tokens.specs.Words.{Word, Punctuation, Name, Number, Text, End, Located}
-use Rattle.dac_tokens.specs.Stream.{Stream, ended as ended_by, stopped}
-use Rattle.dac_tokens.specs.TokenGrammar.{AreTokensOf}
-use Rattle.dac_tokens.specs.TokenFaults.{StopAt}
-use Rattle.dac_shapes.specs.Written.{Section}
-use Rattle.dac_shapes.specs.Grammar.{IsFile}
+use Rattle.dac_tokens.specs.Stream.{ended as ended_by}
 use Rattle.dac_first_fault.specs.FirstFault.{IsLocatedAt, Itself, InList, InTuple, CanCause, words, IsWell, IsFileWithinLimits, IsNoName, Only, Before, IsOfName, Breaks, rank, BeginsWith, IsFaultOf, Long, NoToken, Token, Ends, Nobody, CanBeginLoosely, Spoils, Brings, apps_in}
-use Rattle.dac_first_fault.proofs.Order.{words_append, well_so_far}
+use Rattle.dac_first_fault.proofs.Order.{well_so_far}
 use Rattle.dac_first_fault.proofs.Offsets.{name_or_not}
 use Rattle.dac_first_fault.proofs.Fewer.{keeps_fewer}
 
@@ -26,15 +15,7 @@ abbrev IsNameKind : FaultKind → Type 0
 IsNameKind k = rank k < 6
 
 can_kind : (k : FaultKind) (w : Word) (name : List ℕ) → w ≡ Name name → CanCause k w → IsNameKind k
-can_kind kind.BadShape w name is can = omega arith
-can_kind kind.NameTooLong w name is can = omega arith
-can_kind kind.TwiceApp w name is can = omega arith
-can_kind kind.TwiceInList w name is can = omega arith
-can_kind kind.TooManyApps w name is can = omega arith
-can_kind kind.TooManyNodes w name is can = omega arith
-can_kind kind.Unsupported w name is can = let wrong : Name name ≡ Text = sym is ∙ can in absurd cc
-can_kind kind.NumberTooLarge w name is can = let wrong : Name name ≡ Number false can.0 = sym is ∙ can.1 in absurd cc
-can_kind _ w name is can = absurd can
+can_kind k w name is can = grind arith
 
 no_mark : (w : Word) (name : List ℕ) (x : Symbol) → w ≡ Name name → w ≡ Punctuation x → ⊥
 no_mark w name x is other = let wrong : Name name ≡ Punctuation x = sym is ∙ other in absurd cc
@@ -46,13 +27,7 @@ name_kind a l e name is (InList front o parts w v k) = absurd (no_mark l.word na
 name_kind a l e name is (InTuple front o parts w v k) = absurd (no_mark l.word name _ is v)
 
 of_name : (k : FaultKind) → IsNameKind k → 0 < rank k → IsOfName k
-of_name kind.BadShape fits some = absurd (omega (arith, some))
-of_name kind.NameTooLong fits some = tt
-of_name kind.TwiceApp fits some = tt
-of_name kind.TwiceInList fits some = tt
-of_name kind.TooManyApps fits some = tt
-of_name kind.TooManyNodes fits some = tt
-of_name _ fits some = absurd (omega (arith, fits))
+of_name k fits some = grind arith
 
 -- two limits can't both be broken first
 clash : (ws : List Word) (j k : FaultKind) → Breaks ws j → Breaks ws k → IsNameKind k → rank j < rank k → ⊥
@@ -69,13 +44,7 @@ of_rank (suc (suc (suc (suc zero)))) = kind.TooManyApps
 of_rank (suc (suc (suc (suc (suc n))))) = kind.TooManyNodes
 
 rank_is : (k : FaultKind) → IsNameKind k → of_rank (rank k) ≡ k
-rank_is kind.BadShape fits = refl
-rank_is kind.NameTooLong fits = refl
-rank_is kind.TwiceApp fits = refl
-rank_is kind.TwiceInList fits = refl
-rank_is kind.TooManyApps fits = refl
-rank_is kind.TooManyNodes fits = refl
-rank_is _ fits = absurd (omega (arith, fits))
+rank_is k fits = grind arith
 
 one_kind : (ws : List Word) (j k : FaultKind) → Breaks ws j → Breaks ws k → IsNameKind j → IsNameKind k → j ≡ k
 one_kind ws j k b c fits other = by (ltb (rank j) (rank k)) (ltb (rank k) (rank j)) refl refl
@@ -92,14 +61,16 @@ same_fault e f k n = ap (λ (k : FaultKind). record { kind = k; at = e.at }) k �
 
 -- ---- a token that is no name causes one fault
 
--- the kinds that a token that is no name can cause at its own offset
-abbrev IsPlainKind : FaultKind → Word → Type 0
-IsPlainKind k w = (k ≡ kind.BadShape) ⊎ (((k ≡ kind.Unsupported) × (w ≡ Text)) ⊎ ((k ≡ kind.NumberTooLarge) × ((digits : List ℕ) × (w ≡ Number false digits))))
+-- the fault besides BadShape that a token that is no name can cause at its own offset, if there is one
+abbrev special : Word → FaultKind
+special Text = kind.Unsupported
+special (Number negative digits) = kind.NumberTooLarge
+special _ = kind.BadShape
 
-plain_kind : (k : FaultKind) (w : Word) → CanCause k w → IsNoName w → IsPlainKind k w
+plain_kind : (k : FaultKind) (w : Word) → CanCause k w → IsNoName w → (k ≡ kind.BadShape) ⊎ (k ≡ special w)
 plain_kind kind.BadShape w can plain = inl refl
-plain_kind kind.Unsupported w can plain = inr (inl (refl, can))
-plain_kind kind.NumberTooLarge w can plain = inr (inr (refl, (can.0, can.1)))
+plain_kind kind.Unsupported w can plain = inr (sym (ap special can))
+plain_kind kind.NumberTooLarge w can plain = inr (sym (ap special can.1))
 plain_kind kind.NameTooLong w can plain = absurd (subst IsNoName can.1 plain)
 plain_kind kind.TwiceApp w can plain = absurd (subst IsNoName can.1 plain)
 plain_kind kind.TwiceInList w can plain = absurd (subst IsNoName can.1 plain)
@@ -107,52 +78,18 @@ plain_kind kind.TooManyApps w can plain = absurd (subst IsNoName can.1 plain)
 plain_kind kind.TooManyNodes w can plain = absurd (subst IsNoName can.1 plain)
 plain_kind _ w can plain = absurd can
 
-module _ (ws : List Word) (w : Word) where
-  no_text : (digits : List ℕ) → w ≡ Text → w ≡ Number false digits → ⊥
-  no_text digits a b = let wrong : Text ≡ Number false digits = sym a ∙ b in absurd cc
-
-  no_closing : (k : FaultKind) (x : Symbol) → w ≡ Punctuation x → IsPlainKind k w → k ≡ kind.BadShape
-  no_closing k x is plain = elim plain [
-    | inl shape ↦ shape
-    | inr other ↦ elim other [
-      | inl text ↦ let wrong : Punctuation x ≡ Text = sym is ∙ text.1 in absurd cc
-      | inr number ↦ let wrong : Punctuation x ≡ Number false number.1.0 = sym is ∙ number.1.1 in absurd cc
-    ]
-  ]
+module _ (ws : List Word) where
+  one_special : (w : Word) → Spoils ws kind.BadShape → Spoils ws (special w) → kind.BadShape ≡ special w
+  one_special Text shape told = absurd (shape told)
+  one_special (Number negative digits) shape told = absurd (shape told)
+  one_special _ shape told = refl
 
   -- these words determine one kind
-  one_plain : (j k : FaultKind) → IsPlainKind j w → IsPlainKind k w → Spoils ws j → Spoils ws k → j ≡ k
-  one_plain j k a b told other = elim a [
-    | inl shape ↦ elim b [
-      | inl same ↦ shape ∙ sym same
-      | inr some ↦ absurd (subst (λ (f : FaultKind). Spoils ws f) shape told (loosely k some other))
-    ]
-    | inr some ↦ elim b [
-      | inl shape ↦ absurd (subst (λ (f : FaultKind). Spoils ws f) shape other (loosely j some told))
-      | inr more ↦ both j k some more
-    ]
-  ]
-    where
-      loosely : (k : FaultKind) → ((k ≡ kind.Unsupported) × (w ≡ Text)) ⊎ ((k ≡ kind.NumberTooLarge) × ((digits : List ℕ) × (w ≡ Number false digits))) → Spoils ws k → CanBeginLoosely ws
-      loosely k some told = elim some [
-        | inl text ↦ subst (λ (f : FaultKind). Spoils ws f) text.0 told
-        | inr number ↦ subst (λ (f : FaultKind). Spoils ws f) number.0 told
-      ]
-
-      both : (j k : FaultKind) → ((j ≡ kind.Unsupported) × (w ≡ Text)) ⊎ ((j ≡ kind.NumberTooLarge) × ((digits : List ℕ) × (w ≡ Number false digits))) → ((k ≡ kind.Unsupported) × (w ≡ Text)) ⊎ ((k ≡ kind.NumberTooLarge) × ((digits : List ℕ) × (w ≡ Number false digits))) → j ≡ k
-      both j k a b = elim a [
-        | inl text ↦ elim b [
-          | inl same ↦ text.0 ∙ sym same.0
-          | inr number ↦ absurd (no_text number.1.0 text.1 number.1.1)
-        ]
-        | inr number ↦ elim b [
-          | inl text ↦ absurd (no_text number.1.0 text.1 number.1.1)
-          | inr same ↦ number.0 ∙ sym same.0
-        ]
-      ]
-
-cons_both : (x y : Located) (xs ys : List Located) → x ∷ xs ≡ y ∷ ys → (x ≡ y) × (xs ≡ ys)
-cons_both x y xs ys e = (cc, cc)
+  one_plain : (w : Word) (j k : FaultKind) → (j ≡ kind.BadShape) ⊎ (j ≡ special w) → (k ≡ kind.BadShape) ⊎ (k ≡ special w) → Spoils ws j → Spoils ws k → j ≡ k
+  one_plain w j k (inl a) (inl b) told other = a ∙ sym b
+  one_plain w j k (inl a) (inr b) told other = a ∙ one_special w (subst (λ (f : FaultKind). Spoils ws f) a told) (subst (λ (f : FaultKind). Spoils ws f) b other) ∙ sym b
+  one_plain w j k (inr a) (inl b) told other = a ∙ sym (one_special w (subst (λ (f : FaultKind). Spoils ws f) b other) (subst (λ (f : FaultKind). Spoils ws f) a told)) ∙ sym b
+  one_plain w j k (inr a) (inr b) told other = a ∙ sym b
 
 none_more : (a : List Located) (l : Located) → [] ≡ a ++ l ∷ [] → ⊥
 none_more [] l e = cc
@@ -160,44 +97,38 @@ none_more (u ∷ a) l e = cc
 
 spoils_of : (w : Word) (ws : List Word) (k : FaultKind) → IsNoName w → Brings w ws k → Spoils ws k
 spoils_of (Name name) ws k no_name brings = absurd no_name
-spoils_of (Punctuation symbol) ws k no_name brings = brings
-spoils_of (Number negative digits) ws k no_name brings = brings
-spoils_of Text ws k no_name brings = brings
-spoils_of End ws k no_name brings = brings
+spoils_of _ ws k no_name brings = brings
 
 -- the last of a list of tokens is unique
 last_same : (a b : List Located) (o p : Located) → a ++ o ∷ [] ≡ b ++ p ∷ [] → o ≡ p
-last_same [] [] o p e = (cons_both o p [] [] e).0
-last_same [] (v ∷ b) o p e = absurd (none_more b p (cons_both o v [] (b ++ p ∷ []) e).1)
-last_same (u ∷ a) [] o p e = absurd (none_more a o (sym (cons_both u p (a ++ o ∷ []) [] e).1))
-last_same (u ∷ a) (v ∷ b) o p e = last_same a b o p (cons_both u v (a ++ o ∷ []) (b ++ p ∷ []) e).1
+last_same [] [] o p e = (cons_is o p [] [] e).0
+last_same [] (v ∷ b) o p e = absurd (none_more b p (cons_is o v [] (b ++ p ∷ []) e).1)
+last_same (u ∷ a) [] o p e = absurd (none_more a o (sym (cons_is u p (a ++ o ∷ []) [] e).1))
+last_same (u ∷ a) (v ∷ b) o p e = last_same a b o p (cons_is u v (a ++ o ∷ []) (b ++ p ∷ []) e).1
 
 -- a fault at a closing bracket excludes one at the bracket that it closes
 module _ (before : List Located) (t : Located) (no_name : IsNoName t.word) where
   abbrev ws : List Word
   ws = words before ++ t.word ∷ []
 
-  shape_not : (e f : ConfigFault) (x : Symbol) → t.word ≡ Punctuation x → CanCause e.kind t.word → Spoils ws e.kind → CanBeginLoosely ws → ⊥
-  shape_not e f x is can told loosely = subst (λ (k : FaultKind). Spoils ws k) (no_closing ws t.word e.kind x is (plain_kind e.kind t.word can no_name)) told loosely
+  shape_here : (e : ConfigFault) (x : Symbol) → t.word ≡ Punctuation x → CanCause e.kind t.word → e.kind ≡ kind.BadShape
+  shape_here e x is can = elim (plain_kind e.kind t.word can no_name) [
+    | inl shape ↦ shape
+    | inr other ↦ other ∙ ap special is
+  ]
 
-  no_two : (x y : Symbol) → t.word ≡ Punctuation x → t.word ≡ Punctuation y → x ≡ y
-  no_two x y a b = let same : Punctuation x ≡ Punctuation y = sym a ∙ b in cc
-
-  list_told : (e : ConfigFault) (o : Located) → e ≡ record { kind = kind.EmptyList; at = o.at } → Spoils ws e.kind → CanBeginLoosely ws
-  list_told e o is told = subst (λ (f : ConfigFault). Spoils ws f.kind) is told
-
-  tuple_told : (e : ConfigFault) (o : Located) → e ≡ record { kind = kind.EmptyTuple; at = o.at } → Spoils ws e.kind → CanBeginLoosely ws
-  tuple_told e o is told = subst (λ (f : ConfigFault). Spoils ws f.kind) is told
+  shape_not : (e : ConfigFault) (x : Symbol) → t.word ≡ Punctuation x → CanCause e.kind t.word → Spoils ws e.kind → CanBeginLoosely ws → ⊥
+  shape_not e x is can told loosely = subst (λ (k : FaultKind). Spoils ws k) (shape_here e x is can) told loosely
 
   closes_one : t.word ≡ Punctuation CloseList → t.word ≡ Punctuation CloseTuple → ⊥
-  closes_one a b = let wrong : CloseList ≡ CloseTuple = no_two CloseList CloseTuple a b in absurd cc
+  closes_one a b = let wrong : Punctuation CloseList ≡ Punctuation CloseTuple = sym a ∙ b in absurd cc
 
   one_here : (e f : ConfigFault) → Spoils ws e.kind → Spoils ws f.kind → IsLocatedAt before t e → IsLocatedAt before t f → e ≡ f
   one_here e f a b (Itself p can) (Itself q other) = same_fault e f (one_plain ws t.word e.kind f.kind (plain_kind e.kind t.word can no_name) (plain_kind f.kind t.word other no_name) a b) (p ∙ sym q)
-  one_here e f a b (Itself p can) (InList front o parts w v k) = absurd (shape_not e f CloseList v can a (list_told f o k b))
-  one_here e f a b (Itself p can) (InTuple front o parts w v k) = absurd (shape_not e f CloseTuple v can a (tuple_told f o k b))
-  one_here e f a b (InList front o parts w v k) (Itself q can) = absurd (shape_not f e CloseList v can b (list_told e o k a))
-  one_here e f a b (InTuple front o parts w v k) (Itself q can) = absurd (shape_not f e CloseTuple v can b (tuple_told e o k a))
+  one_here e f a b (Itself p can) (InList front o parts w v k) = absurd (shape_not e CloseList v can a (subst (λ (f : ConfigFault). Spoils ws f.kind) k b))
+  one_here e f a b (Itself p can) (InTuple front o parts w v k) = absurd (shape_not e CloseTuple v can a (subst (λ (f : ConfigFault). Spoils ws f.kind) k b))
+  one_here e f a b (InList front o parts w v k) (Itself q can) = absurd (shape_not f CloseList v can b (subst (λ (f : ConfigFault). Spoils ws f.kind) k a))
+  one_here e f a b (InTuple front o parts w v k) (Itself q can) = absurd (shape_not f CloseTuple v can b (subst (λ (f : ConfigFault). Spoils ws f.kind) k a))
   one_here e f a b (InList front o parts w v k) (InList other p pieces x y m) = k ∙ ap (λ (u : Located). record { kind = kind.EmptyList; at = u.at }) (last_same front other o p (sym parts ∙ pieces)) ∙ sym m
   one_here e f a b (InTuple front o parts w v k) (InTuple other p pieces x y m) = k ∙ ap (λ (u : Located). record { kind = kind.EmptyTuple; at = u.at }) (last_same front other o p (sym parts ∙ pieces)) ∙ sym m
   one_here e f a b (InList front o parts w v k) (InTuple other p pieces x y m) = absurd (closes_one v y)
@@ -216,14 +147,14 @@ behind_one u v a l c m e (Earlier x p) = Earlier x (ap (λ (w : Located). w ∷ 
 behind_one u v a l c m e (Later x p) = Later x (ap (λ (w : Located). w ∷ a) e ∙ ap (λ (ts : List Located). v ∷ ts) p)
 
 order_of : (a : List Located) (l : Located) (b c : List Located) (m : Located) (d : List Located) → a ++ l ∷ b ≡ c ++ m ∷ d → Order a l c m
-order_of [] l b [] m d e = Same refl (cons_both l m b d e).0
-order_of [] l b (v ∷ c) m d e = Earlier c (ap (λ (w : Located). w ∷ c) (sym (cons_both l v b (c ++ m ∷ d) e).0))
-order_of (u ∷ a) l b [] m d e = Later a (ap (λ (w : Located). w ∷ a) (cons_both u m (a ++ l ∷ b) d e).0)
-order_of (u ∷ a) l b (v ∷ c) m d e = let p = cons_both u v (a ++ l ∷ b) (c ++ m ∷ d) e in behind_one u v a l c m p.0 (order_of a l b c m d p.1)
+order_of [] l b [] m d e = Same refl (cons_is l m b d e).0
+order_of [] l b (v ∷ c) m d e = Earlier c (ap (λ (w : Located). w ∷ c) (sym (cons_is l v b (c ++ m ∷ d) e).0))
+order_of (u ∷ a) l b [] m d e = Later a (ap (λ (w : Located). w ∷ a) (cons_is u m (a ++ l ∷ b) d e).0)
+order_of (u ∷ a) l b (v ∷ c) m d e = let p = cons_is u v (a ++ l ∷ b) (c ++ m ∷ d) e in behind_one u v a l c m p.0 (order_of a l b c m d p.1)
 
 -- a valid prefix is valid up to each of its tokens
 well_to : (a : List Located) (l : Located) (b : List Located) → IsWell (words (a ++ l ∷ b)) → IsWell (words a ++ l.word ∷ [])
-well_to a l b w = well_so_far (words a ++ l.word ∷ []) (words b) (subst IsWell (words_append a (l ∷ b) ∙ sym (append_assoc (words a) (l.word ∷ []) (words b))) w)
+well_to a l b w = well_so_far (words a ++ l.word ∷ []) (words b) (subst IsWell (map-append (λ (t : Located). t.word) a (l ∷ b) ∙ sym (append_assoc (words a) (l.word ∷ []) (words b))) w)
 
 well_within : (ws : List Word) → IsFileWithinLimits ws → IsWell ws
 well_within ws is =

@@ -1,10 +1,6 @@
 -- The fault that a reader of the code returns.
 use Rattle.std.proofs.Common.{◌≡◌, ◌≢◌, ℕ, Result, Ok, Err, refl}
-use Rattle.std.specs.Prelude.{IfErr}
-use Rattle.dac_tokens.specs.declared.fault.FaultKind.{FaultKind}
-use Rattle.dac_tokens.specs.declared.fault.FaultKind.TheVariants.{NoMemory}
-use Rattle.dac_tokens.specs.declared.fault.ConfigFault.{ConfigFault}
-use Rattle.dac_tokens.specs.Gives.{OrMemory, Gives}
+use Rattle.dac_shapes.specs.laws.Common.{IfErr, FaultKind, NoMemory, ConfigFault, OrMemory, Gives}
 
 -- the claim holds unless memory ran out
 claimed : (k : FaultKind) (at : ℕ) (P : Type 0) → k ≢ NoMemory → OrMemory k at P → P

@@ -1,9 +1,6 @@
 -- Tokens after which only quiet ones follow a bad name.
 use Rattle.std.proofs.Common.{ℕ, suc, ◌+◌, ◌≤◌, List, [], ◌∷◌, ◌++◌, arith}
-use Rattle.std.proofs.lemmas.List.Elements.{All-nil}
-use Rattle.dac_tokens.specs.declared.fault.FaultKind.{FaultKind}
-use Rattle.dac_tokens.specs.declared.token.Symbol.TheVariants.{OpenList, CloseList, OpenTuple, CloseTuple, Comma, FullStop}
-use Rattle.dac_tokens.specs.Words.{Word, Punctuation, Name, Number, Text, End, Located}
+use Rattle.dac_shapes.specs.laws.Common.{All-nil, FaultKind, OpenList, CloseList, OpenTuple, CloseTuple, Comma, FullStop, Word, Punctuation, Name, Number, Text, End, Located}
 use Rattle.dac_first_fault.proofs.Held.{IsQuiet, QuietBehind, Lone}
 use Rattle.dac_first_fault.proofs.Offsets.{Clear}
 
@@ -19,15 +16,7 @@ lone_beyond Marks bad Bound (t ∷ ts) le = (λ e. absurd (omega (arith, e)), lo
 -- no tokens follow the last one
 quiet_none : (Marks : Type 0) (w : Word) → QuietBehind Marks w []
 quiet_none Marks (Punctuation OpenList) = All-nil (IsQuiet Marks)
-quiet_none Marks (Punctuation OpenTuple) = All-nil (IsQuiet Marks)
-quiet_none Marks (Punctuation CloseList) = All-nil (IsQuiet Marks)
-quiet_none Marks (Punctuation CloseTuple) = All-nil (IsQuiet Marks)
-quiet_none Marks (Punctuation Comma) = All-nil (IsQuiet Marks)
-quiet_none Marks (Punctuation FullStop) = All-nil (IsQuiet Marks)
-quiet_none Marks (Name name) = All-nil (IsQuiet Marks)
-quiet_none Marks (Number negative digits) = All-nil (IsQuiet Marks)
-quiet_none Marks Text = All-nil (IsQuiet Marks)
-quiet_none Marks End = All-nil (IsQuiet Marks)
+quiet_none Marks _ = All-nil (IsQuiet Marks)
 
 pub lone_last : (Marks : Type 0) (bad : ℕ) (Bound : FaultKind → Type 0) (a : List Located) (l : Located) → Clear bad a → Lone Marks bad Bound (a ++ l ∷ [])
 lone_last Marks bad Bound [] l clear = (λ e. quiet_none Marks l.word, tt)

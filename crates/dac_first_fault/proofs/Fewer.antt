@@ -1,9 +1,6 @@
 -- Sections that keep some limits also keep any subset of them.
 use Rattle.std.proofs.Common.{ℕ, Bool, true, false, List, [], ◌∷◌, ◌++◌}
-use Rattle.dac_tokens.specs.declared.fault.FaultKind.{FaultKind}
-use Rattle.dac_tokens.specs.declared.fault.FaultKind.TheVariants.{BadShape, TwiceApp, TwiceInList, TooManyNodes, TooManyApps, NameTooLong}
-use Rattle.dac_shapes.specs.Written.{App, Param, Distributed, Permissions, Mandatory, Optional, Timeout, Section, Kernel}
-use Rattle.dac_shapes.specs.Limits.{Seen, AllMay, nothing, with_node, with_nodes, listing, with_app, with_permission, with_param, with_section, NodeKeeps, NodesKeep, GroupsKeep, AppKeeps, PermissionKeeps, ValueKeeps, ParamKeeps, SectionKeeps, Keeps}
+use Rattle.dac_shapes.specs.laws.Common.{FaultKind, BadShape, TwiceApp, TwiceInList, TooManyNodes, TooManyApps, NameTooLong, App, Param, Distributed, Permissions, Mandatory, Optional, Timeout, Section, Kernel, Seen, AllMay, nothing, with_node, with_nodes, listing, with_app, with_permission, with_param, with_section, NodeKeeps, NodesKeep, GroupsKeep, AppKeeps, PermissionKeeps, ValueKeeps, ParamKeeps, SectionKeeps, Keeps}
 
 pub all_to : {A : Type 0} (step : Seen → A → Seen) (Keep May : List A → Seen → A → Type 0) → ((before : List A) (seen : Seen) (x : A) → Keep before seen x → May before seen x) → (before : List A) (seen : Seen) (xs : List A) → AllMay step Keep before seen xs → AllMay step May before seen xs
 all_to step Keep May to before seen [] all = tt
@@ -27,8 +24,7 @@ module _ (A B : FaultKind → Type 0) (to : (kind : FaultKind) → A kind → B 
   value_fewer seen (Permissions permissions) k = all_to with_permission (PermissionKeeps B) (PermissionKeeps A) (λ before seen x short a. short (to NameTooLong a)) [] seen permissions k
   value_fewer seen (Mandatory names) k = nodes_fewer true seen names k
   value_fewer seen (Optional names) k = nodes_fewer true seen names k
-  value_fewer seen (Timeout wait) k = tt
-  value_fewer seen Param.Other k = tt
+  value_fewer seen _ k = tt
 
   param_fewer : (before : List Param) (seen : Seen) (p : Param) → ParamKeeps B before seen p → ParamKeeps A before seen p
   param_fewer before seen p k = record { once = λ a. k.once (to BadShape a); value = value_fewer seen p k.value }

@@ -1,38 +1,18 @@
 -- The fault of a whole file, and of a text.
 use Rattle.std.proofs.Common.{◌≡◌, ℕ, suc, ◌+◌, ◌≤◌, Bool, true, false, cond, eqb, ltb, List, [], ◌∷◌, ◌++◌, length, map, Result, Ok, Err, refl, sym, ap, subst, ◌∙◌, append_assoc, append-nil, arith, inl, inr}
-use Rattle.std.specs.Prelude.{◌⊎◌, ◌↔◌, IfOk, All}
-use Rattle.std.proofs.lemmas.List.Elements.{All-nil, All-cons, All-head, All-tail}
-use Rattle.std.proofs.lemmas.Bool.{ltb-true, ltb-false, eqb-true, eq-eqb}
-use Rattle.dac_tokens.specs.declared.fault.ConfigFault.{ConfigFault}
-use Rattle.dac_tokens.specs.declared.fault.FaultKind.{FaultKind}
-use Rattle.dac_tokens.specs.declared.fault.FaultKind.TheVariants.{BadShape, NoDistributed, TooLong, Unsupported, NumberTooLarge, NameTooLong, TwiceApp, TwiceInList, TooManyApps, TooManyNodes}
-use Rattle.dac_tokens.specs.declared.token.Symbol.TheVariants.{FullStop}
-use Rattle.dac_tokens.specs.Gives.{◌>>=◌}
-use Rattle.dac_tokens.specs.Words.{Word, Punctuation, Name, Number, Text, End, Located, is_end}
-use Rattle.dac_tokens.specs.Stream.{Stream, tokens_of, end_at as end_of, ended as ended_by, stopped}
-use Rattle.dac_tokens.specs.TokenGrammar.{AreTokensOf, AreSpelled, Spells, depth_after_word}
-use Rattle.dac_tokens.specs.TokenFaults.{StopAt}
-use Rattle.dac_shapes.specs.Written.{Section, Written, written}
-use Rattle.dac_shapes.specs.Limits.{Seen, nothing, steps, with_section, MaySections, Keeps, Every}
-use Rattle.dac_shapes.specs.Within.{AreWithinLimits, nodes_in}
-use Rattle.dac_shapes.specs.Grammar.{IsListOf, strict, IsSection, IsFile}
-use Rattle.dac_shapes.specs.Loose.{loose, IsLooseFile}
-use Rattle.dac_shapes.specs.Shape.{State, fails, is_symbol, list_of, section_at, end_at, file_at, draft_at}
+use Rattle.dac_shapes.specs.laws.Common.{◌⊎◌, ◌↔◌, IfOk, All, All-nil, All-cons, All-head, All-tail, ltb-true, ltb-false, eqb-true, eq-eqb, ConfigFault, FaultKind, BadShape, NoDistributed, TooLong, Unsupported, NumberTooLarge, NameTooLong, TwiceApp, TwiceInList, TooManyApps, TooManyNodes, FullStop, ◌>>=◌, Word, Punctuation, Name, Number, Text, End, Located, is_end, Stream, tokens_of, stopped, AreTokensOf, AreSpelled, Spells, depth_after_word, StopAt, Section, Written, written, Seen, nothing, steps, with_section, MaySections, Keeps, Every, AreWithinLimits, nodes_in, IsListOf, strict, IsSection, IsFile, loose, IsLooseFile, State, fails, is_symbol, list_of, section_at, end_at, file_at, draft_at, symbol_at, at, ended, mark_is, map-append}
+use Rattle.dac_tokens.specs.Stream.{end_at as end_of, ended as ended_by}
 use Rattle.dac_shapes.specs.laws.Loosely.{loosely}
-use Rattle.dac_shapes.specs.laws.Splits.{at, ended}
 use Rattle.dac_shapes.specs.laws.AgainSections.{sections_again, sections_met}
 use Rattle.dac_first_fault.specs.FirstFault.{IsLocatedAt, Itself, InList, InTuple, words, CanBegin, CanCause, Only, Before, IsOfName, Breaks, NoKind, CanBeginLoosely, Spoils, Brings, IsWell, IsFileWithinLimits, IsNoName, apps_in, BeginsWith, IsFaultOf, Long, NoToken, Token, Ends, Nobody}
 use Rattle.dac_first_fault.proofs.Outcomes.{Took, Failed, Asked, Takes, Always, Plain, Gives}
-use Rattle.dac_first_fault.proofs.Steps.{symbol_yes, symbol_no, symbol_none, symbol_end}
 use Rattle.dac_first_fault.proofs.Sections.{sections_reader}
 use Rattle.dac_first_fault.proofs.Begun.{halt, by_pair}
 use Rattle.dac_first_fault.proofs.Held.{Quieted, IsQuiet, QuietBehind, Stops, Lone, Had, Holds}
 use Rattle.dac_first_fault.proofs.HeldSections.{AreSections, sections_held}
 use Rattle.dac_shapes.specs.laws.Again.{Unkept, Nowhere, fine_nowhere, Fine, fine_front, Met}
-use Rattle.dac_shapes.specs.laws.Names.{mark_is}
 use Rattle.dac_first_fault.proofs.Spared.{Strict, sections_so, strictly_so}
 use Rattle.dac_first_fault.proofs.Loosely.{file_strict}
-use Rattle.dac_first_fault.proofs.Order.{words_append}
 use Rattle.dac_first_fault.proofs.Fewer.{keeps_fewer}
 use Rattle.dac_first_fault.proofs.Bounds.{beyond, lone_beyond, lone_last, lone_two}
 use Rattle.dac_first_fault.proofs.Offsets.{At, Strictly, Clear, name_of_it, stops_so, fine_both, not_name, not_kept, name_or_not, last_named, spelled_fine, text_clear, text_fine, begins_front}
@@ -40,17 +20,11 @@ use Rattle.dac_first_fault.proofs.HeldFile.{file_kept, file_begun}
 
 brings_by : (w : Word) (ws : List Word) (k : FaultKind) → Breaks ws k → (IsNoName w → Spoils ws k) → Brings w ws k
 brings_by (Name name) ws k breaks spoils = breaks
-brings_by (Punctuation symbol) ws k breaks spoils = spoils tt
-brings_by (Number negative digits) ws k breaks spoils = spoils tt
-brings_by Text ws k breaks spoils = spoils tt
-brings_by End ws k breaks spoils = spoils tt
+brings_by _ ws k breaks spoils = spoils tt
 
 quiet_name : (w : Word) → IsQuiet Quieted w → IsNoName w
 quiet_name (Name name) quiet = quiet
-quiet_name (Punctuation symbol) quiet = tt
-quiet_name (Number negative digits) quiet = tt
-quiet_name Text quiet = tt
-quiet_name End quiet = tt
+quiet_name _ quiet = tt
 
 quiet_names : (ws : List Word) → All (IsQuiet Quieted) ws → All IsNoName ws
 quiet_names [] all = All-nil IsNoName
@@ -59,29 +33,9 @@ quiet_names (w ∷ ws) all = All-cons IsNoName w ws (quiet_name w (All-head (IsQ
 -- ---- the end of a file
 
 module _ (c : Located) (seen : Seen) where
-  end_no : (last : Result Located ConfigFault) (rest : List Located) → is_symbol FullStop c.word ≡ false → end_at (at last (c ∷ rest) seen) ≡ fails BadShape c.at
-  unfolding end_at
-  end_no last rest e = rw (symbol_no FullStop c last rest seen e) refl
-
-  stop_more : (d : Located) (last : Result Located ConfigFault) (rest : List Located) → is_symbol FullStop c.word ≡ true → is_end d.word ≡ false → end_at (at last (c ∷ d ∷ rest) seen) ≡ fails BadShape d.at
-  unfolding end_at
-  stop_more d last rest e f = rw (symbol_yes FullStop c last (d ∷ rest) seen e, f) refl
-
-  stop_none : (p : ConfigFault) → is_symbol FullStop c.word ≡ true → end_at (at (Err p) (c ∷ []) seen) ≡ Err p
-  unfolding end_at
-  stop_none p e = rw (symbol_yes FullStop c (Err p) [] seen e) refl
-
   stop_end : (t : Located) → is_symbol FullStop c.word ≡ true → t.word ≡ End → end_at (at (Ok t) (c ∷ []) seen) ≡ Ok (t.at, at (Ok t) [] seen)
-  unfolding end_at
-  stop_end t e w = rw (symbol_yes FullStop c (Ok t) [] seen e, w) refl
-
-end_none : (p : ConfigFault) (seen : Seen) → end_at (at (Err p) [] seen) ≡ Err p
-unfolding end_at
-end_none p seen = rw (symbol_none FullStop p seen) refl
-
-end_end : (t : Located) (seen : Seen) → t.word ≡ End → end_at (at (Ok t) [] seen) ≡ fails BadShape t.at
-unfolding end_at
-end_end t seen w = rw (symbol_end FullStop t seen w) refl
+  unfolding end_at symbol_at
+  stop_end t e w = rw (e, w) refl
 
 -- ---- a file
 
@@ -123,11 +77,8 @@ no_end_behind [] b h = h
 no_end_behind (t ∷ a) b h = no_end_behind a b h.1
 
 no_end_word : (w : Word) (own rest : List ℕ) → Spells w own rest → is_end w ≡ false
-no_end_word (Punctuation symbol) own rest is = refl
-no_end_word (Name name) own rest is = refl
-no_end_word (Number negative digits) own rest is = refl
-no_end_word Text own rest is = refl
 no_end_word End own rest is = absurd is
+no_end_word _ own rest is = refl
 
 no_end_spelled : (offset : ℕ) (bytes : List ℕ) (ts : List Located) → AreSpelled offset bytes ts → NoEnd ts
 no_end_spelled offset bytes [] is = tt
@@ -146,15 +97,18 @@ module _ (ts : List Located) (k : Takes Always Plain (λ _. list_of section_at) 
   last_fault ts done t e false w h = absurd cc
 
   none_left : Judged (k.a ++ [])
-  none_left = Unsettled (λ p. goes (Err p) [] ∙ ap (λ r. r >>= judged k.x) (end_none p k.after))
-      (λ t e w h. inl (same_err (record { kind = BadShape; at = t.at }) e (file_at (at (Ok t) (k.a ++ []) nothing)) (goes (Ok t) [] ∙ ap (λ r. r >>= judged k.x) (end_end t k.after w)) h))
-      (λ t w e h. no_draft (record { kind = BadShape; at = t.at }) w (file_at (at (Ok t) (k.a ++ []) nothing)) (goes (Ok t) [] ∙ ap (λ r. r >>= judged k.x) (end_end t k.after e)) h)
+  unfolding end_at symbol_at
+  none_left = Unsettled (λ p. goes (Err p) [])
+      (λ t e w h. inl (same_err (record { kind = BadShape; at = t.at }) e (file_at (at (Ok t) (k.a ++ []) nothing)) (goes (Ok t) [] ∙ rw w refl) h))
+      (λ t w e h. no_draft (record { kind = BadShape; at = t.at }) w (file_at (at (Ok t) (k.a ++ []) nothing)) (goes (Ok t) [] ∙ rw e refl) h)
 
   stop_wants : (c : Located) → is_symbol FullStop c.word ≡ true → (p : ConfigFault) → file_at (at (Err p) (k.a ++ c ∷ []) nothing) ≡ Err p
-  stop_wants c is p = goes (Err p) (c ∷ []) ∙ ap (λ r. r >>= judged k.x) (stop_none c k.after p is)
+  unfolding end_at symbol_at
+  stop_wants c is p = goes (Err p) (c ∷ []) ∙ rw is refl
 
   list_wants : (p : ConfigFault) → file_at (at (Err p) k.a nothing) ≡ Err p
-  list_wants p = ap (λ (l : List Located). file_at (at (Err p) l nothing)) (sym (append-nil k.a)) ∙ goes (Err p) [] ∙ ap (λ r. r >>= judged k.x) (end_none p k.after)
+  unfolding end_at symbol_at
+  list_wants p = ap (λ (l : List Located). file_at (at (Err p) l nothing)) (sym (append-nil k.a)) ∙ goes (Err p) []
 
   -- the tokens read are a file that keeps the limits
   done : (c : Located) → is_symbol FullStop c.word ≡ true → Done (k.a ++ c ∷ [])
@@ -166,15 +120,17 @@ module _ (ts : List Located) (k : Takes Always Plain (λ _. list_of section_at) 
       (k.x, file_strict Every (λ _ _. tt) (words ts) k.x (q.own, q.whole ∙ ap (λ (w : Word). q.own ++ w ∷ []) (mark_is FullStop c.word is), q.is.0), q.is.1)
 
   stopped_by : (c : Located) (b : List Located) → is_symbol FullStop c.word ≡ true → NoEnd b → Judged (k.a ++ c ∷ b)
+  unfolding end_at symbol_at
   stopped_by c [] is no_end = Unsettled (stop_wants c is)
       (λ t e w h. last_fault (k.a ++ c ∷ []) (done c is) t e (eqb (length (written k.x k.after.met).apps) 0) (written k.x k.after.met) (sym (goes (Ok t) (c ∷ []) ∙ ap (λ r. r >>= judged k.x) (stop_end c k.after t is w)) ∙ h))
       (λ t w e h. done c is)
   stopped_by c (d ∷ b) is no_end = By (k.a ++ c ∷ []) d b (record { kind = BadShape; at = d.at }) (sym (append_assoc k.a (c ∷ []) (d ∷ b)))
-      (λ last rest. ap (λ (l : List Located). file_at (at last l nothing)) (append_assoc k.a (c ∷ []) (d ∷ rest)) ∙ goes last (c ∷ d ∷ rest) ∙ ap (λ r. r >>= judged k.x) (stop_more c k.after d last rest is no_end.0)) (Itself refl tt) (stop_wants c is)
+      (λ last rest. ap (λ (l : List Located). file_at (at last l nothing)) (append_assoc k.a (c ∷ []) (d ∷ rest)) ∙ goes last (c ∷ d ∷ rest) ∙ rw (is, no_end.0) refl) (Itself refl tt) (stop_wants c is)
 
   stop_by : (c : Located) (b : List Located) (x : Bool) → is_symbol FullStop c.word ≡ x → NoEnd b → Judged (k.a ++ c ∷ b)
+  unfolding end_at symbol_at
   stop_by c b true is no_end = stopped_by c b is no_end
-  stop_by c b false is no_end = By k.a c b (record { kind = BadShape; at = c.at }) refl (λ last rest. goes last (c ∷ rest) ∙ ap (λ r. r >>= judged k.x) (end_no c k.after last rest is)) (Itself refl tt) list_wants
+  stop_by c b false is no_end = By k.a c b (record { kind = BadShape; at = c.at }) refl (λ last rest. goes last (c ∷ rest) ∙ rw is refl) (Itself refl tt) list_wants
 
   took_by : (b : List Located) → NoEnd b → Judged (k.a ++ b)
   took_by [] no_end = none_left
@@ -231,7 +187,7 @@ module _ (order : (sections : List Section) → (MaySections sections ↔ AreWit
   begins_none : (a : List Located) (l : Located) (e : ConfigFault) → ((last : Result Located ConfigFault) (rest : List Located) → file_at (at last (a ++ l ∷ rest) nothing) ≡ Err e) → (more : List Word) → IsFileWithinLimits ((words a ++ l.word ∷ []) ++ more) → ⊥
   begins_none a l e fault more is =
       let rest = map (place_at 0) more in
-      let same : words (a ++ l ∷ rest) ≡ (words a ++ l.word ∷ []) ++ more = words_append a (l ∷ rest) ∙ ap (λ (m : List Word). words a ++ l.word ∷ m) (placed 0 more) ∙ sym (append_assoc (words a) (l.word ∷ []) more) in
+      let same : words (a ++ l ∷ rest) ≡ (words a ++ l.word ∷ []) ++ more = map-append (λ (t : Located). t.word) a (l ∷ rest) ∙ ap (λ (m : List Word). words a ++ l.word ∷ m) (placed 0 more) ∙ sym (append_assoc (words a) (l.word ∷ []) more) in
       let read = within_judged (end_of (suc e.at)) (a ++ l ∷ rest) is.sections refl (subst (λ (m : List Word). IsFile m is.sections) (sym same) is.file) is.within in
       no_clash e (eqb (apps_in is.sections) 0) (written is.sections (nodes_in is.sections)) (sym read ∙ fault (Ok (end_of (suc e.at))) rest)
 
@@ -267,7 +223,7 @@ module _ (order : (sections : List Section) → (MaySections sections ↔ AreWit
     goes_on : (offset : ℕ) (more : List Word) (sections : List Section) → IsLooseFile Kept ((words a ++ l.word ∷ []) ++ more) sections → Keeps Kept sections → Fine Bad (a ++ l ∷ map (place_at offset) more) → Unkept Bad Kept e.kind e.at
     goes_on offset more sections file keep fine =
         let rest = map (place_at offset) more in
-        let same : words (a ++ l ∷ rest) ≡ (words a ++ l.word ∷ []) ++ more = words_append a (l ∷ rest) ∙ ap (λ (m : List Word). words a ++ l.word ∷ m) (placed offset more) ∙ sym (append_assoc (words a) (l.word ∷ []) more) in
+        let same : words (a ++ l ∷ rest) ≡ (words a ++ l.word ∷ []) ++ more = map-append (λ (t : Located). t.word) a (l ∷ rest) ∙ ap (λ (m : List Word). words a ++ l.word ∷ m) (placed offset more) ∙ sym (append_assoc (words a) (l.word ∷ []) more) in
         let read = file_read (end_of (suc e.at)) Bad Kept (a ++ l ∷ rest) sections e refl (subst (λ (m : List Word). IsLooseFile Kept m sections) (sym same) file) keep fine (fault (Ok (end_of (suc e.at))) rest) in
         elim read [
           | inl of ↦ of
@@ -289,7 +245,7 @@ module _ (order : (sections : List Section) → (MaySections sections ↔ AreWit
       → (more : List Word) × (sections : List Section) × IsLooseFile Bound ((words a ++ l.word ∷ []) ++ more) sections × Keeps Bound sections
   stopped_kept bad Bound a l e fault lone stops loud =
       let k = file_kept Quieted bad Bound (inl tt) (a ++ l ∷ []) lone e stops (fault (Err halt) []) in
-      let same : words (a ++ l ∷ []) ≡ words a ++ l.word ∷ [] = words_append a (l ∷ []) in
+      let same : words (a ++ l ∷ []) ≡ words a ++ l.word ∷ [] = map-append (λ (t : Located). t.word) a (l ∷ []) in
       let none = last_named (IsQuiet Quieted) (words a) l.word k.named k.rest loud (sym same ∙ k.parts) k.quiet in
       let all : words a ++ l.word ∷ [] ≡ k.named = sym same ∙ k.parts ∙ ap (λ (l : List Word). k.named ++ l) none ∙ append-nil k.named in
       (k.begun.more, k.begun.x, subst (λ (m : List Word). IsLooseFile Bound (m ++ k.begun.more) k.begun.x) (sym all) k.begun.is.0, k.begun.is.1)

@@ -1,26 +1,11 @@
 -- If a reader reached the end of the tokens, or a token spoilt them, the words up to the last that isn't quiet begin an
 -- item that keeps the bound limits.
 use Rattle.std.proofs.Common.{◌≡◌, ℕ, zero, suc, ◌≤◌, Bool, true, false, cond, List, [], ◌∷◌, ◌++◌, map, Result, Ok, Err, refl, sym, ap, subst, ◌∙◌, append_assoc, append-nil, inl, inr}
-use Rattle.std.specs.Prelude.{◌⊎◌, All}
-use Rattle.std.proofs.lemmas.List.Elements.{All-nil, All-cons, All-append}
-use Rattle.dac_tokens.specs.declared.fault.ConfigFault.{ConfigFault}
-use Rattle.dac_tokens.specs.declared.fault.FaultKind.{FaultKind}
-use Rattle.dac_tokens.specs.declared.fault.FaultKind.TheVariants.{BadShape, TooLong, TwiceApp, TwiceInList, TooManyApps, TooManyNodes, NameTooLong, EmptyList, EmptyTuple, NumberTooLarge, Unsupported}
-use Rattle.dac_tokens.specs.declared.token.Symbol.{Symbol}
-use Rattle.dac_tokens.specs.declared.token.Symbol.TheVariants.{OpenList, CloseList, OpenTuple, CloseTuple, Comma}
-use Rattle.dac_tokens.specs.Gives.{◌>>=◌}
-use Rattle.dac_tokens.specs.Words.{Word, Punctuation, Name, Located}
-use Rattle.dac_shapes.specs.Limits.{Seen, AllMay, steps}
-use Rattle.dac_shapes.specs.Shape.{State, fails, is_symbol, token, symbol_at, more_at, comma_list, list_of, pair_at, closed, room}
-use Rattle.dac_shapes.specs.Grammar.{Parted, IsListOf}
-use Rattle.dac_shapes.specs.laws.Splits.{at}
-use Rattle.dac_shapes.specs.laws.Names.{mark_is}
+use Rattle.dac_shapes.specs.laws.Common.{◌⊎◌, All, All-nil, All-cons, All-append, ConfigFault, FaultKind, BadShape, TooLong, TwiceApp, TwiceInList, TooManyApps, TooManyNodes, NameTooLong, EmptyList, EmptyTuple, NumberTooLarge, Unsupported, Symbol, OpenList, CloseList, OpenTuple, CloseTuple, Comma, ◌>>=◌, Word, Punctuation, Name, Located, Seen, AllMay, steps, State, fails, is_symbol, token, symbol_at, more_at, comma_list, list_of, pair_at, closed, room, Parted, IsListOf, at, mark_is}
 use Rattle.dac_first_fault.specs.FirstFault.{rank}
+pub use Rattle.dac_first_fault.specs.FirstFault.{words}
 use Rattle.dac_first_fault.proofs.Lists.{regroup}
 use Rattle.dac_first_fault.proofs.Begun.{halt, words_in, Begun, Via, by_pair}
-
-abbrev pub words : List Located → List Word
-words ts = map (λ t. t.word) ts
 
 -- A quiet word, after which a prefix can't be wrong yet: an opening bracket or a comma, if `Marks` holds.
 abbrev pub IsQuiet : Type 0 → Word → Type 0

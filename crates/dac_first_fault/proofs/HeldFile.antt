@@ -1,20 +1,6 @@
 -- A whole file that keeps the bound limits, up to the last word that isn't quiet.
 use Rattle.std.proofs.Common.{◌≡◌, ℕ, Bool, true, false, cond, eqb, List, [], ◌∷◌, ◌++◌, length, Result, Ok, Err, refl, sym, ap, subst, ◌∙◌, append_assoc, append-nil, inl, inr}
-use Rattle.std.specs.Prelude.{◌⊎◌, All}
-use Rattle.std.proofs.lemmas.List.Elements.{All-nil, All-head}
-use Rattle.dac_tokens.specs.declared.fault.ConfigFault.{ConfigFault}
-use Rattle.dac_tokens.specs.declared.fault.FaultKind.{FaultKind}
-use Rattle.dac_tokens.specs.declared.fault.FaultKind.TheVariants.{BadShape, NoDistributed}
-use Rattle.dac_tokens.specs.declared.token.Symbol.TheVariants.{OpenList, OpenTuple, CloseList, Comma, FullStop}
-use Rattle.dac_tokens.specs.Gives.{◌>>=◌}
-use Rattle.dac_tokens.specs.Words.{Word, Punctuation, Located, is_end}
-use Rattle.dac_shapes.specs.Written.{Section, Written, written}
-use Rattle.dac_shapes.specs.Limits.{Seen, nothing, Keeps}
-use Rattle.dac_shapes.specs.Shape.{State, fails, is_symbol, token, symbol_at, list_of, section_at, end_at, file_at}
-use Rattle.dac_shapes.specs.laws.Splits.{at}
-use Rattle.dac_shapes.specs.Grammar.{IsFile}
-use Rattle.dac_shapes.specs.Loose.{IsLooseFile}
-use Rattle.dac_shapes.specs.laws.Names.{mark_is}
+use Rattle.dac_shapes.specs.laws.Common.{◌⊎◌, All, All-nil, All-head, ConfigFault, FaultKind, BadShape, NoDistributed, OpenList, OpenTuple, CloseList, Comma, FullStop, ◌>>=◌, Word, Punctuation, Located, is_end, Section, Written, written, Seen, nothing, Keeps, State, fails, is_symbol, token, symbol_at, list_of, section_at, end_at, file_at, IsFile, IsLooseFile, at, mark_is}
 use Rattle.dac_first_fault.proofs.Begun.{halt, Begun, words_in, by_pair}
 use Rattle.dac_first_fault.proofs.Spared.{Strict, Free, no_limit}
 use Rattle.dac_first_fault.proofs.Loosely.{file_strict}

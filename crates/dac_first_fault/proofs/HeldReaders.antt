@@ -1,24 +1,7 @@
 -- Nodes, applications and permissions that keep the bound limits, up to the last word that isn't quiet.
 use Rattle.std.proofs.Common.{◌≡◌, ℕ, ◌<◌, ◌≤◌, Bool, true, false, cond, not, ◌&&◌, ◌||◌, eqb, ltb, leb, List, [], ◌∷◌, ◌++◌, length, map, Result, Ok, Err, refl, sym, ap, subst, ◌∙◌, inl, inr, codes, arith}
-use Rattle.std.specs.Prelude.{◌⊎◌, All}
-use Rattle.std.specs.Str.{bytes_eq}
-use Rattle.std.proofs.lemmas.Bool.{ltb-true, ltb-false, leb-false, eqb-true}
+use Rattle.dac_shapes.specs.laws.Common.{◌⊎◌, All, bytes_eq, ltb-true, ltb-false, leb-false, eqb-true, All-nil, MAX_NODES, ConfigFault, FaultKind, BadShape, EmptyList, EmptyTuple, TwiceInList, TwiceApp, TooManyApps, TooManyNodes, NumberTooLarge, NameTooLong, OpenList, CloseList, OpenTuple, CloseTuple, Comma, ◌>>=◌, Word, Punctuation, Name, Number, Text, End, Located, App, Permission, Seen, nothing, is_among, with_name, with_node, with_nodes, with_groups, listing, with_list, with_app, with_permission, AllMay, steps, NodeKeeps, NodesKeep, GroupsKeep, ListKeeps, AppKeeps, PermissionKeeps, value_from, State, fails, is_symbol, token, symbol_at, atom_of, short_name_of, milliseconds_of, flag_of, app_name_of, node_of, names_at, item_at, items_at, groups_at, timeout_at, app_value_at, app_at, permission_value_at, permission_at, closed, room, Parted, IsNode, IsMs, IsFlag, IsPermission, IsTimeout, IsAppValue, IsApp, IsLooseItem, IsLooseNodeList, IsLooseMs, loose, at}
 use Rattle.std.proofs.lemmas.Slice.Eq.{bytes_eq-Decides}
-use Rattle.std.proofs.lemmas.List.Elements.{All-nil}
-use Rattle.dac_base.specs.declared.limits.TheConstants.{MAX_NODES}
-use Rattle.dac_tokens.specs.declared.fault.ConfigFault.{ConfigFault}
-use Rattle.dac_tokens.specs.declared.fault.FaultKind.{FaultKind}
-use Rattle.dac_tokens.specs.declared.fault.FaultKind.TheVariants.{BadShape, EmptyList, EmptyTuple, TwiceInList, TwiceApp, TooManyApps, TooManyNodes, NumberTooLarge, NameTooLong}
-use Rattle.dac_tokens.specs.declared.token.Symbol.TheVariants.{OpenList, CloseList, OpenTuple, CloseTuple, Comma}
-use Rattle.dac_tokens.specs.Gives.{◌>>=◌}
-use Rattle.dac_tokens.specs.Words.{Word, Punctuation, Name, Number, Text, End, Located}
-use Rattle.dac_shapes.specs.Written.{App, Permission}
-use Rattle.dac_shapes.specs.Limits.{Seen, nothing, is_among, with_name, with_node, with_nodes, with_groups, listing, with_list, with_app, with_permission, AllMay, steps, NodeKeeps, NodesKeep, GroupsKeep, ListKeeps, AppKeeps, PermissionKeeps}
-use Rattle.dac_tokens.specs.Digits.{value_from}
-use Rattle.dac_shapes.specs.Shape.{State, fails, is_symbol, token, symbol_at, atom_of, short_name_of, milliseconds_of, flag_of, app_name_of, node_of, names_at, item_at, items_at, groups_at, timeout_at, app_value_at, app_at, permission_value_at, permission_at, closed, room}
-use Rattle.dac_shapes.specs.Grammar.{Parted, IsNode, IsMs, IsFlag, IsPermission, IsTimeout, IsAppValue, IsApp}
-use Rattle.dac_shapes.specs.Loose.{IsLooseItem, IsLooseNodeList, IsLooseMs, loose}
-use Rattle.dac_shapes.specs.laws.Splits.{at}
 use Rattle.dac_shapes.specs.laws.Names.{unless_first, zero_is, mark_is, is_named}
 use Rattle.dac_first_fault.proofs.Readers.{not_negative}
 use Rattle.dac_first_fault.proofs.Begun.{halt, Begun, Via, words_in, by_pair, pair_is, pair_begins, pair_some}
@@ -85,10 +68,7 @@ module _ (Marks : Type 0) (bad : ℕ) (Bound : FaultKind → Type 0) (mode : Mar
   atom_by : (Q : Type 0) (w : Word) (offset : ℕ) → Shows Marks bad Bound Q (IsName w) (atom_of (record { word = w; at = offset }))
   unfolding atom_of
   atom_by Q (Name name) offset = refl
-  atom_by Q (Punctuation symbol) offset = λ h. absurd h
-  atom_by Q (Number negative digits) offset = λ h. absurd h
-  atom_by Q Text offset = λ h. absurd h
-  atom_by Q End offset = λ h. absurd h
+  atom_by Q _ offset = λ h. absurd h
 
   pub atom_shows : (Q : Type 0) (t : Located) → Shows Marks bad Bound Q (IsName t.word) (atom_of t)
   atom_shows Q t = atom_by Q t.word t.at
@@ -263,9 +243,7 @@ module _ (Marks : Type 0) (bad : ℕ) (Bound : FaultKind → Type 0) (mode : Mar
       w : Word
       w = Number negative digits
   timeout_held (Punctuation symbol) offset s over = record { own = []; whole = refl; is = (inl (refl, refl), refl); short = over }
-  timeout_held (Name name) offset s over = record { own = []; whole = refl; is = (inl (refl, refl), refl); short = over }
-  timeout_held Text offset s over = record { own = []; whole = refl; is = (inl (refl, refl), refl); short = over }
-  timeout_held End offset s over = record { own = []; whole = refl; is = (inl (refl, refl), refl); short = over }
+  timeout_held _ offset s over = record { own = []; whole = refl; is = (inl (refl, refl), refl); short = over }
 
   module _ (before : List App) (seen : Seen) (good : Good seen) where
     abbrev IsNamed : List ℕ → List Word → App → Seen → Type 0

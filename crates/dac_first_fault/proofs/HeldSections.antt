@@ -1,28 +1,13 @@
 -- Parameters and sections that keep the bound limits, up to the last word that isn't quiet.
 use Rattle.std.proofs.Common.{◌≡◌, ◌≢◌, ℕ, zero, suc, Bool, true, false, cond, List, [], ◌∷◌, ◌++◌, Option, Some, None, Result, Ok, Err, refl, sym, ap, subst, ◌∙◌, inr, codes, inl, ◌≤◌}
-use Rattle.std.specs.Prelude.{◌⊎◌}
-use Rattle.std.specs.Str.{bytes_eq}
-use Rattle.dac_tokens.specs.declared.fault.ConfigFault.{ConfigFault}
-use Rattle.dac_tokens.specs.declared.fault.FaultKind.{FaultKind}
-use Rattle.dac_tokens.specs.declared.fault.FaultKind.TheVariants.{BadShape, Unsupported, NumberTooLarge}
-use Rattle.dac_tokens.specs.declared.token.Symbol.{Symbol}
-use Rattle.dac_tokens.specs.declared.token.Symbol.TheVariants.{OpenList, CloseList, OpenTuple, CloseTuple, Comma, FullStop}
-use Rattle.dac_tokens.specs.Gives.{◌>>=◌}
-use Rattle.dac_tokens.specs.Words.{Word, Punctuation, Name, Number, Text, End, Located}
+use Rattle.dac_shapes.specs.laws.Common.{◌⊎◌, bytes_eq, ConfigFault, FaultKind, BadShape, Unsupported, NumberTooLarge, Symbol, OpenList, CloseList, OpenTuple, CloseTuple, Comma, FullStop, ◌>>=◌, Word, Punctuation, Name, Number, Text, End, Located, Param, Distributed, Permissions, Mandatory, Optional, Timeout, Section, Kernel, spelled, name_of, Seen, nothing, has_param, has_kernel, with_node, with_app, with_permission, with_param, with_section, steps, AllMay, NodeKeeps, AppKeeps, PermissionKeeps, ValueKeeps, ParamKeeps, SectionKeeps, Keeps, value_from, State, fails, is_symbol, is_text, token, room, atom_of, list_of, app_at, permission_at, node_of, wait_of, milliseconds_of, passed_at, terms_at, terms_in, texts_at, term_by, term_at, param_named, first_param, param_name_of, param_value_at, param_rest_at, param_at, names_kernel, kernel_at, section_rest_at, section_at, pair_at, closed, IsListOf, IsNode, IsMs, IsPermission, IsApp, IsWait, IsParam, IsSection, loose, at}
 use Rattle.dac_shapes.specs.declared.param.ParamName.{ParamName}
-use Rattle.dac_shapes.specs.declared.param.ParamName.TheVariants as named
 use Rattle.dac_shapes.specs.declared.draft.SyncWait.TheVariants.{Forever, Ms}
-use Rattle.dac_shapes.specs.Written.{Param, Distributed, Permissions, Mandatory, Optional, Timeout, Section, Kernel, spelled, name_of}
-use Rattle.dac_shapes.specs.Limits.{Seen, nothing, has_param, has_kernel, with_node, with_app, with_permission, with_param, with_section, steps, AllMay, NodeKeeps, AppKeeps, PermissionKeeps, ValueKeeps, ParamKeeps, SectionKeeps, Keeps}
-use Rattle.dac_tokens.specs.Digits.{value_from}
-use Rattle.dac_shapes.specs.Shape.{State, fails, is_symbol, is_text, token, room, atom_of, list_of, app_at, permission_at, node_of, wait_of, milliseconds_of, passed_at, terms_at, terms_in, texts_at, term_by, term_at, param_named, first_param, param_name_of, param_value_at, param_rest_at, param_at, names_kernel, kernel_at, section_rest_at, section_at, pair_at, closed}
-use Rattle.dac_shapes.specs.Grammar.{IsListOf, IsNode, IsMs, IsPermission, IsApp, IsWait, IsParam, IsSection}
-use Rattle.dac_shapes.specs.Loose.{loose}
-use Rattle.dac_shapes.specs.laws.Splits.{at}
+use Rattle.dac_shapes.specs.declared.param.ParamName.TheVariants as named
 use Rattle.dac_shapes.specs.laws.Names.{text_is, unknown_is, is_named, param_is, same_seen}
-use Rattle.dac_first_fault.proofs.Begun.{halt, Halts, Begun, words_in, by_pair, by_state, Sees, pair_of, pair_is, pair_begins, pair_some}
+use Rattle.dac_first_fault.proofs.Begun.{halt, Begun, words_in, by_pair, by_state, pair_of, pair_is, pair_begins, pair_some}
 use Rattle.dac_first_fault.proofs.Spared.{Free}
-use Rattle.dac_first_fault.proofs.BegunTerms.{IsPassed, passed_sees, a_term}
+use Rattle.dac_first_fault.proofs.BegunTerms.{IsPassed, Sees, passed_sees, a_term}
 use Rattle.dac_first_fault.proofs.Held.{or_begun, words, Held, all_kept, Stops, QuietBehind, Alone, Lone, Over, IsOver, Holds, Shows, shows_then, shows_if, Unfit, spoilt, held_if, held_to, held_look, token_held, Taken, IsHeldList, bracketed_held, IsHeldClosed, closed_held, pair_held}
 use Rattle.dac_first_fault.proofs.HeldReaders.{made_held, Good, good_nothing, good_steps, good_nodes, good_app, atom_shows, ms_shows, node_held, some_node, Any, free_good, app_held, some_app, permission_held, some_permission}
 
@@ -39,89 +24,14 @@ abbrev pub AreSections : (FaultKind → Type 0) → List Word → List Section �
 AreSections Bound own xs = IsListOf (IsSection (loose Bound)) own xs.0 × Keeps Bound xs.0 × (xs.1.seen ≡ steps with_section nothing xs.0)
 
 module _ (Marks : Type 0) (bad : ℕ) (Bound : FaultKind → Type 0) (mode : Marks ⊎ Free Bound) where
-  -- ---- a skipped term changes no names, and the remaining tokens satisfy `IsOver`
-
-  -- the names seen are unchanged, and the remaining tokens satisfy `IsOver`
-  abbrev Steady : Seen → State → Type 0
-  Steady seen s = (s.seen ≡ seen) × IsOver Marks bad Bound s
-
-  abbrev Stays : {X : Type 0} → (X → State) → Seen → Result X ConfigFault → Type 0
-  Stays state seen (Ok x) = Steady seen (state x)
-  Stays state seen (Err e) = Stops bad Bound e.kind e.at → Halts e.kind
-
-  abbrev behind : Located × State → State
-  behind x = x.1
-
-  stays_then : {X Y : Type 0} (sx : X → State) (sy : Y → State) (seen : Seen) (r : Result X ConfigFault) (next : X → Result Y ConfigFault) → Stays sx seen r → ((x : X) → Steady seen (sx x) → Stays sy seen (next x)) → Stays sy seen (r >>= next)
-  stays_then sx sy seen (Ok x) next k more = more x k
-  stays_then sx sy seen (Err e) next k more = k
-
-  stays_if : {X : Type 0} (state : X → State) (seen : Seen) (c : Bool) (r q : Result X ConfigFault) → Stays state seen r → Stays state seen q → Stays state seen (cond c r q)
-  stays_if state seen true r q a b = a
-  stays_if state seen false r q a b = b
-
-  no_stay : {X : Type 0} (state : X → State) (seen : Seen) (offset : ℕ) → Stays {X = X} state seen (fails BadShape offset)
-  no_stay state seen offset = λ h. absurd h
-
-  token_same : (seen : Seen) (s : State) → Steady seen s → Stays behind seen (token s)
-  token_same seen s e = by s.left.tokens s.left.last e.1
-    where
-      by : (ts : List Located) (last : Result Located ConfigFault) → Over Marks bad Bound ts last → Stays behind seen (token (at last ts s.seen))
-      by [] last o = subst (λ (l : Result Located ConfigFault). Stays behind seen (token (at l [] s.seen))) (sym o.0) (λ h. tt)
-      by (t ∷ ts) last o = (e.0, (o.0, o.1.1))
-
-  texts_stay : (seen : Seen) (n : ℕ) (s : State) → Steady seen s → Stays behind seen (texts_at n s)
-  unfolding texts_at
-  texts_stay seen zero s e = token_same seen s e
-  texts_stay seen (suc n) s e = stays_then behind behind seen (token s) (λ t. cond (is_text t.0.word) (texts_at n t.1) (Ok t)) (token_same seen s e) (λ t k. stays_if behind seen (is_text t.0.word) (texts_at n t.1) (Ok t) (texts_stay seen n t.1 k) k)
-
-  module _ (seen : Seen) (pass : Located → State → Result (Located × State) ConfigFault) (passes : (t : Located) (s : State) → Steady seen s → Stays behind seen (pass t s)) where
-    terms_stay : (close : Symbol) (n : ℕ) (t : Located) (s : State) → Steady seen s → Stays behind seen (terms_at pass close n t s)
-    unfolding terms_at
-    terms_stay close zero t s e = no_stay behind seen t.at
-    terms_stay close (suc n) t s e =
-        stays_then behind behind seen (pass t s) (λ b. cond (is_symbol close b.0.word) (token b.1) (cond (is_symbol Comma b.0.word) (token b.1 >>= λ next. terms_at pass close n next.0 next.1) (fails BadShape b.0.at))) (passes t s e)
-        (λ b k. stays_if behind seen (is_symbol close b.0.word) (token b.1) (cond (is_symbol Comma b.0.word) (token b.1 >>= λ next. terms_at pass close n next.0 next.1) (fails BadShape b.0.at)) (token_same seen b.1 k)
-        (stays_if behind seen (is_symbol Comma b.0.word) (token b.1 >>= λ next. terms_at pass close n next.0 next.1) (fails BadShape b.0.at) (stays_then behind behind seen (token b.1) (λ next. terms_at pass close n next.0 next.1) (token_same seen b.1 k) (λ next k. terms_stay close n next.0 next.1 k)) (no_stay behind seen b.0.at)))
-
-    in_stay : (close : Symbol) (n : ℕ) (s : State) → Steady seen s → Stays behind seen (terms_in pass close n s)
-    unfolding terms_in
-    in_stay close n s e = stays_then behind behind seen (token s) (λ first. cond (is_symbol close first.0.word) (token first.1) (terms_at pass close n first.0 first.1)) (token_same seen s e)
-        (λ f k. stays_if behind seen (is_symbol close f.0.word) (token f.1) (terms_at pass close n f.0 f.1) (token_same seen f.1 k) (terms_stay close n f.0 f.1 k))
-
-    term_by_stays : (w : Word) (offset n : ℕ) (s : State) → Steady seen s → Stays behind seen (term_by pass n (record { word = w; at = offset }) s)
-    unfolding term_by
-    term_by_stays (Name name) offset n s e = token_same seen s e
-    term_by_stays (Number negative digits) offset n s e = token_same seen s e
-    term_by_stays Text offset n s e = texts_stay seen n s e
-    term_by_stays (Punctuation OpenList) offset n s e = in_stay CloseList n s e
-    term_by_stays (Punctuation OpenTuple) offset n s e = in_stay CloseTuple n s e
-    term_by_stays (Punctuation CloseList) offset n s e = no_stay behind seen offset
-    term_by_stays (Punctuation CloseTuple) offset n s e = no_stay behind seen offset
-    term_by_stays (Punctuation Comma) offset n s e = no_stay behind seen offset
-    term_by_stays (Punctuation FullStop) offset n s e = no_stay behind seen offset
-    term_by_stays End offset n s e = no_stay behind seen offset
-
-  term_stays : (seen : Seen) (n : ℕ) (t : Located) (s : State) → Steady seen s → Stays behind seen (term_at n t s)
-  unfolding term_at
-  term_stays seen zero t s e = no_stay behind seen t.at
-  term_stays seen (suc n) t s e = term_by_stays seen (term_at n) (term_stays seen n) t.word t.at n s e
-
-  passed_stays : (s : State) → IsOver Marks bad Bound s → Stays (λ u. u) s.seen (passed_at s)
-  unfolding passed_at
-  passed_stays s over =
-      stays_then behind (λ u. u) s.seen (token s) (λ first. term_at (suc (room s)) first.0 first.1 >>= λ b. cond (is_symbol CloseTuple b.0.word) (Ok b.1) (fails BadShape b.0.at)) (token_same s.seen s (refl, over))
-      (λ f k. stays_then behind (λ u. u) s.seen (term_at (suc (room s)) f.0 f.1) (λ b. cond (is_symbol CloseTuple b.0.word) (Ok b.1) (fails BadShape b.0.at)) (term_stays s.seen (suc (room s)) f.0 f.1 k)
-      (λ b k. stays_if (λ u. u) s.seen (is_symbol CloseTuple b.0.word) (Ok b.1) (fails BadShape b.0.at) k (no_stay (λ u. u) s.seen b.0.at)))
-
   -- an item made after a term was skipped
   module _ {A : Type 0} (Is : List Word → A × State → Type 0) (seen : Seen) (y : A) (so : (vs : List Word) (u : State) → IsPassed vs → u.seen ≡ seen → Is vs (y, u)) where
-    passed_made : (ws : List Word) (r : Result State ConfigFault) → Sees by_state (λ own u. IsPassed own) ws r → Stays (λ u. u) seen r → Holds Marks bad Bound by_pair Is ws (r >>= λ b. Ok (y, b))
-    passed_made ws (Ok u) k e = record { own = k.own; whole = k.whole; is = so k.own u k.is e.0; short = e.1 }
-    passed_made ws (Err f) k e = λ h. let b = k (e h) in inr (all_kept Marks Is ws (record { more = b.more; x = (y, at (Err halt) [] seen); is = so (ws ++ b.more) (at (Err halt) [] seen) b.is refl }))
+    passed_made : (ws : List Word) (r : Result State ConfigFault) → Sees Marks bad Bound seen by_state (λ own u. IsPassed own) ws r → Holds Marks bad Bound by_pair Is ws (r >>= λ b. Ok (y, b))
+    passed_made ws (Ok u) k = record { own = k.own; whole = k.whole; is = so k.own u k.is k.short.0; short = k.short.1 }
+    passed_made ws (Err f) k = λ h. let b = k h in inr (all_kept Marks Is ws (record { more = b.more; x = (y, at (Err halt) [] seen); is = so (ws ++ b.more) (at (Err halt) [] seen) b.is refl }))
 
     passed_held : (ts : List Located) (last : Result Located ConfigFault) → Over Marks bad Bound ts last → Holds Marks bad Bound by_pair Is (words ts) (passed_at (at last ts seen) >>= λ b. Ok (y, b))
-    passed_held ts last e = passed_made (words ts) (passed_at (at last ts seen)) (passed_sees (at last ts seen) e.0) (passed_stays (at last ts seen) e)
+    passed_held ts last e = passed_made (words ts) (passed_at (at last ts seen)) (passed_sees Marks bad Bound seen (at last ts seen) (refl, e))
 
   -- ---- names of parameters
 
@@ -155,8 +65,7 @@ module _ (Marks : Type 0) (bad : ℕ) (Bound : FaultKind → Type 0) (mode : Mar
     wait_by (Name name) e =
         shows_if Marks bad Bound Q (λ wait. IsWait (loose Bound) (Name name ∷ []) wait) (bytes_eq name (codes "infinity")) (Ok Forever) (fails BadShape offset) (λ is. ap (λ (n : List ℕ). Name n ∷ []) (is_named name (codes "infinity") is)) (λ other h. absurd h)
     wait_by (Punctuation symbol) e = λ h. absurd h
-    wait_by Text e = λ h. absurd h
-    wait_by End e = λ h. absurd h
+    wait_by _ e = λ h. absurd h
 
   -- ---- values of parameters
 
@@ -255,11 +164,9 @@ module _ (Marks : Type 0) (bad : ℕ) (Bound : FaultKind → Type 0) (mode : Mar
 
   good_apps : (seen : Seen) (p : Param) → (Good Marks bad Bound mode) seen → ValueKeeps Bound seen p → (Good Marks bad Bound mode) (with_param seen p)
   good_apps seen (Distributed apps) good may = good_steps Marks bad Bound mode with_app (AppKeeps Bound) (good_app Marks bad Bound mode) [] seen apps good may
-  good_apps seen (Permissions permissions) good may = good
   good_apps seen (Mandatory names) good may = good_nodes Marks bad Bound mode true seen names good may
   good_apps seen (Optional names) good may = good_nodes Marks bad Bound mode true seen names good may
-  good_apps seen (Timeout wait) good may = good
-  good_apps seen Param.Other good may = good
+  good_apps seen _ good may = good
 
   good_param : (before : List Param) (seen : Seen) (p : Param) → (Good Marks bad Bound mode) seen → ParamKeeps Bound before seen p → (Good Marks bad Bound mode) (with_param seen p)
   good_param before seen p good may = good_apps seen p good may.value

@@ -1,16 +1,8 @@
 -- Readers of lists: their results depend only on the tokens that they take.
 use Rattle.std.proofs.Common.{◌≡◌, ℕ, zero, suc, ◌<◌, ◌≤◌, Bool, true, false, cond, List, [], ◌∷◌, ◌++◌, length, Result, Ok, Err, refl, sym, ap, subst, ◌∙◌, append_assoc, append-nil, length-append, arith}
-use Rattle.dac_tokens.specs.declared.fault.ConfigFault.{ConfigFault}
-use Rattle.dac_tokens.specs.declared.fault.FaultKind.TheVariants.{BadShape}
-use Rattle.dac_tokens.specs.declared.token.Symbol.{Symbol}
-use Rattle.dac_tokens.specs.declared.token.Symbol.TheVariants.{OpenList, CloseList, Comma}
-use Rattle.dac_tokens.specs.Gives.{◌>>=◌}
-use Rattle.dac_tokens.specs.Words.{End, Located}
-use Rattle.dac_shapes.specs.Limits.{Seen}
-use Rattle.dac_shapes.specs.Shape.{State, fails, is_symbol, token, more_at, comma_list, list_of, room}
-use Rattle.dac_shapes.specs.laws.Splits.{at}
+use Rattle.dac_shapes.specs.laws.Common.{ConfigFault, BadShape, Symbol, OpenList, CloseList, Comma, ◌>>=◌, End, Located, Seen, State, fails, is_symbol, token, more_at, comma_list, list_of, room, at}
 use Rattle.dac_first_fault.specs.FirstFault.{Itself}
-use Rattle.dac_first_fault.proofs.Outcomes.{Wants, Takes, Outcome, Took, Failed, Asked, further, Always, Plain, Reader, Gives, IsReader, Wanting}
+use Rattle.dac_first_fault.proofs.Outcomes.{Wants, Takes, Outcome, Took, Failed, Asked, fails_as, further, Always, Plain, Reader, Gives, IsReader, Wanting}
 use Rattle.dac_first_fault.proofs.Alike.{alike}
 use Rattle.dac_first_fault.proofs.Steps.{first_taken, wants_token, symbol_then}
 
@@ -18,28 +10,7 @@ pub regroup : {A B C : Type 0} (r : Result A ConfigFault) (f : A → Result B Co
 regroup (Ok x) f g = refl
 regroup (Err e) f g = refl
 
--- ---- a comma, or the closing symbol
-
-module _ (close : Symbol) (c : Located) (last : Result Located ConfigFault) (rest : List Located) (seen : Seen) where
-  more_comma : is_symbol Comma c.word ≡ true → more_at close (at last (c ∷ rest) seen) ≡ Ok (true, at last rest seen)
-  unfolding more_at
-  more_comma e = rw e refl
-
-  more_close : is_symbol Comma c.word ≡ false → is_symbol close c.word ≡ true → more_at close (at last (c ∷ rest) seen) ≡ Ok (false, at last rest seen)
-  unfolding more_at
-  more_close e f = rw (e, f) refl
-
-  more_fails : is_symbol Comma c.word ≡ false → is_symbol close c.word ≡ false → more_at close (at last (c ∷ rest) seen) ≡ fails BadShape c.at
-  unfolding more_at
-  more_fails e f = rw (e, f) refl
-
-more_none : (close : Symbol) (p : ConfigFault) (seen : Seen) → more_at close (at (Err p) [] seen) ≡ Err p
-unfolding more_at
-more_none close p seen = refl
-
-more_end : (close : Symbol) (t : Located) (seen : Seen) → t.word ≡ End → more_at close (at (Ok t) [] seen) ≡ fails BadShape t.at
-unfolding more_at
-more_end close t seen w = rw w refl
+-- ---- items separated by commas
 
 -- the bound n suffices for l tokens
 abbrev pub Fits : ℕ → ℕ → Type 0
@@ -95,27 +66,28 @@ module _ {A : Type 0} (read : List A → Located → State → Result (A × Stat
         ∙ ap (λ r. r >>= λ more. cond more.0 (token more.1 >>= λ next. comma_list read close n (before ++ t.x ∷ []) next.0 next.1) (Ok (before ++ t.x ∷ [], more.1))) is
 
     wants_more : Wants Fits Plain (run before) t.a seen
-    wants_more = record { more = λ n p le. stops n (Err p) le p (more_none close p t.after); end = λ n u is le. stops n (Ok u) le (record { kind = BadShape; at = u.at }) (more_end close u t.after is) }
+    unfolding more_at
+    wants_more = record { more = λ n p le. stops n (Err p) le p refl; end = λ n u is le. stops n (Ok u) le (record { kind = BadShape; at = u.at }) (rw is refl) }
 
     leads : (c : Located) → is_symbol Comma c.word ≡ true → (n : ℕ) (last : Result Located ConfigFault) (rest : List Located) → length ((t.a ++ c ∷ []) ++ rest) ≤ n
         → (m : ℕ) × (length rest ≤ m) × (run before n (at last ((t.a ++ c ∷ []) ++ rest) seen) ≡ run (before ++ t.x ∷ []) m (at last rest t.after))
+    unfolding more_at
     leads c is zero last rest le = absurd (omega (arith, length-append (t.a ++ c ∷ []) rest, length-append t.a (c ∷ [])))
     leads c is (suc m) last rest le = (
       m,
       omega (arith, t.some, length-append (t.a ++ c ∷ []) rest, length-append t.a (c ∷ [])),
-      ap (λ (l : List Located). run before (suc m) (at last l seen)) (append_assoc t.a (c ∷ []) rest) ∙ goes_on m last c rest
-          ∙ ap (λ r. r >>= λ more. cond more.0 (token more.1 >>= λ next. comma_list read close m (before ++ t.x ∷ []) next.0 next.1) (Ok (before ++ t.x ∷ [], more.1))) (more_comma close c last rest t.after is),
+      ap (λ (l : List Located). run before (suc m) (at last l seen)) (append_assoc t.a (c ∷ []) rest) ∙ goes_on m last c rest ∙ rw is refl,
     )
 
     closes : (c : Located) → is_symbol Comma c.word ≡ false → is_symbol close c.word ≡ true → (n : ℕ) (last : Result Located ConfigFault) (rest : List Located) → length ((t.a ++ c ∷ []) ++ rest) ≤ n → run before n (at last ((t.a ++ c ∷ []) ++ rest) seen) ≡ Ok (before ++ t.x ∷ [], at last rest t.after)
+    unfolding more_at
     closes c is f zero last rest le = absurd (omega (arith, length-append (t.a ++ c ∷ []) rest, length-append t.a (c ∷ [])))
-    closes c is f (suc m) last rest le = ap (λ (l : List Located). run before (suc m) (at last l seen)) (append_assoc t.a (c ∷ []) rest) ∙ goes_on m last c rest
-        ∙ ap (λ r. r >>= λ more. cond more.0 (token more.1 >>= λ next. comma_list read close m (before ++ t.x ∷ []) next.0 next.1) (Ok (before ++ t.x ∷ [], more.1))) (more_close close c last rest t.after is f)
+    closes c is f (suc m) last rest le = ap (λ (l : List Located). run before (suc m) (at last l seen)) (append_assoc t.a (c ∷ []) rest) ∙ goes_on m last c rest ∙ rw (is, f) refl
 
     refuses : (c : Located) → is_symbol Comma c.word ≡ false → is_symbol close c.word ≡ false → (n : ℕ) (last : Result Located ConfigFault) (rest : List Located) → length (t.a ++ c ∷ rest) ≤ n → run before n (at last (t.a ++ c ∷ rest) seen) ≡ fails BadShape c.at
+    unfolding more_at
     refuses c is f zero last rest le = absurd (omega (arith, length-append t.a (c ∷ rest)))
-    refuses c is f (suc m) last rest le = goes_on m last c rest
-        ∙ ap (λ r. r >>= λ more. cond more.0 (token more.1 >>= λ next. comma_list read close m (before ++ t.x ∷ []) next.0 next.1) (Ok (before ++ t.x ∷ [], more.1))) (more_fails close c last rest t.after is f)
+    refuses c is f (suc m) last rest le = goes_on m last c rest ∙ rw (is, f) refl
 
     by_mark : (c : Located) (b : List Located) (x y : Bool) → is_symbol Comma c.word ≡ x → is_symbol close c.word ≡ y → Outcome Fits Plain (run (before ++ t.x ∷ [])) b t.after → Outcome Fits Plain (run before) (t.a ++ c ∷ b) seen
     by_mark c b true y is f next = subst (λ (l : List Located). Outcome Fits Plain (run before) l seen) (append_assoc t.a (c ∷ []) b) (further Fits Fits Plain (run before) (run (before ++ t.x ∷ [])) (t.a ++ c ∷ []) seen t.after (leads c is) b next)
@@ -130,16 +102,7 @@ module _ {A : Type 0} (read : List A → Located → State → Result (A × Stat
   step before us seen (Took t) next =
       let shorter = λ (c : Located) (rest : List Located) (is : t.b ≡ c ∷ rest). next (before ++ t.x ∷ []) rest t.after (omega (arith, ap length t.whole, ap length is, length-append t.a t.b)) in
       subst (λ (l : List Located). Outcome Fits Plain (run before) l seen) (sym t.whole) (one_taken before us seen t t.b shorter)
-  step before us seen (Failed t) next = Failed (record {
-    a = t.a;
-    l = t.l;
-    b = t.b;
-    e = t.e;
-    whole = t.whole;
-    goes = λ n last rest le. fail_run before n t.a t.l rest last seen t.e le (t.goes tt last rest tt);
-    stands = t.stands;
-    wants = wants_run before t.a seen t.wants;
-  })
+  step before us seen (Failed t) next = Failed (fails_as t (λ n last rest le. fail_run before n t.a t.l rest last seen t.e le (t.goes tt last rest tt)) (wants_run before t.a seen t.wants))
   step before us seen (Asked w) next = Asked (wants_run before us seen w)
 
   module _ (reads : (before : List A) → IsReader (one before)) where

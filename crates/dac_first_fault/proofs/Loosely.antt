@@ -1,11 +1,6 @@
 -- A loose file is a file, if the four faults of loose parts are kept.
 use Rattle.std.proofs.Common.{ℕ, List, inl, inr}
-use Rattle.dac_tokens.specs.declared.fault.FaultKind.{FaultKind}
-use Rattle.dac_tokens.specs.declared.fault.FaultKind.TheVariants.{Unsupported, EmptyList, EmptyTuple, NumberTooLarge}
-use Rattle.dac_tokens.specs.Words.{Word}
-use Rattle.dac_shapes.specs.Written.{Section}
-use Rattle.dac_shapes.specs.Grammar.{IsItem, IsNodeList, IsMs, IsOtherSection, strict, IsFile}
-use Rattle.dac_shapes.specs.Loose.{IsLooseItem, IsLooseNodeList, IsLooseMs, IsLooseOther, loose, IsLooseFile}
+use Rattle.dac_shapes.specs.laws.Common.{FaultKind, Unsupported, EmptyList, EmptyTuple, NumberTooLarge, Word, Section, IsItem, IsNodeList, IsMs, IsOtherSection, strict, IsFile, IsLooseItem, IsLooseNodeList, IsLooseMs, IsLooseOther, loose, IsLooseFile}
 use Rattle.dac_shapes.specs.laws.Loosely.{parted_to, sections_to}
 use Rattle.dac_first_fault.proofs.Spared.{Strict}
 

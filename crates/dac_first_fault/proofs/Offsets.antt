@@ -1,15 +1,8 @@
 -- Offsets of names, and of faults that names don't cause.
 use Rattle.std.proofs.Common.{◌≡◌, ℕ, ◌+◌, ◌<◌, ◌≤◌, List, [], ◌∷◌, ◌++◌, length, refl, sym, ap, subst, ◌∙◌, append_assoc, length-append, arith, inl, inr, true, false}
-use Rattle.std.specs.Prelude.{◌⊎◌, All}
+use Rattle.dac_shapes.specs.laws.Common.{◌⊎◌, All, All-head, All-tail, ConfigFault, FaultKind, OpenList, CloseList, OpenTuple, CloseTuple, Comma, FullStop, Word, Punctuation, Name, Number, Text, End, Located, AreTokensOf, AreSpelled, Spells, Begins, depth_after_word, StopAt, cons_is}
 use Rattle.std.specs.Char.{IsAsciiDigit, IsAsciiLowercase}
-use Rattle.std.proofs.lemmas.List.Elements.{All-head, All-tail}
-use Rattle.dac_tokens.specs.declared.fault.ConfigFault.{ConfigFault}
-use Rattle.dac_tokens.specs.declared.fault.FaultKind.{FaultKind}
 use Rattle.dac_tokens.specs.declared.fault.FaultKind.TheVariants as kind
-use Rattle.dac_tokens.specs.declared.token.Symbol.TheVariants.{OpenList, CloseList, OpenTuple, CloseTuple, Comma, FullStop}
-use Rattle.dac_tokens.specs.Words.{Word, Punctuation, Name, Number, Text, End, Located}
-use Rattle.dac_tokens.specs.TokenGrammar.{AreTokensOf, AreSpelled, Spells, Begins, depth_after_word}
-use Rattle.dac_tokens.specs.TokenFaults.{StopAt}
 use Rattle.dac_first_fault.specs.FirstFault.{IsLocatedAt, Itself, InList, InTuple, CanCause, IsNoName, BeginsWith, Only, Before, IsOfName, rank}
 use Rattle.dac_shapes.specs.laws.Again.{Unkept, Nowhere, Fine}
 use Rattle.dac_first_fault.proofs.Held.{Frees, Stops}
@@ -26,13 +19,7 @@ fine_both Bad (t ∷ a) b f g = (f.0, fine_both Bad a b f.1 g)
 
 pub name_or_not : (w : Word) → ((name : List ℕ) × (w ≡ Name name)) ⊎ IsNoName w
 name_or_not (Name name) = inl (name, refl)
-name_or_not (Punctuation symbol) = inr tt
-name_or_not (Number negative digits) = inr tt
-name_or_not Text = inr tt
-name_or_not End = inr tt
-
-cons_tail : (v w : Word) (a b : List Word) → v ∷ a ≡ w ∷ b → a ≡ b
-cons_tail v w a b e = cc
+name_or_not _ = inr tt
 
 all_last : (P : Word → Type 0) (a : List Word) (w : Word) → All P (a ++ w ∷ []) → P w
 all_last P [] w all = All-head P w [] all
@@ -45,8 +32,8 @@ none_behind (v ∷ a) b e = absurd cc
 -- if the last word doesn't have the property, no suffix has it in all its words
 pub last_named : (P : Word → Type 0) (a : List Word) (w : Word) (named rest : List Word) → (P w → ⊥) → a ++ w ∷ [] ≡ named ++ rest → All P rest → rest ≡ []
 last_named P a w [] rest loud e all = absurd (loud (all_last P a w (subst (λ (l : List Word). All P l) (sym e) all)))
-last_named P [] w (v ∷ named) rest loud e all = none_behind named rest (cons_tail w v [] (named ++ rest) e)
-last_named P (u ∷ a) w (v ∷ named) rest loud e all = last_named P a w named rest loud (cons_tail u v (a ++ w ∷ []) (named ++ rest) e) all
+last_named P [] w (v ∷ named) rest loud e all = none_behind named rest (cons_is w v [] (named ++ rest) e).1
+last_named P (u ∷ a) w (v ∷ named) rest loud e all = last_named P a w named rest loud (cons_is u v (a ++ w ∷ []) (named ++ rest) e).1 all
 
 -- a fault at a token that is no name is not the fault of a name
 kind_not : (k : FaultKind) (w : Word) (bad offset : ℕ) → offset ≡ bad → CanCause k w → IsNoName w → Unkept (At bad) Strict k offset → ⊥
@@ -91,11 +78,7 @@ abbrev pub Strictly : FaultKind → FaultKind → Type 0
 Strictly kind other = Before kind other ⊎ Strict other
 
 late_rank : (k : FaultKind) → Strict k → rank k ≤ 5 → ⊥
-late_rank kind.EmptyList is le = absurd (omega (arith, le))
-late_rank kind.EmptyTuple is le = absurd (omega (arith, le))
-late_rank kind.NumberTooLarge is le = absurd (omega (arith, le))
-late_rank kind.Unsupported is le = absurd (omega (arith, le))
-late_rank _ is le = absurd is
+late_rank k is le = grind arith
 
 frees_so : (k : FaultKind) → Frees (Strictly k) k
 frees_so k other le fits b = elim b [
@@ -138,17 +121,13 @@ digits_some (b ∷ bytes) is = omega arith
 
 -- a token has at least one byte
 own_some : (w : Word) (own rest : List ℕ) → Spells w own rest → 0 < length own
-own_some (Punctuation OpenList) own rest is = omega (arith, ap length is)
-own_some (Punctuation CloseList) own rest is = omega (arith, ap length is)
-own_some (Punctuation OpenTuple) own rest is = omega (arith, ap length is)
-own_some (Punctuation CloseTuple) own rest is = omega (arith, ap length is)
-own_some (Punctuation Comma) own rest is = omega (arith, ap length is)
 own_some (Punctuation FullStop) own rest is = omega (arith, ap length is.0)
 own_some (Name name) own rest is = name_some (Name name) name own rest refl is
 own_some (Number false digits) own rest is = omega (arith, ap length is.0.0, digits_some digits is.0.1.begins)
 own_some (Number true digits) own rest is = omega (arith, ap length is.0.0)
 own_some Text own rest is = omega (arith, ap length is.parts)
 own_some End own rest is = absurd is
+own_some _ own rest is = omega (arith, ap length is)
 
 -- consecutive tokens at increasing offsets
 abbrev Apart : ℕ → List Located → Type 0

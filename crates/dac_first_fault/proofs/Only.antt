@@ -1,18 +1,7 @@
 -- If the law admits a fault of a text, reading has it.
 use Rattle.std.proofs.Common.{◌≡◌, ℕ, ◌≤◌, Bool, true, false, cond, ltb, List, length, Result, Ok, Err, refl, sym, ap, subst, arith}
-use Rattle.std.specs.Prelude.{◌↔◌, IfOk}
-use Rattle.std.proofs.lemmas.Bool.{ltb-false}
-use Rattle.dac_tokens.specs.declared.fault.ConfigFault.{ConfigFault}
-use Rattle.dac_tokens.specs.declared.fault.FaultKind.TheVariants.{TooLong}
-use Rattle.dac_tokens.specs.Words.{Located}
-use Rattle.dac_tokens.specs.Stream.{Stream, tokens_of, end_at as end_of, ended as ended_by, stopped}
-use Rattle.dac_tokens.specs.TokenGrammar.{AreTokensOf}
-use Rattle.dac_tokens.specs.TokenFaults.{StopAt}
-use Rattle.dac_shapes.specs.Written.{Section, Written}
-use Rattle.dac_shapes.specs.Limits.{nothing, steps, with_section, MaySections}
-use Rattle.dac_shapes.specs.Within.{AreWithinLimits, nodes_in}
-use Rattle.dac_shapes.specs.Shape.{fails, file_at, draft_at}
-use Rattle.dac_shapes.specs.laws.Splits.{at}
+use Rattle.dac_shapes.specs.laws.Common.{◌↔◌, IfOk, ltb-false, ConfigFault, TooLong, Located, Stream, tokens_of, stopped, AreTokensOf, StopAt, Section, Written, nothing, steps, with_section, MaySections, AreWithinLimits, nodes_in, fails, file_at, draft_at, at}
+use Rattle.dac_tokens.specs.Stream.{end_at as end_of, ended as ended_by}
 use Rattle.dac_first_fault.specs.FirstFault.{IsFaultOf}
 use Rattle.dac_first_fault.proofs.Files.{whole_read, listed_read, text_fault}
 use Rattle.dac_first_fault.proofs.Alone.{Cause, TooFar, Brought, Final, Stopped, NoFile, Empty, cause_of, not_final, one_fault}

@@ -1,16 +1,7 @@
 -- A valid prefix is valid up to each of its words.
 use Rattle.std.proofs.Common.{◌≡◌, List, [], ◌∷◌, ◌++◌, refl, sym, ap, subst, ◌∙◌, append_assoc, append-nil, inl, inr}
-use Rattle.std.specs.Prelude.{◌⊎◌, All}
-use Rattle.std.proofs.lemmas.List.Elements.{All-nil, All-cons, All-head, All-tail}
-use Rattle.dac_tokens.specs.Words.{Word, Located}
-use Rattle.dac_shapes.specs.Written.{Section}
-use Rattle.dac_shapes.specs.Within.{AreWithinLimits}
-use Rattle.dac_shapes.specs.Grammar.{IsFile}
+use Rattle.dac_shapes.specs.laws.Common.{◌⊎◌, All, All-nil, All-cons, All-head, All-tail, Word, Located, Section, AreWithinLimits, IsFile, cons_is}
 use Rattle.dac_first_fault.specs.FirstFault.{CanBegin, words, IsNoName, IsWell}
-
-pub words_append : (a b : List Located) → words (a ++ b) ≡ words a ++ words b
-words_append [] b = refl
-words_append (t ∷ a) b = ap (λ (l : List Word). t.word ∷ l) (words_append a b)
 
 begin_front : (Keeps : List Section → Type 0) (a b : List Word) → CanBegin Keeps (a ++ b) → CanBegin Keeps a
 begin_front Keeps a b k = record { more = b ++ k.more; sections = k.sections; file = subst (λ (l : List Word). IsFile l k.sections) (append_assoc a b k.more) k.file; keeps = k.keeps }
@@ -18,9 +9,6 @@ begin_front Keeps a b k = record { more = b ++ k.more; sections = k.sections; fi
 all_front : (a b : List Word) → All IsNoName (a ++ b) → All IsNoName a
 all_front [] b all = All-nil IsNoName
 all_front (w ∷ a) b all = All-cons IsNoName w a (All-head IsNoName w (a ++ b) all) (all_front a b (All-tail IsNoName w (a ++ b) all))
-
-cons_same : (v w : Word) (a b : List Word) → v ∷ a ≡ w ∷ b → (v ≡ w) × (a ≡ b)
-cons_same v w a b e = (cc, cc)
 
 -- of two ways to split words, the first part of one begins that of the other
 abbrev Parting : List Word → List Word → List Word → List Word → Type 0
@@ -35,7 +23,7 @@ longer v w a b n r e p = elim p [
 parting : (a b n r : List Word) → a ++ b ≡ n ++ r → Parting a b n r
 parting [] b n r e = inl (n, refl)
 parting (v ∷ a) b [] r e = inr (v ∷ a, refl, sym e)
-parting (v ∷ a) b (w ∷ n) r e = let c = cons_same v w (a ++ b) (n ++ r) e in longer v w a b n r c.0 (parting a b n r c.1)
+parting (v ∷ a) b (w ∷ n) r e = let c = cons_is v w (a ++ b) (n ++ r) e in longer v w a b n r c.0 (parting a b n r c.1)
 
 pub well_so_far : (front rest : List Word) → IsWell (front ++ rest) → IsWell front
 well_so_far front rest w = elim (parting front rest w.named w.rest w.parts) [

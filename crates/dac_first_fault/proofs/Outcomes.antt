@@ -1,12 +1,6 @@
 -- A reader's result depends only on the tokens that it takes, and the last of them causes its fault.
 use Rattle.std.proofs.Common.{◌≡◌, ℕ, ◌<◌, List, [], ◌∷◌, ◌++◌, length, Result, Ok, Err, sym, ap, subst, ◌∙◌, append_assoc, length-append, arith}
-use Rattle.dac_tokens.specs.declared.fault.ConfigFault.{ConfigFault}
-use Rattle.dac_tokens.specs.declared.fault.FaultKind.TheVariants.{BadShape}
-use Rattle.dac_tokens.specs.Gives.{◌>>=◌}
-use Rattle.dac_tokens.specs.Words.{End, Located}
-use Rattle.dac_shapes.specs.Limits.{Seen}
-use Rattle.dac_shapes.specs.Shape.{State, fails}
-use Rattle.dac_shapes.specs.laws.Splits.{at}
+use Rattle.dac_shapes.specs.laws.Common.{ConfigFault, BadShape, ◌>>=◌, End, Located, Seen, State, fails, at}
 use Rattle.dac_first_fault.specs.FirstFault.{IsLocatedAt, Itself, InList, InTuple}
 
 -- A reader can have a bound on the number of tokens: `Room i n` holds if the bound of i suffices for n. `AtEnd` is the
@@ -44,6 +38,11 @@ module _ {I A : Type 0} (Room : I → ℕ → Type 0) (AtEnd : Located → Resul
     Failed : Fails → Outcome
     Asked : Wants Room AtEnd read us seen → Outcome
 
+-- a reader that fails where another one fails
+pub fails_as : {I J A B : Type 0} {Room : I → ℕ → Type 0} {More : J → ℕ → Type 0} {AtEnd : Located → Result (A × State) ConfigFault → Type 0} {Late : Located → Result (B × State) ConfigFault → Type 0} {f : I → State → Result (A × State) ConfigFault} {g : J → State → Result (B × State) ConfigFault} {us : List Located} {seen other : Seen}
+    → (k : Fails Room AtEnd f us seen) → ((j : J) (last : Result Located ConfigFault) (rest : List Located) → More j (length (k.a ++ k.l ∷ rest)) → g j (at last (k.a ++ k.l ∷ rest) other) ≡ Err k.e) → Wants More Late g k.a other → Fails More Late g us other
+fails_as k goes wants = record { a = k.a; l = k.l; b = k.b; e = k.e; whole = k.whole; goes = goes; stands = k.stands; wants = wants }
+
 stands_behind : (a before : List Located) (t : Located) (e : ConfigFault) → IsLocatedAt before t e → IsLocatedAt (a ++ before) t e
 stands_behind a before t e (Itself offset kind) = Itself offset kind
 stands_behind a before t e (InList front o is w v k) = InList (a ++ front) o (ap (λ (l : List Located). a ++ l) is ∙ sym (append_assoc a front (o ∷ []))) w v k
@@ -58,7 +57,7 @@ module _ {I J A : Type 0} (Room : I → ℕ → Type 0) (More : J → ℕ → Ty
     end = λ i t is room. let l = leads i (Ok t) b room in subst (AtEnd t) (sym l.2) (w.end l.0 t is l.1);
   }
 
-  goes_further : (b rest : List Located) (last : Result Located ConfigFault) (i : I) (r : Result (A × State) ConfigFault) → Room i (length ((a ++ b) ++ rest)) → ((j : J) → More j (length (b ++ rest)) → g j (at last (b ++ rest) after) ≡ r) → f i (at last ((a ++ b) ++ rest) seen) ≡ r
+  pub goes_further : (b rest : List Located) (last : Result Located ConfigFault) (i : I) (r : Result (A × State) ConfigFault) → Room i (length ((a ++ b) ++ rest)) → ((j : J) → More j (length (b ++ rest)) → g j (at last (b ++ rest) after) ≡ r) → f i (at last ((a ++ b) ++ rest) seen) ≡ r
   goes_further b rest last i r room goes =
       let l = leads i last (b ++ rest) (subst (λ (q : List Located). Room i (length q)) (append_assoc a b rest) room) in
       ap (λ (q : List Located). f i (at last q seen)) (append_assoc a b rest) ∙ l.2 ∙ goes l.0 l.1
@@ -114,20 +113,14 @@ module _ {A B : Type 0} (f : Reader A) (next : A × State → Result (B × State
   wanting_then : (us : List Located) (seen : Seen) → Wanting f us seen → Wanting (λ s. f s >>= next) us seen
   wanting_then us seen w = record { more = λ i p room. ap (λ r. r >>= next) (w.more i p room); end = λ i t is room. ap (λ r. r >>= next) (w.end i t is room) }
 
+  fails_then : (us : List Located) (seen : Seen) → Fails Always Plain (λ _. f) us seen → Fails Always Plain (λ _ s. f s >>= next) us seen
+  fails_then us seen t = fails_as t (λ i last rest room. ap (λ r. r >>= next) (t.goes i last rest room)) (wanting_then t.a seen t.wants)
+
   pub then : (us : List Located) (seen : Seen) → Gives f us seen → ((b : List Located) (x : A) (after : Seen) → Gives (λ s. next (x, s)) b after) → Gives (λ s. f s >>= next) us seen
   then us seen (Took t) behind =
       subst (λ (l : List Located). Gives (λ s. f s >>= next) l seen) (sym t.whole)
       (further Always Always Plain (λ _ s. f s >>= next) (λ _ s. next (t.x, s)) t.a seen t.after (λ i last rest room. (tt, tt, ap (λ r. r >>= next) (t.goes i last rest room))) t.b (behind t.b t.x t.after))
-  then us seen (Failed t) behind = Failed (record {
-    a = t.a;
-    l = t.l;
-    b = t.b;
-    e = t.e;
-    whole = t.whole;
-    goes = λ i last rest room. ap (λ r. r >>= next) (t.goes i last rest room);
-    stands = t.stands;
-    wants = wanting_then t.a seen t.wants;
-  })
+  then us seen (Failed t) behind = Failed (fails_then us seen t)
   then us seen (Asked w) behind = Asked (wanting_then us seen w)
 
   -- a last step that takes no token
@@ -141,14 +134,5 @@ module _ {A B : Type 0} (f : Reader A) (next : A × State → Result (B × State
     some = t.some;
     goes = λ i last rest room. ap (λ r. r >>= next) (t.goes i last rest room) ∙ is t.x (at last rest t.after);
   })
-  made B' is us seen (Failed t) = Failed (record {
-    a = t.a;
-    l = t.l;
-    b = t.b;
-    e = t.e;
-    whole = t.whole;
-    goes = λ i last rest room. ap (λ r. r >>= next) (t.goes i last rest room);
-    stands = t.stands;
-    wants = wanting_then t.a seen t.wants;
-  })
+  made B' is us seen (Failed t) = Failed (fails_then us seen t)
   made B' is us seen (Asked w) = Asked (wanting_then us seen w)

@@ -1,20 +1,8 @@
 -- Readers of names, nodes, applications and permissions: their results depend only on the tokens that they take.
 use Rattle.std.proofs.Common.{◌≡◌, ℕ, Bool, true, false, not, ◌&&◌, ◌≤◌, cond, eqb, ltb, leb, List, [], ◌∷◌, length, map, Result, Ok, Err, refl, sym, ap, ◌∙◌, arith, codes}
-use Rattle.std.specs.Str.{bytes_eq}
-use Rattle.std.proofs.lemmas.Bool.{ltb-true, ltb-false, ne_eqb}
-use Rattle.dac_base.specs.declared.limits.TheConstants.{MAX_NODES}
-use Rattle.dac_tokens.specs.declared.fault.ConfigFault.{ConfigFault}
-use Rattle.dac_tokens.specs.declared.fault.FaultKind.TheVariants.{BadShape, EmptyList, EmptyTuple, TwiceInList, TwiceApp, TooManyApps, TooManyNodes, NumberTooLarge, NameTooLong}
-use Rattle.dac_tokens.specs.declared.token.Symbol.TheVariants.{OpenList, CloseList, OpenTuple, CloseTuple, Comma}
-use Rattle.dac_tokens.specs.Gives.{◌>>=◌}
-use Rattle.dac_tokens.specs.Words.{Word, Punctuation, Name, Number, Text, End, Located}
+use Rattle.dac_shapes.specs.laws.Common.{bytes_eq, ltb-true, ltb-false, ne_eqb, MAX_NODES, ConfigFault, BadShape, EmptyList, EmptyTuple, TwiceInList, TwiceApp, TooManyApps, TooManyNodes, NumberTooLarge, NameTooLong, OpenList, CloseList, OpenTuple, CloseTuple, Comma, ◌>>=◌, Word, Punctuation, Name, Number, Text, End, Located, App, Seen, is_among, with_node, listing, value_from, State, fails, is_symbol, token, symbol_at, atom_of, short_name_of, milliseconds_of, wait_of, flag_of, app_name_of, node_of, names_at, item_at, items_at, groups_at, timeout_at, app_value_at, app_at, permission_value_at, permission_at, closed, at, mark_is}
 use Rattle.dac_shapes.specs.declared.draft.SyncWait.TheVariants.{Forever, Ms}
-use Rattle.dac_shapes.specs.Written.{App}
-use Rattle.dac_shapes.specs.Limits.{Seen, is_among, with_node, listing}
-use Rattle.dac_tokens.specs.Digits.{value_from}
-use Rattle.dac_shapes.specs.Shape.{State, fails, is_symbol, token, symbol_at, atom_of, short_name_of, milliseconds_of, wait_of, flag_of, app_name_of, node_of, names_at, item_at, items_at, groups_at, timeout_at, app_value_at, app_at, permission_value_at, permission_at, closed}
-use Rattle.dac_shapes.specs.laws.Splits.{at}
-use Rattle.dac_shapes.specs.laws.Names.{mark_is}
+use Rattle.dac_shapes.specs.laws.Names.{atom_is, short_name_is}
 use Rattle.dac_first_fault.specs.FirstFault.{IsShortName, Itself, InList, InTuple}
 use Rattle.dac_first_fault.proofs.Outcomes.{Failed, Asked, further, wants_further, Always, Plain, Reader, Gives, IsReader, Wanting, made}
 use Rattle.dac_first_fault.proofs.Alike.{same_reader, alike}
@@ -29,10 +17,7 @@ of w offset = record { word = w; at = offset }
 atom_here : (w : Word) (offset : ℕ) → Here (of w offset) (atom_of (of w offset))
 unfolding atom_of
 atom_here (Name name) offset = here_ok (of (Name name) offset) name
-atom_here (Punctuation symbol) offset = here_fails (of (Punctuation symbol) offset) BadShape tt
-atom_here (Number negative digits) offset = here_fails (of (Number negative digits) offset) BadShape tt
-atom_here Text offset = here_fails (of Text offset) BadShape tt
-atom_here End offset = here_fails (of End offset) BadShape tt
+atom_here w offset = here_fails (of w offset) BadShape tt
 
 atom_end : (t : Located) → t.word ≡ End → atom_of t ≡ fails BadShape t.at
 unfolding atom_of
@@ -41,47 +26,23 @@ atom_end t w = rw w refl
 pub atom_look : IsLook atom_of
 atom_look = record { offset = λ t. atom_here t.word t.at; end = atom_end }
 
-name_is : (w : Word) (offset : ℕ) (name : List ℕ) → atom_of (of w offset) ≡ Ok name → w ≡ Name name
-unfolding atom_of
-name_is (Name other) offset name e = let same : other ≡ name = cc in ap Name same
-name_is (Punctuation symbol) offset name e = absurd cc
-name_is (Number negative digits) offset name e = absurd cc
-name_is Text offset name e = absurd cc
-name_is End offset name e = absurd cc
-
 short_here : (t : Located) → Here t (short_name_of t)
 unfolding short_name_of
-short_here t = here_then t (atom_of t) _ (atom_here t.word t.at) (λ name is. here_if t _ _ _ (λ long. here_fails t NameTooLong (name, name_is t.word t.at name is, ltb-true 255 (length name) long)) (λ short. here_ok t name))
+short_here t = here_then t (atom_of t) _ (atom_here t.word t.at) (λ name is. here_if t _ _ _ (λ long. here_fails t NameTooLong (name, atom_is t.word t.at name is, ltb-true 255 (length name) long)) (λ short. here_ok t name))
 
 short_is : (t : Located) (name : List ℕ) → short_name_of t ≡ Ok name → IsShortName t.word
-unfolding short_name_of
-short_is t name e = by (atom_of t) refl e
-  where
-    fits : (word : List ℕ) (c : Bool) → t.word ≡ Name word → ltb 255 (length word) ≡ c → cond c (fails NameTooLong t.at) (Ok word) ≡ Ok name → IsShortName t.word
-    fits word true w long h = absurd cc
-    fits word false w long h = (word, w, ltb-false 255 (length word) long)
-
-    by : (r : Result (List ℕ) ConfigFault) → atom_of t ≡ r → (r >>= λ word. cond (ltb 255 (length word)) (fails NameTooLong t.at) (Ok word)) ≡ Ok name → IsShortName t.word
-    by (Ok word) is h = fits word (ltb 255 (length word)) (name_is t.word t.at word is) refl h
-    by (Err d) is h = absurd cc
-
-short_end : (t : Located) → t.word ≡ End → short_name_of t ≡ fails BadShape t.at
-unfolding short_name_of
-short_end t w = rw (atom_end t w) refl
+short_is t name e = let n = short_name_is t name e in (name, n.0, n.1)
 
 short_look : IsLook short_name_of
-short_look = record { offset = short_here; end = short_end }
-
-flag_here : (t : Located) → Here t (flag_of t)
-unfolding flag_of
-flag_here t = here_then t (atom_of t) _ (atom_here t.word t.at) (λ name is. here_if t (bytes_eq name (codes "true")) (Ok true) (cond (bytes_eq name (codes "false")) (Ok false) (fails BadShape t.at)) (λ yes. here_ok t true) (λ other. here_if t (bytes_eq name (codes "false")) _ _ (λ no_flag. here_ok t false) (λ neither. here_fails t BadShape tt)))
-
-flag_end : (t : Located) → t.word ≡ End → flag_of t ≡ fails BadShape t.at
-unfolding flag_of
-flag_end t w = rw (atom_end t w) refl
+unfolding short_name_of
+short_look = record { offset = short_here; end = λ t w. rw (atom_end t w) refl }
 
 flag_look : IsLook flag_of
-flag_look = record { offset = flag_here; end = flag_end }
+unfolding flag_of
+flag_look = record {
+  offset = λ t. here_then t (atom_of t) _ (atom_here t.word t.at) (λ name is. here_if t (bytes_eq name (codes "true")) (Ok true) (cond (bytes_eq name (codes "false")) (Ok false) (fails BadShape t.at)) (λ yes. here_ok t true) (λ other. here_if t (bytes_eq name (codes "false")) _ _ (λ no_flag. here_ok t false) (λ neither. here_fails t BadShape tt)));
+  end = λ t w. rw (atom_end t w) refl;
+}
 
 pub not_negative : (negative : Bool) (n : ℕ) → (negative && not (eqb n 0)) ≡ false → 4294967296 ≤ n → negative ≡ false
 not_negative false n e large = refl
@@ -99,27 +60,18 @@ wait_here : (w : Word) (offset : ℕ) → Here (of w offset) (wait_of (of w offs
 unfolding wait_of
 wait_here (Number negative digits) offset = here_then (of (Number negative digits) offset) (milliseconds_of offset negative (value_from 0 digits)) (λ n. Ok (Ms n)) (timeout_here offset negative digits) (λ n is. here_ok (of (Number negative digits) offset) (Ms n))
 wait_here (Name name) offset = here_if (of (Name name) offset) _ _ _ (λ yes. here_ok (of (Name name) offset) Forever) (λ other. here_fails (of (Name name) offset) BadShape tt)
-wait_here (Punctuation symbol) offset = here_fails (of (Punctuation symbol) offset) BadShape tt
-wait_here Text offset = here_fails (of Text offset) BadShape tt
-wait_here End offset = here_fails (of End offset) BadShape tt
-
-wait_end : (t : Located) → t.word ≡ End → wait_of t ≡ fails BadShape t.at
-unfolding wait_of
-wait_end t w = rw w refl
+wait_here w offset = here_fails (of w offset) BadShape tt
 
 pub wait_look : IsLook wait_of
-wait_look = record { offset = λ t. wait_here t.word t.at; end = wait_end }
-
-app_name_here : (before : List App) (t : Located) → Here t (app_name_of before t)
-unfolding app_name_of
-app_name_here before t = here_then t (short_name_of t) _ (short_here t) (λ name is. here_if t (is_among name (map (λ app. app.name) before)) (fails TwiceApp t.at) (cond (leb 64 (length before)) (fails TooManyApps t.at) (Ok name)) (λ twice. here_fails t TwiceApp (short_is t name is)) (λ once. here_if t (leb 64 (length before)) _ _ (λ many. here_fails t TooManyApps (short_is t name is)) (λ few. here_ok t name)))
-
-app_name_end : (before : List App) (t : Located) → t.word ≡ End → app_name_of before t ≡ fails BadShape t.at
-unfolding app_name_of
-app_name_end before t w = rw (short_end t w) refl
+unfolding wait_of
+wait_look = record { offset = λ t. wait_here t.word t.at; end = λ t w. rw w refl }
 
 app_name_look : (before : List App) → IsLook (app_name_of before)
-app_name_look before = record { offset = app_name_here before; end = app_name_end before }
+unfolding app_name_of
+app_name_look before = record {
+  offset = λ t. here_then t (short_name_of t) _ (short_here t) (λ name is. here_if t (is_among name (map (λ app. app.name) before)) (fails TwiceApp t.at) (cond (leb 64 (length before)) (fails TooManyApps t.at) (Ok name)) (λ twice. here_fails t TwiceApp (short_is t name is)) (λ once. here_if t (leb 64 (length before)) _ _ (λ many. here_fails t TooManyApps (short_is t name is)) (λ few. here_ok t name)));
+  end = λ t w. rw (short_look.end t w) refl;
+}
 
 -- ---- nodes
 
@@ -135,7 +87,7 @@ module _ (repeats : Bool) where
   node_is t s = refl
 
   pub node_end : (t : Located) (s : State) → t.word ≡ End → node_of repeats t s ≡ fails BadShape t.at
-  node_end t s w = node_is t s ∙ ap (λ r. r >>= met t s) (short_end t w)
+  node_end t s w = node_is t s ∙ ap (λ r. r >>= met t s) (short_look.end t w)
 
   node_wants : (seen : Seen) → Wanting node [] seen
   node_wants seen = wants_token (λ q. node_of repeats q.0 q.1) node_end seen
@@ -165,16 +117,9 @@ alone s = node false s >>= λ name. Ok (name.0 ∷ [], name.1)
 abbrev item : Reader (List (List ℕ))
 item s = token s >>= λ q. item_at q.0 q.1
 
-item_tuple : (t : Located) (s : State) → is_symbol OpenTuple t.word ≡ true → item_at t s ≡ in_tuple t s
-unfolding item_at
-item_tuple t s e = rw e refl
-
-item_alone : (t : Located) (s : State) → is_symbol OpenTuple t.word ≡ false → item_at t s ≡ (node_of false t s >>= λ name. Ok (name.0 ∷ [], name.1))
-unfolding item_at
-item_alone t s e = rw e refl
-
 item_end : (t : Located) (s : State) → t.word ≡ End → item_at t s ≡ fails BadShape t.at
-item_end t s w = item_alone t s (ap (is_symbol OpenTuple) w) ∙ ap (λ r. r >>= λ name. Ok (name.0 ∷ [], name.1)) (node_end false t s w)
+unfolding item_at
+item_end t s w = let no : is_symbol OpenTuple t.word ≡ false = ap (is_symbol OpenTuple) w in rw (no, node_end false t s w) refl
 
 item_wants : (seen : Seen) → Wanting item [] seen
 item_wants seen = wants_token (λ q. item_at q.0 q.1) item_end seen
@@ -187,13 +132,15 @@ in_tuple_wants o seen = wants_token (λ first. cond (is_symbol CloseTuple first.
 
 module _ (t : Located) (seen : Seen) (is : is_symbol OpenTuple t.word ≡ true) where
   item_leads : (i : Unit {0}) (last : Result Located ConfigFault) (rest : List Located) → Always i (length (t ∷ rest)) → (j : Unit {0}) × Always j (length rest) × (item (at last (t ∷ rest) seen) ≡ in_tuple t (at last rest seen))
-  item_leads i last rest room = (tt, tt, item_tuple t (at last rest seen) is)
+  unfolding item_at
+  item_leads i last rest room = (tt, tt, rw is refl)
 
   item_open : Wanting item (t ∷ []) seen
   item_open = wants_further Always Always Plain (λ _. item) (λ _. in_tuple t) (t ∷ []) seen seen item_leads [] (in_tuple_wants t seen)
 
   tuple_by : (f : Located) (b : List Located) (c : Bool) → is_symbol CloseTuple f.word ≡ c → t.word ≡ Punctuation OpenTuple → (is_symbol CloseTuple f.word ≡ true → f.word ≡ Punctuation CloseTuple) → Gives item (t ∷ f ∷ b) seen
-  tuple_by f b true e w v = Failed (record { a = t ∷ []; l = f; b = b; e = record { kind = EmptyTuple; at = t.at }; whole = refl; goes = λ i last rest room. item_tuple t (at last (f ∷ rest) seen) is ∙ rw e refl; stands = InTuple [] t refl w (v e) refl; wants = item_open })
+  unfolding item_at
+  tuple_by f b true e w v = Failed (record { a = t ∷ []; l = f; b = b; e = record { kind = EmptyTuple; at = t.at }; whole = refl; goes = λ i last rest room. rw (is, e) refl; stands = InTuple [] t refl w (v e) refl; wants = item_open })
   tuple_by f b false e w v = further Always Always Plain (λ _. item) (λ _. in_tuple t) (t ∷ []) seen seen item_leads (f ∷ b) (as_list (λ _. node_of false) CloseTuple (λ _. node_reader false) (λ _. node_end false) (in_tuple t) f b seen seen (λ last rest. rw e refl) (in_tuple_wants t seen))
 
   tuple_reader : (b : List Located) → Gives item (t ∷ b) seen
@@ -201,9 +148,10 @@ module _ (t : Located) (seen : Seen) (is : is_symbol OpenTuple t.word ≡ true) 
   tuple_reader (f ∷ b) = tuple_by f b (is_symbol CloseTuple f.word) refl (mark_is OpenTuple t.word is) (mark_is CloseTuple f.word)
 
 item_by : (t : Located) (b : List Located) (seen : Seen) (c : Bool) → is_symbol OpenTuple t.word ≡ c → Gives item (t ∷ b) seen
+unfolding item_at
 item_by t b seen true e = tuple_reader t seen e b
 item_by t b seen false e =
-    alike Always Always Plain (λ _. item) (λ _. alone) t b seen seen (λ i last rest room. (tt, tt, item_alone t (at last rest seen) e)) (item_wants seen)
+    alike Always Always Plain (λ _. item) (λ _. alone) t b seen seen (λ i last rest room. (tt, tt, rw e refl)) (item_wants seen)
     (made (node false) (λ name. Ok (name.0 ∷ [], name.1)) (λ name. name ∷ []) (λ x s. refl) (t ∷ b) seen (node_reader false (t ∷ b) seen))
 
 item_reader : IsReader item
@@ -218,16 +166,9 @@ groups s = token s >>= λ q. groups_at q.0 q.1
 abbrev in_list : Located → Reader (List (List (List ℕ)))
 in_list t s = token s >>= λ first. cond (is_symbol CloseList first.0.word) (fails EmptyList t.at) (items_at first.0 (record first.1 { seen = listing first.1.seen }))
 
-groups_open : (t : Located) (s : State) → is_symbol OpenList t.word ≡ true → groups_at t s ≡ in_list t s
-unfolding groups_at
-groups_open t s e = rw e refl
-
-groups_no : (t : Located) (s : State) → is_symbol OpenList t.word ≡ false → groups_at t s ≡ fails BadShape t.at
-unfolding groups_at
-groups_no t s e = rw e refl
-
 groups_end : (t : Located) (s : State) → t.word ≡ End → groups_at t s ≡ fails BadShape t.at
-groups_end t s w = groups_no t s (ap (is_symbol OpenList) w)
+unfolding groups_at
+groups_end t s w = rw w refl
 
 groups_wants : (seen : Seen) → Wanting groups [] seen
 groups_wants seen = wants_token (λ q. groups_at q.0 q.1) groups_end seen
@@ -240,13 +181,15 @@ in_list_wants o seen = wants_token (λ first. cond (is_symbol CloseList first.0.
 
 module _ (t : Located) (seen : Seen) (is : is_symbol OpenList t.word ≡ true) where
   groups_leads : (i : Unit {0}) (last : Result Located ConfigFault) (rest : List Located) → Always i (length (t ∷ rest)) → (j : Unit {0}) × Always j (length rest) × (groups (at last (t ∷ rest) seen) ≡ in_list t (at last rest seen))
-  groups_leads i last rest room = (tt, tt, groups_open t (at last rest seen) is)
+  unfolding groups_at
+  groups_leads i last rest room = (tt, tt, rw is refl)
 
   groups_more : Wanting groups (t ∷ []) seen
   groups_more = wants_further Always Always Plain (λ _. groups) (λ _. in_list t) (t ∷ []) seen seen groups_leads [] (in_list_wants t seen)
 
   list_by : (f : Located) (b : List Located) (c : Bool) → is_symbol CloseList f.word ≡ c → t.word ≡ Punctuation OpenList → (is_symbol CloseList f.word ≡ true → f.word ≡ Punctuation CloseList) → Gives groups (t ∷ f ∷ b) seen
-  list_by f b true e w v = Failed (record { a = t ∷ []; l = f; b = b; e = record { kind = EmptyList; at = t.at }; whole = refl; goes = λ i last rest room. groups_open t (at last (f ∷ rest) seen) is ∙ rw e refl; stands = InList [] t refl w (v e) refl; wants = groups_more })
+  unfolding groups_at
+  list_by f b true e w v = Failed (record { a = t ∷ []; l = f; b = b; e = record { kind = EmptyList; at = t.at }; whole = refl; goes = λ i last rest room. rw (is, e) refl; stands = InList [] t refl w (v e) refl; wants = groups_more })
   list_by f b false e w v = further Always Always Plain (λ _. groups) (λ _. in_list t) (t ∷ []) seen seen groups_leads (f ∷ b) (as_list (λ _. item_at) CloseList (λ _. item_reader) (λ _. item_end) (in_list t) f b seen (listing seen) (λ last rest. rw e refl) (in_list_wants t seen))
 
   groups_open_reader : (b : List Located) → Gives groups (t ∷ b) seen
@@ -254,8 +197,9 @@ module _ (t : Located) (seen : Seen) (is : is_symbol OpenList t.word ≡ true) w
   groups_open_reader (f ∷ b) = list_by f b (is_symbol CloseList f.word) refl (mark_is OpenList t.word is) (mark_is CloseList f.word)
 
 groups_by : (t : Located) (b : List Located) (seen : Seen) (c : Bool) → is_symbol OpenList t.word ≡ c → Gives groups (t ∷ b) seen
+unfolding groups_at
 groups_by t b seen true e = groups_open_reader t seen e b
-groups_by t b seen false e = first_fails groups t b seen (record { kind = BadShape; at = t.at }) (λ last rest. groups_no t (at last rest seen) e) (Itself refl tt) (groups_wants seen)
+groups_by t b seen false e = first_fails groups t b seen (record { kind = BadShape; at = t.at }) (λ last rest. rw e refl) (Itself refl tt) (groups_wants seen)
 
 groups_reader : IsReader groups
 groups_reader [] seen = Asked (groups_wants seen)
@@ -306,10 +250,7 @@ module _ (name : List ℕ) where
   timed_other : (w : Word) (offset : ℕ) (s : State) → ((negative : Bool) (digits : List ℕ) → w ≡ Number negative digits → ⊥) → timed (of w offset) s ≡ (groups_at (of w offset) s >>= app_with 0)
   unfolding timeout_at
   timed_other (Number negative digits) offset s other = absurd (other negative digits refl)
-  timed_other (Punctuation symbol) offset s other = refl
-  timed_other (Name name') offset s other = refl
-  timed_other Text offset s other = refl
-  timed_other End offset s other = refl
+  timed_other _ offset s other = refl
 
   abbrev app_value : Reader App
   app_value s = token s >>= λ q. timed q.0 q.1
@@ -333,10 +274,7 @@ module _ (name : List ℕ) where
 
   value_by : (w : Word) (offset : ℕ) (b : List Located) (seen : Seen) → Gives app_value (of w offset ∷ b) seen
   value_by (Number negative digits) offset b seen = number_by negative digits offset b seen (milliseconds_of offset negative (value_from 0 digits)) refl
-  value_by (Punctuation symbol) offset b seen = other_by (Punctuation symbol) offset b seen (λ negative digits e. absurd cc)
-  value_by (Name name') offset b seen = other_by (Name name') offset b seen (λ negative digits e. absurd cc)
-  value_by Text offset b seen = other_by Text offset b seen (λ negative digits e. absurd cc)
-  value_by End offset b seen = other_by End offset b seen (λ negative digits e. absurd cc)
+  value_by w offset b seen = other_by w offset b seen (λ negative digits e. absurd cc)
 
   app_value_reader : IsReader (app_value_at name)
   unfolding app_value_at

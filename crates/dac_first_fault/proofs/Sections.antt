@@ -1,17 +1,8 @@
 -- Readers of parameters and sections: their results depend only on the tokens that they take.
 use Rattle.std.proofs.Common.{◌≡◌, Bool, true, false, List, [], ◌∷◌, Option, Some, None, Result, Ok, refl, ap, ◌∙◌, cond, codes}
-use Rattle.std.specs.Str.{bytes_eq}
-use Rattle.dac_tokens.specs.declared.fault.ConfigFault.{ConfigFault}
-use Rattle.dac_tokens.specs.declared.fault.FaultKind.TheVariants.{BadShape, Unsupported}
-use Rattle.dac_tokens.specs.Gives.{◌>>=◌}
-use Rattle.dac_tokens.specs.Words.{End, Located}
+use Rattle.dac_shapes.specs.laws.Common.{bytes_eq, ConfigFault, BadShape, Unsupported, ◌>>=◌, End, Located, Param, Distributed, Permissions, Mandatory, Optional, Timeout, Section, Kernel, Seen, has_kernel, State, fails, is_text, token, atom_of, list_of, app_at, permission_at, node_of, wait_of, param_named, first_param, param_name_of, param_value_at, param_rest_at, param_at, names_kernel, kernel_at, section_rest_at, section_at, pair_at, at, text_is}
 use Rattle.dac_shapes.specs.declared.param.ParamName.{ParamName}
 use Rattle.dac_shapes.specs.declared.param.ParamName.TheVariants as named
-use Rattle.dac_shapes.specs.Written.{Param, Distributed, Permissions, Mandatory, Optional, Timeout, Section, Kernel}
-use Rattle.dac_shapes.specs.Limits.{Seen, has_kernel}
-use Rattle.dac_shapes.specs.Shape.{State, fails, is_text, token, atom_of, list_of, app_at, permission_at, node_of, wait_of, param_named, first_param, param_name_of, param_value_at, param_rest_at, param_at, names_kernel, kernel_at, section_rest_at, section_at, pair_at}
-use Rattle.dac_shapes.specs.laws.Splits.{at}
-use Rattle.dac_shapes.specs.laws.Names.{text_is}
 use Rattle.dac_first_fault.specs.FirstFault.{Itself}
 use Rattle.dac_first_fault.proofs.Outcomes.{Asked, Always, Plain, Reader, Gives, IsReader, Wanting, made}
 use Rattle.dac_first_fault.proofs.Alike.{alike}
@@ -26,16 +17,12 @@ first_here : (before : List Param) (t : Located) (o : Option ParamName) → Here
 first_here before t None = here_ok t None
 first_here before t (Some name) = here_if t _ _ _ (λ is. here_fails t BadShape tt) (λ is. here_ok t (Some name))
 
-param_name_here : (before : List Param) (t : Located) → Here t (param_name_of before t)
-unfolding param_name_of
-param_name_here before t = here_then t (atom_of t) _ (atom_look.offset t) (λ name is. first_here before t (param_named name))
-
-param_name_end : (before : List Param) (t : Located) → t.word ≡ End → param_name_of before t ≡ fails BadShape t.at
-unfolding param_name_of
-param_name_end before t w = rw (atom_look.end t w) refl
-
 param_name_look : (before : List Param) → IsLook (param_name_of before)
-param_name_look before = record { offset = param_name_here before; end = param_name_end before }
+unfolding param_name_of
+param_name_look before = record {
+  offset = λ t. here_then t (atom_of t) _ (atom_look.offset t) (λ name is. first_here before t (param_named name));
+  end = λ t w. rw (atom_look.end t w) refl;
+}
 
 param_value_reader : (name : ParamName) → IsReader (param_value_at name)
 unfolding param_value_at
@@ -58,16 +45,12 @@ param_end before = pair_end (param_name_of before) param_rest_at
 
 -- ---- sections
 
-kernel_here : (before : List Section) (t : Located) → Here t (names_kernel before t)
-unfolding names_kernel
-kernel_here before t = here_then t (atom_of t) _ (atom_look.offset t) (λ name is. here_if t (bytes_eq name (codes "kernel")) (cond (has_kernel before) (fails BadShape t.at) (Ok true)) (Ok false) (λ yes. here_if t (has_kernel before) _ _ (λ twice. here_fails t BadShape tt) (λ once. here_ok t true)) (λ other. here_ok t false))
-
-kernel_end : (before : List Section) (t : Located) → t.word ≡ End → names_kernel before t ≡ fails BadShape t.at
-unfolding names_kernel
-kernel_end before t w = rw (atom_look.end t w) refl
-
 kernel_look : (before : List Section) → IsLook (names_kernel before)
-kernel_look before = record { offset = kernel_here before; end = kernel_end before }
+unfolding names_kernel
+kernel_look before = record {
+  offset = λ t. here_then t (atom_of t) _ (atom_look.offset t) (λ name is. here_if t (bytes_eq name (codes "kernel")) (cond (has_kernel before) (fails BadShape t.at) (Ok true)) (Ok false) (λ yes. here_if t (has_kernel before) _ _ (λ twice. here_fails t BadShape tt) (λ once. here_ok t true)) (λ other. here_ok t false));
+  end = λ t w. rw (atom_look.end t w) refl;
+}
 
 kernel_reader : IsReader kernel_at
 unfolding kernel_at
@@ -85,24 +68,18 @@ module _ (before : List Section) where
   abbrev section : Reader Section
   section s = token s >>= λ q. section_at before q.0 q.1
 
-  section_text : (t : Located) (s : State) → is_text t.word ≡ true → section_at before t s ≡ fails Unsupported t.at
-  unfolding section_at
-  section_text t s e = rw e refl
-
-  section_pair : (t : Located) (s : State) → is_text t.word ≡ false → section_at before t s ≡ pair t s
-  unfolding section_at
-  section_pair t s e = rw e refl
-
   pub section_end : (t : Located) (s : State) → t.word ≡ End → section_at before t s ≡ fails BadShape t.at
-  section_end t s w = section_pair t s (ap is_text w) ∙ pair_end (names_kernel before) section_rest_at t s w
+  unfolding section_at
+  section_end t s w = let no : is_text t.word ≡ false = ap is_text w in rw no (pair_end (names_kernel before) section_rest_at t s w)
 
   section_wants : (seen : Seen) → Wanting section [] seen
   section_wants seen = wants_token (λ q. section_at before q.0 q.1) section_end seen
 
   section_by : (t : Located) (b : List Located) (seen : Seen) (c : Bool) → is_text t.word ≡ c → Gives section (t ∷ b) seen
-  section_by t b seen true e = first_fails section t b seen (record { kind = Unsupported; at = t.at }) (λ last rest. section_text t (at last rest seen) e) (Itself refl (text_is t.word e)) (section_wants seen)
+  unfolding section_at
+  section_by t b seen true e = first_fails section t b seen (record { kind = Unsupported; at = t.at }) (λ last rest. rw e refl) (Itself refl (text_is t.word e)) (section_wants seen)
   section_by t b seen false e =
-      alike Always Always Plain (λ _. section) (λ _ s. token s >>= λ q. pair q.0 q.1) t b seen seen (λ i last rest room. (tt, tt, section_pair t (at last rest seen) e)) (section_wants seen)
+      alike Always Always Plain (λ _. section) (λ _ s. token s >>= λ q. pair q.0 q.1) t b seen seen (λ i last rest room. (tt, tt, rw e refl)) (section_wants seen)
       (pair_reader (names_kernel before) section_rest_at (kernel_look before) section_rest_reader (t ∷ b) seen)
 
   pub section_reader : IsReader section

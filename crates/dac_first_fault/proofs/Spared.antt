@@ -1,9 +1,6 @@
 -- Any sections keep limits that are none of those of `Keeps`.
-use Rattle.std.proofs.Common.{ℕ, Bool, true, false, List, [], ◌∷◌, ◌++◌}
-use Rattle.dac_tokens.specs.declared.fault.FaultKind.{FaultKind}
-use Rattle.dac_tokens.specs.declared.fault.FaultKind.TheVariants.{BadShape, TwiceApp, TwiceInList, TooManyNodes, TooManyApps, NameTooLong, EmptyList, EmptyTuple, NumberTooLarge, Unsupported}
-use Rattle.dac_shapes.specs.Written.{App, Param, Distributed, Permissions, Mandatory, Optional, Timeout, Section, Kernel}
-use Rattle.dac_shapes.specs.Limits.{Seen, nothing, AllMay, with_node, with_nodes, listing, with_app, with_permission, with_param, with_section, NodeKeeps, NodesKeep, GroupsKeep, AppKeeps, PermissionKeeps, ValueKeeps, ParamKeeps, SectionKeeps, Keeps}
+use Rattle.std.proofs.Common.{ℕ, Bool, true, false, List, [], ◌∷◌, ◌++◌, arith}
+use Rattle.dac_shapes.specs.laws.Common.{FaultKind, BadShape, TwiceApp, TwiceInList, TooManyNodes, TooManyApps, NameTooLong, EmptyList, EmptyTuple, NumberTooLarge, Unsupported, App, Param, Distributed, Permissions, Mandatory, Optional, Timeout, Section, Kernel, Seen, nothing, AllMay, with_node, with_nodes, listing, with_app, with_permission, with_param, with_section, NodeKeeps, NodesKeep, GroupsKeep, AppKeeps, PermissionKeeps, ValueKeeps, ParamKeeps, SectionKeeps, Keeps}
 
 -- a limit that `Keeps` depends on
 abbrev pub IsLimit : FaultKind → Type 0
@@ -49,8 +46,7 @@ module _ (Kept : FaultKind → Type 0) (free : Free Kept) where
   value_so seen (Permissions permissions) = all_so with_permission (PermissionKeeps Kept) (λ before seen x k. absurd (free NameTooLong tt k)) [] seen permissions
   value_so seen (Mandatory names) = nodes_so true seen names
   value_so seen (Optional names) = nodes_so true seen names
-  value_so seen (Timeout wait) = tt
-  value_so seen Param.Other = tt
+  value_so seen _ = tt
 
   param_so : (before : List Param) (seen : Seen) (p : Param) → ParamKeeps Kept before seen p
   param_so before seen p = record { once = λ k. absurd (free BadShape tt k); value = value_so seen p }
@@ -63,13 +59,7 @@ module _ (Kept : FaultKind → Type 0) (free : Free Kept) where
   sections_so sections = all_so with_section (SectionKeeps Kept) section_so [] nothing sections
 
 pub no_limit : Free Strict
-no_limit BadShape is k = k
-no_limit NameTooLong is k = k
-no_limit TwiceApp is k = k
-no_limit TwiceInList is k = k
-no_limit TooManyApps is k = k
-no_limit TooManyNodes is k = k
-no_limit _ is k = is
+no_limit kind is k = grind arith
 
 pub strictly_so : (sections : List Section) → Keeps Strict sections
 strictly_so sections = sections_so Strict no_limit sections

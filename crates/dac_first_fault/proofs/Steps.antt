@@ -1,15 +1,6 @@
 -- Readers of single tokens, and the readings after them.
 use Rattle.std.proofs.Common.{◌≡◌, Bool, true, false, cond, List, [], ◌∷◌, Result, Ok, Err, refl, sym, ap, subst, ◌∙◌, arith}
-use Rattle.dac_tokens.specs.declared.fault.ConfigFault.{ConfigFault}
-use Rattle.dac_tokens.specs.declared.fault.FaultKind.{FaultKind}
-use Rattle.dac_tokens.specs.declared.fault.FaultKind.TheVariants.{BadShape}
-use Rattle.dac_tokens.specs.declared.token.Symbol.{Symbol}
-use Rattle.dac_tokens.specs.declared.token.Symbol.TheVariants.{OpenTuple, CloseTuple, Comma}
-use Rattle.dac_tokens.specs.Gives.{◌>>=◌}
-use Rattle.dac_tokens.specs.Words.{End, Located}
-use Rattle.dac_shapes.specs.Limits.{Seen}
-use Rattle.dac_shapes.specs.Shape.{State, fails, is_symbol, token, symbol_at, pair_at, closed}
-use Rattle.dac_shapes.specs.laws.Splits.{at}
+use Rattle.dac_shapes.specs.laws.Common.{ConfigFault, FaultKind, BadShape, Symbol, OpenTuple, CloseTuple, Comma, ◌>>=◌, End, Located, Seen, State, fails, is_symbol, token, symbol_at, pair_at, closed, at}
 use Rattle.dac_first_fault.specs.FirstFault.{IsLocatedAt, Itself, CanCause}
 use Rattle.dac_first_fault.proofs.Outcomes.{Took, Failed, Asked, further, Always, Plain, Reader, Gives, IsReader, Wanting, then}
 
@@ -75,38 +66,26 @@ module _ {K A : Type 0} (g : Located → Result K ConfigFault) (is : IsLook g) (
 
 -- ---- one symbol
 
-pub symbol_yes : (x : Symbol) (t : Located) (last : Result Located ConfigFault) (rest : List Located) (seen : Seen) → is_symbol x t.word ≡ true → symbol_at x (at last (t ∷ rest) seen) ≡ Ok (at last rest seen)
-unfolding symbol_at
-symbol_yes x t last rest seen e = rw e refl
-
-pub symbol_no : (x : Symbol) (t : Located) (last : Result Located ConfigFault) (rest : List Located) (seen : Seen) → is_symbol x t.word ≡ false → symbol_at x (at last (t ∷ rest) seen) ≡ fails BadShape t.at
-unfolding symbol_at
-symbol_no x t last rest seen e = rw e refl
-
-pub symbol_none : (x : Symbol) (p : ConfigFault) (seen : Seen) → symbol_at x (at (Err p) [] seen) ≡ Err p
-unfolding symbol_at
-symbol_none x p seen = refl
-
-pub symbol_end : (x : Symbol) (t : Located) (seen : Seen) → t.word ≡ End → symbol_at x (at (Ok t) [] seen) ≡ fails BadShape t.at
-unfolding symbol_at
-symbol_end x t seen e = rw e refl
-
 module _ {A : Type 0} (x : Symbol) (next : Reader A) where
   symbol_wants : (seen : Seen) → Wanting (λ s. symbol_at x s >>= next) [] seen
-  symbol_wants seen = record { more = λ i p room. ap (λ r. r >>= next) (symbol_none x p seen); end = λ i t is room. ap (λ r. r >>= next) (symbol_end x t seen is) }
+  unfolding symbol_at
+  symbol_wants seen = record { more = λ i p room. refl; end = λ i t is room. rw is refl }
 
   symbol_by : (t : Located) (b : List Located) (seen : Seen) (c : Bool) → is_symbol x t.word ≡ c → (is_symbol x t.word ≡ true → Gives (λ s. symbol_at x s >>= next) (t ∷ b) seen) → Gives (λ s. symbol_at x s >>= next) (t ∷ b) seen
+  unfolding symbol_at
   symbol_by t b seen true e goes = goes e
-  symbol_by t b seen false e goes = first_fails (λ s. symbol_at x s >>= next) t b seen (record { kind = BadShape; at = t.at }) (λ last rest. ap (λ r. r >>= next) (symbol_no x t last rest seen e)) (Itself refl tt) (symbol_wants seen)
+  symbol_by t b seen false e goes = first_fails (λ s. symbol_at x s >>= next) t b seen (record { kind = BadShape; at = t.at }) (λ last rest. rw e refl) (Itself refl tt) (symbol_wants seen)
 
   pub symbol_then : IsReader next → IsReader (λ s. symbol_at x s >>= next)
+  unfolding symbol_at
   symbol_then reads [] seen = Asked (symbol_wants seen)
-  symbol_then reads (t ∷ b) seen = symbol_by t b seen (is_symbol x t.word) refl (λ e. first_goes (λ s. symbol_at x s >>= next) t b seen next seen (λ last rest. ap (λ r. r >>= next) (symbol_yes x t last rest seen e)) (reads b seen))
+  symbol_then reads (t ∷ b) seen = symbol_by t b seen (is_symbol x t.word) refl (λ e. first_goes (λ s. symbol_at x s >>= next) t b seen next seen (λ last rest. rw e refl) (reads b seen))
 
   -- a reader of one symbol only
   pub symbol_only : (y : A) → ((s : State) → next s ≡ Ok (y, s)) → IsReader (λ s. symbol_at x s >>= next)
+  unfolding symbol_at
   symbol_only y is [] seen = Asked (symbol_wants seen)
-  symbol_only y is (t ∷ b) seen = symbol_by t b seen (is_symbol x t.word) refl (λ e. first_taken (λ s. symbol_at x s >>= next) t b seen y seen (λ last rest. ap (λ r. r >>= next) (symbol_yes x t last rest seen e) ∙ is (at last rest seen)))
+  symbol_only y is (t ∷ b) seen = symbol_by t b seen (is_symbol x t.word) refl (λ e. first_taken (λ s. symbol_at x s >>= next) t b seen y seen (λ last rest. rw e (is (at last rest seen))))
 
 -- ---- a value and the brace that closes its pair, and a pair
 
@@ -117,21 +96,15 @@ module _ {K A : Type 0} (name_of : Located → Result K ConfigFault) (rest : K �
   abbrev inner : Reader A
   inner s = token s >>= λ first. name_of first.0 >>= λ name. symbol_at Comma first.1 >>= rest name
 
-  pair_yes : (t : Located) (s : State) → is_symbol OpenTuple t.word ≡ true → pair_at name_of rest t s ≡ inner s
-  unfolding pair_at
-  pair_yes t s e = rw e refl
-
-  pair_no : (t : Located) (s : State) → is_symbol OpenTuple t.word ≡ false → pair_at name_of rest t s ≡ fails BadShape t.at
-  unfolding pair_at
-  pair_no t s e = rw e refl
-
   pub pair_end : (t : Located) (s : State) → t.word ≡ End → pair_at name_of rest t s ≡ fails BadShape t.at
-  pair_end t s w = pair_no t s (ap (is_symbol OpenTuple) w)
+  unfolding pair_at
+  pair_end t s w = rw w refl
 
   pair_by : (t : Located) (b : List Located) (seen : Seen) (c : Bool) → is_symbol OpenTuple t.word ≡ c → IsReader inner → Gives (λ s. token s >>= λ q. pair_at name_of rest q.0 q.1) (t ∷ b) seen
-  pair_by t b seen true e reads = first_goes (λ s. token s >>= λ q. pair_at name_of rest q.0 q.1) t b seen inner seen (λ last rest. pair_yes t (at last rest seen) e) (reads b seen)
+  unfolding pair_at
+  pair_by t b seen true e reads = first_goes (λ s. token s >>= λ q. pair_at name_of rest q.0 q.1) t b seen inner seen (λ last rest. rw e refl) (reads b seen)
   pair_by t b seen false e reads =
-      first_fails (λ s. token s >>= λ q. pair_at name_of rest q.0 q.1) t b seen (record { kind = BadShape; at = t.at }) (λ last rest. pair_no t (at last rest seen) e) (Itself refl tt) (wants_token (λ q. pair_at name_of rest q.0 q.1) pair_end seen)
+      first_fails (λ s. token s >>= λ q. pair_at name_of rest q.0 q.1) t b seen (record { kind = BadShape; at = t.at }) (λ last rest. rw e refl) (Itself refl tt) (wants_token (λ q. pair_at name_of rest q.0 q.1) pair_end seen)
 
   pub pair_reader : IsLook name_of → ((k : K) → IsReader (rest k)) → IsReader (λ s. token s >>= λ q. pair_at name_of rest q.0 q.1)
   pair_reader look reads [] seen = Asked (wants_token (λ q. pair_at name_of rest q.0 q.1) pair_end seen)

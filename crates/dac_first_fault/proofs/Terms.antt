@@ -1,18 +1,9 @@
 -- Terms, which are skipped: the token after a term shows that it has ended.
 use Rattle.std.proofs.Common.{◌≡◌, ℕ, zero, suc, ◌+◌, ◌<◌, ◌≤◌, Bool, true, false, cond, List, [], ◌∷◌, ◌++◌, length, Option, Some, None, Result, Ok, Err, refl, sym, ap, subst, ◌∙◌, append_assoc, length-append, arith, inl, inr}
-use Rattle.std.specs.Prelude.{◌⊎◌}
-use Rattle.dac_tokens.specs.declared.fault.ConfigFault.{ConfigFault}
-use Rattle.dac_tokens.specs.declared.fault.FaultKind.TheVariants.{BadShape}
-use Rattle.dac_tokens.specs.declared.token.Symbol.{Symbol}
-use Rattle.dac_tokens.specs.declared.token.Symbol.TheVariants.{CloseTuple, Comma}
-use Rattle.dac_tokens.specs.Gives.{◌>>=◌}
-use Rattle.dac_tokens.specs.Words.{Word, Punctuation, Name, Number, Text, End, Located}
-use Rattle.dac_shapes.specs.Limits.{Seen}
-use Rattle.dac_shapes.specs.Shape.{State, fails, is_symbol, is_text, token, room, terms_at, terms_in, texts_at, term_by, term_at, passed_at, closing_of}
-use Rattle.dac_shapes.specs.laws.Splits.{at}
+use Rattle.dac_shapes.specs.laws.Common.{◌⊎◌, ConfigFault, BadShape, Symbol, CloseTuple, Comma, ◌>>=◌, Word, Punctuation, Name, Number, Text, End, Located, Seen, State, fails, is_symbol, is_text, token, room, terms_at, terms_in, texts_at, term_by, term_at, passed_at, closing_of, at}
 use Rattle.dac_shapes.specs.laws.TermCases.{by_name, by_number, by_text, by_mark, by_other_mark, by_end}
 use Rattle.dac_first_fault.specs.FirstFault.{Itself}
-use Rattle.dac_first_fault.proofs.Outcomes.{Wants, Fails, Took, Failed, Asked, fails_further, wants_further, Always, Reader, Gives, IsReader, Wanting}
+use Rattle.dac_first_fault.proofs.Outcomes.{Wants, Fails, Took, Failed, Asked, fails_further, wants_further, Always, Reader, Gives, IsReader, Wanting, goes_further}
 use Rattle.dac_first_fault.proofs.Alike.{goes_alike, wants_before, wants_all, fails_alike}
 use Rattle.dac_first_fault.proofs.Lists.{regroup, Fits}
 
@@ -37,18 +28,13 @@ module _ {I : Type 0} (Room : I → ℕ → Type 0) (read : I → State → Resu
 
 module _ {I J : Type 0} (Room : I → ℕ → Type 0) (More : J → ℕ → Type 0) (f : I → State → Result (Located × State) ConfigFault) (g : J → State → Result (Located × State) ConfigFault) (a : List Located) (seen : Seen)
     (leads : (i : I) (last : Result Located ConfigFault) (rest : List Located) → Room i (length (a ++ rest)) → (j : J) × More j (length rest) × (f i (at last (a ++ rest) seen) ≡ g j (at last rest seen))) where
-  passes_further : (front : List Located) (t : Located) (i : I) (last : Result Located ConfigFault) (rest : List Located) → ((j : J) → More j (length (front ++ t ∷ rest)) → g j (at last (front ++ t ∷ rest) seen) ≡ Ok (t, at last rest seen)) → Room i (length ((a ++ front) ++ t ∷ rest)) → f i (at last ((a ++ front) ++ t ∷ rest) seen) ≡ Ok (t, at last rest seen)
-  passes_further front t i last rest goes room =
-      let l = leads i last (front ++ t ∷ rest) (subst (λ (q : List Located). Room i (length q)) (append_assoc a front (t ∷ rest)) room) in
-      ap (λ (q : List Located). f i (at last q seen)) (append_assoc a front (t ∷ rest)) ∙ l.2 ∙ goes l.0 l.1
-
   late_further : (b : List Located) → Passing More g b seen → Passing Room f (a ++ b) seen
   late_further b (Passed t) = Passed (record {
     front = a ++ t.front;
     f = t.f;
     b = t.b;
     whole = ap (λ (l : List Located). a ++ l) t.whole ∙ sym (append_assoc a t.front (t.f ∷ t.b));
-    goes = λ i last rest room. passes_further t.front t.f i last rest (λ j m. t.goes j last rest m) room;
+    goes = λ i last rest room. goes_further Room More Late f g a seen seen leads t.front (t.f ∷ rest) last i (Ok (t.f, at last rest seen)) room (λ j m. t.goes j last rest m);
     wants = wants_further Room More Late f g a seen seen leads t.front t.wants;
   })
   late_further b (Refused t) = Refused (fails_further Room More Late f g a seen seen leads b t)

@@ -1,36 +1,22 @@
 -- The claims of a tick are in form, because a candidate is in the application's list, and a former holder is in the
 -- configuration.
 use Rattle.std.proofs.Common.{◌≡◌, ℕ, ◌<◌, true, false, nat_eq, List, [], ◌∷◌, Option, Some, refl, sym, ap, subst, ◌∙◌, inl, inr, true≢false, eq-eqb}
+use Rattle.dac_in_form.proofs.Common.{exact_unsigned_eq, NodeId, AppId, Origin, How, Act, Operation, operation, StateValue, IsOperationOf, meaning_of, Table, node_count, app_count, Note, Two, IsConsistentOrigin, IsOperation, next_operation, next_term_only, some_same, AreInForm}
 use Rattle.std.specs.FinMap as map
-use Rattle.std.proofs.lemmas.Map.Views.{exact_unsigned_eq}
-use Rattle.dac_base.specs.declared.NodeId.{NodeId}
-use Rattle.dac_base.specs.declared.AppId.{AppId}
-use Rattle.dac_origins.specs.declared.dot.Origin.{Origin}
 use Rattle.dac_chains.specs.declared.claims.Claim.{Claim as ClaimValue}
-use Rattle.dac_chains.specs.declared.claims.How.{How}
-use Rattle.dac_operations.specs.declared.act.Act.{Act}
 use Rattle.dac_operations.specs.declared.act.Act.TheVariants.{Claim as Claims}
-use Rattle.dac_operations.specs.Operations.{Operation, operation}
-use Rattle.dac_meaning.specs.StateValue.{StateValue, join}
-use Rattle.dac_meaning.specs.Meaning.{IsOperationOf, meaning_of}
-use Rattle.dac_config.specs.Table.{Table, node_count, app_count}
+use Rattle.dac_meaning.specs.StateValue.{join}
 use Rattle.dac_placement.specs.declared.verdicts.Verdict.{Verdict}
 use Rattle.dac_placement.specs.declared.verdicts.Verdict.TheVariants.{Start, Failover, Halted, Move, Takeover, Kept, Nobody}
 use Rattle.dac_placement.specs.Placement.{IsFirst, IsVerdict, candidate_of}
-use Rattle.dac_decide.specs.FailoverWait.{Note, IsHeldAt}
-use Rattle.dac_bytes.specs.declared.version.Version.TheVariants.{Two}
-use Rattle.dac_part_bytes.specs.ChainForm.{IsConsistentOrigin}
-use Rattle.dac_wire.specs.Form.{IsOperation}
-use Rattle.dac_commands.specs.Commands.{claim_act, next_operation}
+use Rattle.dac_decide.specs.FailoverWait.{IsHeldAt}
+use Rattle.dac_commands.specs.Commands.{claim_act}
 use Rattle.dac_commands.specs.laws.Counters.{next-is}
-use Rattle.dac_commands.specs.laws.Terms.{next_term_only}
 use Rattle.dac_ticks.specs.InWords.{IsMine, IsClaimOf, ComesBy, IsSweep}
 use Rattle.dac_ticks.specs.laws.Claimed.{own_claim, other_claim}
 use Rattle.dac_ticks.specs.laws.Counters.{knows_after}
 use Rattle.dac_ticks.specs.laws.Sweeping.{AreBelow}
-use Rattle.dac_model_node.specs.laws.Options.{some_same}
 use Rattle.dac_model_world.specs.laws.Carried.{none_some}
-use Rattle.dac_in_form.specs.InForm.{AreInForm}
 use Rattle.dac_in_form.proofs.MayIssue.{MayClaim, claim_is}
 
 -- an operation in form, and others in form

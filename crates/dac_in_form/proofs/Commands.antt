@@ -1,50 +1,30 @@
 -- The operation of a command is in form, because a command whose operation bytes can't encode is refused.
 use Rattle.std.proofs.Common.{◌≡◌, ℕ, ◌+◌, ◌<◌, ◌≤◌, ◌^◌, true, false, not, ◌||◌, List, [], ◌∷◌, length, Option, None, Some, is_some, is_eq, refl, sym, ap, subst, ◌∙◌, arith, leb-true, leb-false, ltb-true, ltb-false, true≢false}
-use Rattle.std.specs.List.{AllByRecursion}
-use Rattle.std.specs.Option.{option_map}
-use Rattle.std.specs.Ordering.{eq_by_cmp}
+use Rattle.dac_in_form.proofs.Common.{AllByRecursion, option_map, eq_by_cmp, MAX_COUNTER, NodeId, AppId, Dot, Origin, dot, dot_cmp, IsNext, has_key, dots_total, exact_dots, Key, write, Act, has_bad_over, fault_of, StateValue, Table, node_count, app_count, IsIncarnation, IsOrigin, IsDot, Two, IsConsistentOrigin, IsKey, is_listed, AreOver, IsAct, IsOperation, next_operation, no_node, none_is, some_same}
 use Rattle.std.specs.FinSet as set
 use Rattle.std.specs.FinMap as map
 use Rattle.std.proofs.lemmas.Bool.{not-false, or_left, or_right}
 use Rattle.std.proofs.lemmas.Cmp.{tied_itself}
-use Rattle.dac_base.specs.declared.limits.TheConstants.{MAX_COUNTER, MAX_REPLACED}
-use Rattle.dac_base.specs.declared.NodeId.{NodeId}
-use Rattle.dac_base.specs.declared.AppId.{AppId}
-use Rattle.dac_origins.specs.declared.dot.Dot.{Dot}
-use Rattle.dac_origins.specs.declared.dot.Origin.{Origin}
-use Rattle.dac_origins.specs.Dots.{dot, dot_cmp, IsNext}
-use Rattle.dac_origins.specs.Keys.{has_key, IsRising}
-use Rattle.dac_origins.specs.laws.Dots.{dots_total, exact_dots}
+use Rattle.dac_base.specs.declared.limits.TheConstants.{MAX_REPLACED}
+use Rattle.dac_origins.specs.Keys.{IsRising}
 use Rattle.dac_origins.specs.laws.InOrder.{in_order-rising, has_key-in_order}
 use Rattle.dac_lattice.specs.declared.flags.Flag.TheVariants.{Up as IsUp}
 use Rattle.dac_chains.specs.declared.claims.Claim.{Claim as ClaimValue}
 use Rattle.dac_chains.specs.declared.claims.How.TheVariants.{Takeover as TakenOver}
-use Rattle.dac_wishes.specs.declared.key.Key.{Key}
 use Rattle.dac_wishes.specs.KeyedWrites.{keyed_write}
-use Rattle.dac_wishes.specs.Writes.{write, dots_at}
+use Rattle.dac_wishes.specs.Writes.{dots_at}
 use Rattle.dac_wishes.specs.laws.Writes.{contains-dots_at}
-use Rattle.dac_operations.specs.declared.act.Act.{Act}
 use Rattle.dac_operations.specs.declared.act.Act.TheVariants.{Down as Downs, Permit as Permits, Start as Starts, Stop as Stops, Drain as Drains}
-use Rattle.dac_operations.specs.Operations.{has_bad_over, fault_of}
-use Rattle.dac_meaning.specs.StateValue.{StateValue}
-use Rattle.dac_config.specs.Table.{Table, node_count, app_count}
 use Rattle.dac_placement.specs.Placement.{RunsAt, runner_of}
 use Rattle.dac_placement.specs.laws.Tests.{runner_is}
-use Rattle.dac_bytes.specs.Ranges.{IsIncarnation, IsOrigin, IsDot}
-use Rattle.dac_bytes.specs.declared.version.Version.TheVariants.{Two}
-use Rattle.dac_part_bytes.specs.ChainForm.{IsConsistentOrigin}
-use Rattle.dac_part_bytes.specs.KeyedForm.{IsKey}
-use Rattle.dac_part_bytes.specs.Reading.{is_listed}
 use Rattle.dac_wire.specs.Codes.{IsKindIn, kind_of_act}
-use Rattle.dac_wire.specs.Form.{AreOver, IsAct, IsOperation}
 use Rattle.dac_events.specs.declared.Command.{Command}
 use Rattle.dac_events.specs.declared.Command.TheVariants.{Down, Permit, Start, Stop, Drain, Takeover}
-use Rattle.dac_commands.specs.Commands.{live_or_none, live_key, live_origin, standing_starts, standing_permits, standing_drains, greatest_counter, next_term, next_operation, act_of}
-use Rattle.dac_commands.specs.Causes.{no_node, no_app, unlisted, not_live, too_many, refusal_of_command}
-use Rattle.dac_commands.specs.laws.Written.{none_is, all_causes, live_there, writes_what_is_said}
+use Rattle.dac_commands.specs.Commands.{live_or_none, live_key, live_origin, standing_starts, standing_permits, standing_drains, greatest_counter, next_term, act_of}
+use Rattle.dac_commands.specs.Causes.{no_app, unlisted, not_live, too_many, refusal_of_command}
+use Rattle.dac_commands.specs.laws.Written.{all_causes, live_there, writes_what_is_said}
 use Rattle.dac_commands.specs.laws.Standing.{permits_at-rising, permits_at-has, drains_at-rising, drains_at-has}
 use Rattle.dac_commands.specs.laws.Terms.{next_term_is}
-use Rattle.dac_model_node.specs.laws.Options.{some_same}
 use Rattle.dac_model_world.specs.laws.Carried.{none_some}
 use Rattle.dac_in_form.proofs.MayIssue.{MayIssue, sound_by, not_first, next_is_dot, apart, claim_is}
 

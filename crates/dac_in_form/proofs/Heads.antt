@@ -1,29 +1,11 @@
 -- The names and numbers of a message are in form, and so are the positions that nodes record.
 use Rattle.std.proofs.Common.{◌≡◌, ℕ, ◌<◌, ◌≤◌, true, false, cond, max, nat_eq, List, [], ◌∷◌, ◌++◌, length, Option, None, Some, zero, suc, refl, sym, subst, ◌∙◌, arith}
-use Rattle.std.specs.Prelude.{nat_lt}
-use Rattle.std.specs.List.{AllByRecursion, slice_get}
-use Rattle.std.specs.Option.{option_map}
-use Rattle.std.specs.Ordering.{eq_by_cmp}
+use Rattle.dac_in_form.proofs.Common.{nat_lt, AllByRecursion, slice_get, option_map, eq_by_cmp, MAX_COUNTER, NodeId, node_cmp, nodes_total, exact_nodes, Origin, Table, node_count, IsIncarnation, IsOrigin, Two, Body, Whole, Interval, Nothing, Message, Position, ModelRunning, joined, running_shown, message_of, some_same}
 use Rattle.std.specs.Cmp.{Equal-is}
 use Rattle.std.specs.FinMap as map
-use Rattle.dac_base.specs.declared.limits.TheConstants.{MAX_COUNTER}
-use Rattle.dac_base.specs.declared.NodeId.{NodeId}
-use Rattle.dac_base.specs.Ids.{node_cmp}
-use Rattle.dac_base.specs.laws.Ids.{nodes_total, exact_nodes}
-use Rattle.dac_origins.specs.declared.dot.Origin.{Origin}
-use Rattle.dac_config.specs.Table.{Table, node_count}
-use Rattle.dac_bytes.specs.Ranges.{IsIncarnation, IsOrigin}
-use Rattle.dac_bytes.specs.declared.version.Version.TheVariants.{Two}
-use Rattle.dac_messages.specs.declared.message.Body.{Body}
-use Rattle.dac_messages.specs.declared.message.Body.TheVariants.{Whole, Interval, Nothing}
-use Rattle.dac_messages.specs.declared.message.Message.{Message}
 use Rattle.dac_wire.specs.Form.{is_whole, IsOnly, IsAck}
-use Rattle.dac_peers.specs.declared.positions.Position.{Position}
 use Rattle.dac_peers.specs.Peers.{PeersValue, got_after, got_by}
-use Rattle.dac_model_node.specs.ModelNode.{ModelRunning, joined, running_shown}
 use Rattle.dac_model_node.specs.Shipping.{IsPosition, IsBody}
-use Rattle.dac_model_node.specs.Transitions.{message_of}
-use Rattle.dac_model_node.specs.laws.Options.{some_same}
 use Rattle.dac_model_node.specs.laws.Shipping.{message_is}
 use Rattle.dac_model_world.specs.laws.Carried.{none_some}
 use Rattle.dac_in_form.proofs.MayIssue.{MayIssue}

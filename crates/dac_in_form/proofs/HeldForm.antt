@@ -1,23 +1,14 @@
 -- Whatever runs hold and ship is the meaning of issued operations.
 use Rattle.std.specs.Prelude.{◌≡◌, Bool, true, false, cond, List, [], ◌∷◌, filter}
 use Rattle.std.proofs.Common.{sym, subst, inl, inr}
+use Rattle.dac_in_form.proofs.Common.{Operation, StateValue, IsOperationOf, DotsDetermine, meaning_of, Table, Two, IsInForm, Body, Whole, Interval, Nothing, InEachRun, Agree-within, DistinctDots-agree, StateFits, IsSmall, AreInForm, BodyFits, HeldAreInForm}
 use Rattle.std.specs.FinSet as set
-use Rattle.dac_operations.specs.Operations.{Operation}
-use Rattle.dac_meaning.specs.StateValue.{StateValue}
-use Rattle.dac_meaning.specs.Meaning.{IsOperationOf, AreOperationsOf, DotsDetermine, meaning_of}
-use Rattle.dac_config.specs.Table.{Table}
-use Rattle.dac_bytes.specs.declared.version.Version.TheVariants.{Two}
-use Rattle.dac_state.specs.StateForm.{IsInForm}
-use Rattle.dac_messages.specs.declared.message.Body.{Body}
-use Rattle.dac_messages.specs.declared.message.Body.TheVariants.{Whole, Interval, Nothing}
+use Rattle.dac_meaning.specs.Meaning.{AreOperationsOf}
 use Rattle.dac_messages.specs.Bodies.{content_of}
 use Rattle.dac_wire.specs.Form.{IsBodyInForm}
-use Rattle.dac_model_world.specs.ModelWorld.{InEachRun}
 use Rattle.dac_model_world.specs.Convergence.{heard_among}
 use Rattle.dac_model_world.specs.Converges.{Converges}
-use Rattle.dac_model_world.specs.laws.Operations.{Agree-within, DistinctDots-agree}
-use Rattle.dac_in_form.specs.InForm.{StateFits, IsSmall, AreInForm, MeaningsAreInForm}
-use Rattle.dac_in_form.specs.HeldForm.{BodyFits, HeldAreInForm}
+use Rattle.dac_in_form.specs.InForm.{MeaningsAreInForm}
 
 -- operations that pass a test are among the operations
 passed_is : (b : Bool) (o x : Operation) (os ps : List Operation) → (IsOperationOf o ps → IsOperationOf o os) → IsOperationOf o (cond b (x ∷ ps) ps) → IsOperationOf o (x ∷ os)

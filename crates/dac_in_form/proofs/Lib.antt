@@ -1,3 +1,4 @@
+mod Common
 mod MayIssue
 mod MeaningForm
 mod HeldForm

@@ -1,37 +1,16 @@
 -- The premises under which a node issues operations in form, and its incarnation's next operation.
 use Rattle.std.proofs.Common.{◌≡◌, ℕ, ◌+◌, ◌<◌, ◌≤◌, true, false, ◌==◌, if◌then◌else◌, List, Option, None, Some, refl, sym, subst, arith, lt_irrefl, leb-true}
+use Rattle.dac_in_form.proofs.Common.{exact_unsigned_eq, MAX_COUNTER, NodeId, AppId, Dot, Origin, dot, dot_cmp, IsNext, has_key, Life, How, Act, Claim, Operation, operation, over_list, has_bad_over, fault_of, StateValue, IsOperationOf, DotsDetermine, meaning_of, Table, node_count, app_count, IsIncarnation, IsOrigin, IsDot, InRange, Two, IsConsistentOrigin, is_listed, IsOperation, next_term_only, up, AreInForm}
 use Rattle.std.specs.FinSet as set
 use Rattle.std.specs.FinMap as map
 use Rattle.std.specs.Option.{option_map_or}
 use Rattle.std.proofs.lemmas.Bool.{false_from_ne_true}
-use Rattle.std.proofs.lemmas.Map.Views.{exact_unsigned_eq}
-use Rattle.dac_base.specs.declared.limits.TheConstants.{MAX_COUNTER}
-use Rattle.dac_base.specs.declared.NodeId.{NodeId}
-use Rattle.dac_base.specs.declared.AppId.{AppId}
-use Rattle.dac_origins.specs.declared.dot.Dot.{Dot}
-use Rattle.dac_origins.specs.declared.dot.Origin.{Origin}
-use Rattle.dac_origins.specs.Dots.{dot, dot_cmp, IsNext}
-use Rattle.dac_origins.specs.Keys.{has_key}
-use Rattle.dac_chains.specs.declared.lives.Life.{Life}
 use Rattle.dac_chains.specs.declared.claims.Claim.{Claim as ClaimValue}
-use Rattle.dac_chains.specs.declared.claims.How.{How}
-use Rattle.dac_operations.specs.declared.act.Act.{Act}
-use Rattle.dac_operations.specs.declared.act.Act.TheVariants.{Claim}
 use Rattle.dac_operations.specs.declared.op.OpFault.TheVariants.{OwnDot, BadOver, BadCounter, OnSelf}
-use Rattle.dac_operations.specs.Operations.{Operation, operation, over_list, replaces_itself, has_bad_over, has_bad_counter, is_on_self, fault_of}
-use Rattle.dac_meaning.specs.StateValue.{StateValue, IsState}
-use Rattle.dac_meaning.specs.Meaning.{IsOperationOf, DotsDetermine, meaning_of}
-use Rattle.dac_config.specs.Table.{Table, node_count, app_count}
-use Rattle.dac_bytes.specs.Ranges.{IsIncarnation, IsOrigin, IsDot, InRange}
-use Rattle.dac_bytes.specs.declared.version.Version.TheVariants.{Two}
-use Rattle.dac_part_bytes.specs.ChainForm.{IsConsistentOrigin}
-use Rattle.dac_part_bytes.specs.Reading.{is_listed}
-use Rattle.dac_wire.specs.Form.{IsOperation}
+use Rattle.dac_operations.specs.Operations.{replaces_itself, has_bad_counter, is_on_self}
+use Rattle.dac_meaning.specs.StateValue.{IsState}
 use Rattle.dac_commands.specs.Commands.{KnowsOwnBoot}
 use Rattle.dac_commands.specs.Written.{IsNextTerm}
-use Rattle.dac_commands.specs.laws.Terms.{next_term_only}
-use Rattle.dac_model_node.specs.Step.{up}
-use Rattle.dac_in_form.specs.InForm.{AreInForm}
 
 -- The incarnation is in form and knows its own boot, and nodes of the configuration made all claims.
 pub record MayClaim (t : Table) (own : Origin) (s : StateValue) : Type 0 where

@@ -1,55 +1,32 @@
 -- The meaning of operations in form, part by part.
 use Rattle.std.specs.Prelude.{◌≡◌, ℕ, ◌+◌, ◌<◌, ◌≤◌, ◌^◌, length, true, false, cond, T, List, [], ◌∷◌, Option, None, Some, is_some, unwrap_or, refl}
 use Rattle.std.proofs.Common.{sym, ap, subst, ◌∙◌, inl, inr, arith, true≢false}
-use Rattle.std.specs.declared.cmp.Ordering.{Ordering}
+use Rattle.dac_in_form.proofs.Common.{Ordering, eq_by_cmp, IsTotalOrder, AllByRecursion, find, CmpEqualImpliesEq, NodeId, AppId, node_cmp, the_limits, MAX_NODES, MAX_APPS, nodes_total, exact_nodes, Dot, Origin, dot, dot_cmp, has_key, exact_dots, Flag, Life, Write, Act, Up, Claim, Operation, over_list, StateValue, IsOperationOf, DotsDetermine, meaning_of, Table, node_count, app_count, IsDot, IsOrigin, InRange, Two, IsKey, IsInForm, IsAct, StateFits, IsSmall, AreInForm}
 use Rattle.std.specs.declared.cmp.Ordering.TheVariants.{Less, Equal, Greater}
-use Rattle.std.specs.Ordering.{eq_by_cmp, is_eq, is_lt}
-use Rattle.std.specs.Cmp.{IsTotalOrder, ranked, tied_itself}
-use Rattle.std.specs.List.{AllByRecursion}
+use Rattle.std.specs.Ordering.{is_eq, is_lt}
+use Rattle.std.specs.Cmp.{ranked, tied_itself}
 use Rattle.std.specs.FinSet as set
 use Rattle.std.specs.FinMap as map
-use Rattle.std.specs.FinMap.{find, is_sorted}
+use Rattle.std.specs.FinMap.{is_sorted}
 use Rattle.std.specs.FinMap.Entries.{below_all}
 use Rattle.std.proofs.lemmas.Bool.{or_cases}
-use Rattle.std.proofs.lemmas.Map.Lookups.{CmpEqualImpliesEq}
-use Rattle.dac_base.specs.declared.NodeId.{NodeId}
-use Rattle.dac_base.specs.declared.AppId.{AppId}
-use Rattle.dac_base.specs.Ids.{node_cmp, app_cmp}
-use Rattle.dac_base.specs.Limits.{the_limits}
-use Rattle.dac_base.specs.declared.limits.TheConstants.{MAX_NODES, MAX_APPS}
-use Rattle.dac_base.specs.laws.Ids.{nodes_total, exact_nodes, apps_total, exact_apps}
-use Rattle.dac_origins.specs.declared.dot.Dot.{Dot}
-use Rattle.dac_origins.specs.declared.dot.Origin.{Origin}
-use Rattle.dac_origins.specs.Dots.{dot, dot_cmp}
-use Rattle.dac_origins.specs.Keys.{has_key}
-use Rattle.dac_origins.specs.laws.Dots.{exact_dots}
-use Rattle.dac_lattice.specs.declared.flags.Flag.{Flag}
+use Rattle.dac_base.specs.Ids.{app_cmp}
+use Rattle.dac_base.specs.laws.Ids.{apps_total, exact_apps}
 use Rattle.dac_lattice.specs.laws.Entries.{find_below}
 use Rattle.dac_lattice.specs.laws.EntryLaws.{first, second}
-use Rattle.dac_chains.specs.declared.lives.Life.{Life}
 use Rattle.dac_chains.specs.declared.claims.Claim.{Claim as ClaimValue}
 use Rattle.dac_chains.specs.Greatest.{IsGreatest}
 use Rattle.dac_chains.specs.Lives.{life_cmp}
 use Rattle.dac_chains.specs.Claims.{claim_cmp}
 use Rattle.dac_wishes.specs.laws.KeyedWrites.{tied_is}
-use Rattle.dac_wishes.specs.Writes.{Write}
 use Rattle.dac_wishes.specs.PermissionsValue.{is_permitting}
 use Rattle.dac_wishes.specs.DrainsValue.{DrainWrite, says_drained}
-use Rattle.dac_operations.specs.declared.act.Act.{Act}
-use Rattle.dac_operations.specs.declared.act.Act.TheVariants.{Up, Down, Permit, Start, Stop, Drain, Claim}
-use Rattle.dac_operations.specs.Operations.{Operation, over_list}
-use Rattle.dac_meaning.specs.StateValue.{StateValue}
-use Rattle.dac_meaning.specs.Meaning.{IsOperationOf, DotsDetermine, meaning_of}
+use Rattle.dac_operations.specs.declared.act.Act.TheVariants.{Down, Permit, Start, Stop, Drain}
 use Rattle.dac_meaning.specs.MeaningLaws.{HeardAreDots, KnownAreNamed, PermitsAreUnreplaced, StartsAreUnreplaced, LivesAreGreatest, ClaimsAreGreatest, DrainsAreUnreplaced, MeaningsAreStates, SaysLife, IsClaim}
-use Rattle.dac_config.specs.Table.{Table, node_count, app_count}
-use Rattle.dac_bytes.specs.Ranges.{IsDot, IsOrigin, InRange}
-use Rattle.dac_bytes.specs.declared.version.Version.TheVariants.{Two}
 use Rattle.dac_part_bytes.specs.ChainForm.{IsLifeInForm, IsClaimInForm as IsClaimEntry}
-use Rattle.dac_part_bytes.specs.KeyedForm.{IsKey, IsKnownDot, IsKnownWrite}
-use Rattle.dac_state.specs.StateForm.{IsInForm}
-use Rattle.dac_wire.specs.Form.{IsAct, IsClaimInForm}
+use Rattle.dac_part_bytes.specs.KeyedForm.{IsKnownDot, IsKnownWrite}
+use Rattle.dac_wire.specs.Form.{IsClaimInForm}
 use Rattle.dac_model_node.specs.Step.{up as boot_of}
-use Rattle.dac_in_form.specs.InForm.{StateFits, IsSmall, AreInForm}
 use Rattle.dac_in_form.proofs.MayIssue.{MayIssue}
 
 none_some : {X : Type 0} {v : X} {Y : Type 0} → ◌≡◌ {A = Option X} None (Some v) → Y

@@ -1,14 +1,11 @@
 -- Values in form are read from their bytes.
 use Rattle.std.proofs.Common.{◌≡◌, ℕ, ◌==◌, cond, List, [], ◌++◌, length, Ok, refl, sym, ap, ◌∙◌, append_assoc, append-nil}
-use Rattle.dac_config.specs.Table.{Table}
+use Rattle.dac_in_form.proofs.Common.{Table, Two, StateValue, IsInForm, InEachRun, IsSmall, RunIsInForm}
 use Rattle.dac_bytes.specs.Numbers.{u8_bytes}
 use Rattle.dac_bytes.specs.Reading.{whole, fault, ◌>>=◌}
 use Rattle.dac_bytes.specs.Takes.{IsCodec}
 use Rattle.dac_bytes.specs.declared.fault.ReadFaultKind.TheVariants.{Trailing}
-use Rattle.dac_bytes.specs.declared.version.Version.TheVariants.{Two}
 use Rattle.dac_part_bytes.specs.PartCodecs.{PartCodecs}
-use Rattle.dac_meaning.specs.StateValue.{StateValue}
-use Rattle.dac_state.specs.StateForm.{IsInForm}
 use Rattle.dac_state.specs.StateReading.{parts_at, state_at}
 use Rattle.dac_state.specs.StateSpelling as state
 use Rattle.dac_wire.specs.Codes.{packet_code, kind_of_packet}
@@ -19,9 +16,6 @@ use Rattle.dac_wire.specs.declared.packet.Packet.{Packet}
 use Rattle.dac_wire.specs.declared.packet.Packet.TheVariants.{Msg, Single}
 use Rattle.dac_wire.specs.laws.Fronts.{version_is}
 use Rattle.dac_wire.specs.laws.PacketLaws.{packet_again}
-use Rattle.dac_model_world.specs.ModelWorld.{InEachRun}
-use Rattle.dac_in_form.specs.InForm.{IsSmall}
-use Rattle.dac_in_form.specs.Issued.{RunIsInForm}
 use Rattle.dac_in_form.specs.ReadAgain.{StateIsRead, PacketIsRead, EachRunIsRead}
 
 module _ (t : Table) (parts : PartCodecs Two t) (states : IsCodec (parts_at Two t) (state.state_bytes Two) (IsInForm Two t)) where

@@ -1,49 +1,27 @@
 -- Issued operations and shipped messages of each run are in form: a loop over events.
 use Rattle.std.proofs.Common.{◌≡◌, ℕ, ◌<◌, ◌≤◌, ◌+◌, ◌-◌, Bool, true, false, cond, nat_eq, List, [], ◌∷◌, ◌++◌, length, Option, Some, None, Ok, Err, refl, sym, ap, subst, ◌∙◌, inl, inr, arith, leb-false, leb-true, ltb-true}
-use Rattle.std.specs.Prelude.{nat_le, nat_lt}
-use Rattle.std.specs.List.{AllByRecursion, slice_get}
-use Rattle.std.specs.Option.{option_map}
+use Rattle.dac_in_form.proofs.Common.{nat_lt, AllByRecursion, slice_get, option_map, exact_unsigned_eq, MAX_COUNTER, NodeId, node_cmp, Origin, Operation, StateValue, IsOperationOf, Table, node_count, Note, waits_of, IsOrigin, Two, WorldEvent, Message, Event, Boot, Crash, Tick, Ship, Hear, HearOp, none_is, ModelNode, ModelRunning, joined, running_shown, shown, refusal_on, refusal_of, Transition, note_of, step_by, up, comes_up, transition_on, some_same, ModelWorld, InEachRun, Run, start, happens, answered_by, shipped_by, Agree-within, DistinctDots-agree, AreInForm, HeldAreInForm, RunIsInForm}
+use Rattle.std.specs.Prelude.{nat_le}
 use Rattle.std.specs.FinMap as map
 use Rattle.std.proofs.lemmas.List.{length-append}
-use Rattle.std.proofs.lemmas.Map.Views.{exact_unsigned_eq}
-use Rattle.dac_base.specs.declared.limits.TheConstants.{MAX_COUNTER, MAX_INCARNATION}
-use Rattle.dac_base.specs.declared.NodeId.{NodeId}
-use Rattle.dac_base.specs.Ids.{node_cmp}
-use Rattle.dac_origins.specs.declared.dot.Origin.{Origin}
-use Rattle.dac_operations.specs.Operations.{Operation}
-use Rattle.dac_meaning.specs.StateValue.{StateValue}
-use Rattle.dac_meaning.specs.Meaning.{IsOperationOf}
+use Rattle.dac_base.specs.declared.limits.TheConstants.{MAX_INCARNATION}
 use Rattle.dac_meaning.specs.laws.Members.{In-append_left, In-append_right, In-append_cases}
-use Rattle.dac_config.specs.Table.{Table, node_count}
-use Rattle.dac_decide.specs.FailoverWait.{Note, waits_of}
-use Rattle.dac_bytes.specs.Ranges.{IsOrigin}
-use Rattle.dac_bytes.specs.declared.version.Version.TheVariants.{Two}
-use Rattle.dac_events.specs.declared.WorldEvent.{WorldEvent}
 use Rattle.dac_events.specs.declared.What.{What}
 use Rattle.dac_events.specs.declared.refusal.Refusal.TheVariants.{IncarnationsUsedUp}
 use Rattle.dac_events.specs.declared.world_fault.WorldFault.TheVariants.{NoSuchNode}
-use Rattle.dac_messages.specs.declared.message.Message.{Message}
-use Rattle.dac_messages.specs.declared.event.Event.{Event}
-use Rattle.dac_messages.specs.declared.event.Event.TheVariants.{Boot, Crash, Command as Commanded, Tick, Ship, Hear, HearOp}
-use Rattle.dac_commands.specs.laws.Written.{none_is}
+use Rattle.dac_messages.specs.declared.event.Event.TheVariants.{Command as Commanded}
 use Rattle.dac_model_node.specs.Effect.{issued_by}
-use Rattle.dac_model_node.specs.ModelNode.{ModelNode, ModelRunning, joined, running_shown, shown}
-use Rattle.dac_model_node.specs.EventRefusals.{refusal_off, refusal_on, refusal_by, refusal_of}
-use Rattle.dac_model_node.specs.Transitions.{Transition, moment_of, note_of}
-use Rattle.dac_model_node.specs.Step.{step_by, accepted, up, comes_up, goes_on, transition_on}
+use Rattle.dac_model_node.specs.EventRefusals.{refusal_off, refusal_by}
+use Rattle.dac_model_node.specs.Transitions.{moment_of}
+use Rattle.dac_model_node.specs.Step.{accepted, goes_on}
 use Rattle.dac_model_node.specs.laws.Numbers.{fits}
-use Rattle.dac_model_node.specs.laws.Options.{some_same}
 use Rattle.dac_model_node.specs.laws.Writing.{no_off}
-use Rattle.dac_model_world.specs.ModelWorld.{ModelWorld, InEachRun, Run, Step, start, happens, happens_by, answered_by, event_of, with_node, counted, shipped_by}
+use Rattle.dac_model_world.specs.ModelWorld.{Step, happens_by, event_of, with_node, counted}
 use Rattle.dac_model_world.specs.SetWorld.{SetWorld, set_step, no_sets}
 use Rattle.dac_model_world.specs.laws.Carried.{none_some}
 use Rattle.dac_model_world.specs.laws.OneNode.{own_origin}
-use Rattle.dac_model_world.specs.laws.Operations.{Agree-within, DistinctDots-agree}
 use Rattle.dac_model_world.specs.laws.Runs.{run_first}
 use Rattle.dac_model_world.specs.laws.Sound.{Answer, Sound, held_at, hears, sound_step, sound_start}
-use Rattle.dac_in_form.specs.InForm.{AreInForm}
-use Rattle.dac_in_form.specs.HeldForm.{HeldAreInForm}
-use Rattle.dac_in_form.specs.Issued.{RunIsInForm}
 use Rattle.dac_in_form.proofs.MayIssue.{MayIssue, MeaningsMayIssue}
 use Rattle.dac_in_form.proofs.Claims.{one_more}
 use Rattle.dac_in_form.proofs.Heads.{IsHead, AreGot, heads_more, head_at}

@@ -1,33 +1,20 @@
 -- The transition of an accepted event: its operations, its message and its peer table are in form.
 use Rattle.std.proofs.Common.{◌≡◌, ℕ, ◌<◌, ◌≤◌, nat_eq, List, [], ◌∷◌, length, None, refl, arith, leb-false}
-use Rattle.std.specs.List.{AllByRecursion}
-use Rattle.dac_base.specs.declared.limits.TheConstants.{MAX_COUNTER}
-use Rattle.dac_base.specs.declared.NodeId.{NodeId}
-use Rattle.dac_config.specs.Table.{Table, node_count, app_count}
+use Rattle.dac_in_form.proofs.Common.{AllByRecursion, MAX_COUNTER, NodeId, Table, node_count, app_count, Note, waits_of, UnknownNode, UpToDate, Message, Event, Boot, Crash, Tick, Ship, Hear, HearOp, no_node, none_is, ModelRunning, joined, running_shown, refusal_on, Transition, note_of, transition_on, shipped_by, AreInForm}
 use Rattle.dac_placement.specs.Placement.{apps_of}
-use Rattle.dac_decide.specs.FailoverWait.{Note, waits_of}
 use Rattle.dac_decide.specs.declared.start_gate.Opening.{Opening}
 use Rattle.dac_decide.specs.declared.start_gate.Opening.TheVariants.{Shut, Opened, GiveUp}
-use Rattle.dac_events.specs.declared.refusal.Refusal.TheVariants.{UnknownNode, OnSelf, UpToDate}
-use Rattle.dac_messages.specs.declared.message.Message.{Message}
-use Rattle.dac_messages.specs.declared.event.Event.{Event}
-use Rattle.dac_messages.specs.declared.event.Event.TheVariants.{Boot, Crash, Command as Commanded, Tick, Ship, Hear, HearOp}
-use Rattle.dac_commands.specs.Causes.{no_node}
-use Rattle.dac_commands.specs.laws.Written.{none_is}
+use Rattle.dac_events.specs.declared.refusal.Refusal.TheVariants.{OnSelf}
+use Rattle.dac_messages.specs.declared.event.Event.TheVariants.{Command as Commanded}
 use Rattle.dac_ticks.specs.Ticks.{sweep_of}
 use Rattle.dac_ticks.specs.laws.Sweeping.{apps_below}
 use Rattle.dac_ticks.specs.laws.Words.{sweep_in_words}
 use Rattle.dac_peers.specs.Peers.{is_up_to_date}
 use Rattle.dac_model_node.specs.Effect.{issued_by}
-use Rattle.dac_model_node.specs.ModelNode.{ModelRunning, joined, running_shown}
-use Rattle.dac_model_node.specs.EventRefusals.{refusal_on}
-use Rattle.dac_model_node.specs.Transitions.{Transition, note_of, opening_at, ticks_by}
-use Rattle.dac_model_node.specs.Step.{transition_on}
+use Rattle.dac_model_node.specs.Transitions.{opening_at, ticks_by}
 use Rattle.dac_model_node.specs.laws.Counters.{leaves_room}
 use Rattle.dac_model_node.specs.laws.Numbers.{obeyed}
 use Rattle.dac_model_node.specs.laws.Writing.{no_on}
-use Rattle.dac_model_world.specs.ModelWorld.{shipped_by}
-use Rattle.dac_in_form.specs.InForm.{AreInForm}
 use Rattle.dac_in_form.proofs.MayIssue.{MayIssue}
 use Rattle.dac_in_form.proofs.Commands.{command_is}
 use Rattle.dac_in_form.proofs.Claims.{one_more, sweep_is}

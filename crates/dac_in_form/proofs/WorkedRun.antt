@@ -1,60 +1,27 @@
 -- The worked run: the node knows of its boot alone, so that the lists of its state have one item or none.
-use Rattle.std.specs.Prelude.{◌≡◌, ℕ, zero, suc, ◌<◌, ◌^◌, Bool, true, false, cond, not, ◌&&◌, nat_lt, List, [], ◌∷◌, length, Option, None, Some, Result, Ok, refl}
+use Rattle.std.specs.Prelude.{◌≡◌, ℕ, zero, suc, ◌<◌, ◌^◌, Bool, true, false, cond, not, List, [], ◌∷◌, length, Option, None, Some, Result, Ok, refl}
 use Rattle.std.proofs.Common.{sym, ap, subst, ◌∙◌, inl, arith}
+use Rattle.dac_in_form.proofs.Common.{◌&&◌, nat_lt, Ordering, IsTotalOrder, AllByRecursion, slice_get, option_map, CmpEqualImpliesEq, NodeId, Dot, Dots, origin_cmp, in_order, origins_total, exact_origins, Row, rows_of, dots_in, dots_in_row, one_to, kept_are, Life, Key, key_cmp, keys_total, exact_keys, Write, writes_total, exact_writes, writes_of, AreStarts, dots_stored, starts_again, DotFlags, AreKeyedVotes, votes_of, votes_again, votes_stored, Operation, StateValue, meaning_of, heard_of, known_of, permits_of, starts_of, is_replaced, Position, Message, Ship, WorldEvent, UnknownNode, UpToDate, refusal_of, ModelNode, ModelRunning, joined, running_shown, shown, message_of, up, comes_up, step_by, ModelWorld, Run, start, happens, answered_by, ContextFits, VotesFit, StartsFit, StateFits, BodyFits, first_origin, second_origin, worked_table}
 use Rattle.std.proofs.lemmas.Bool.{le-ltb}
-use Rattle.std.specs.declared.cmp.Ordering.{Ordering}
-use Rattle.std.specs.Cmp.{IsTotalOrder}
-use Rattle.std.specs.List.{AllByRecursion, slice_get}
-use Rattle.std.specs.Option.{option_map, option_and_then}
+use Rattle.std.specs.Option.{option_and_then}
 use Rattle.std.specs.FinSet as set
 use Rattle.std.specs.FinMap as map
-use Rattle.std.proofs.lemmas.Map.Lookups.{CmpEqualImpliesEq}
-use Rattle.dac_base.specs.declared.NodeId.{NodeId}
-use Rattle.dac_origins.specs.declared.dot.Dot.{Dot}
-use Rattle.dac_origins.specs.Dots.{Dots, origin_cmp}
-use Rattle.dac_origins.specs.InOrder.{in_order}
-use Rattle.dac_origins.specs.laws.Dots.{origins_total, exact_origins}
-use Rattle.dac_dots.specs.Rows.{Row, rows_of, dots_in, dots_in_row, one_to}
-use Rattle.dac_dots.specs.laws.RowSets.{kept_are}
-use Rattle.dac_chains.specs.declared.lives.Life.{Life}
-use Rattle.dac_wishes.specs.declared.key.Key.{Key}
-use Rattle.dac_wishes.specs.Keys.{key_cmp}
-use Rattle.dac_wishes.specs.laws.Keys.{keys_total, exact_keys}
-use Rattle.dac_wishes.specs.Writes.{Write}
-use Rattle.dac_wishes.specs.laws.Writes.{writes_total, exact_writes}
-use Rattle.dac_wishes.specs.StoredWishes.{writes_of}
-use Rattle.dac_wishes.specs.StartsByKey.{AreStarts}
-use Rattle.dac_wishes.specs.laws.StartsByKey.{dots_stored, starts_again}
-use Rattle.dac_wishes.specs.StoredVotes.{DotFlags, AreKeyedVotes, votes_of}
-use Rattle.dac_wishes.specs.laws.VotesByKey.{votes_again, votes_stored}
-use Rattle.dac_operations.specs.Operations.{Operation}
-use Rattle.dac_meaning.specs.StateValue.{StateValue}
-use Rattle.dac_meaning.specs.Meaning.{meaning_of, heard_of, known_of, permits_of, starts_of, standing_drains, is_replaced}
+use Rattle.dac_meaning.specs.Meaning.{standing_drains}
 use Rattle.dac_meaning.specs.laws.StateLaws.{bottom-join}
 use Rattle.dac_meaning.specs.laws.Joins.{meaning-state}
-use Rattle.dac_peers.specs.declared.positions.Position.{Position}
 use Rattle.dac_peers.specs.Peers.{no_peers, acked_by, acked_at, kept_from, begins, has_all}
-use Rattle.dac_messages.specs.declared.message.Message.{Message}
-use Rattle.dac_messages.specs.declared.event.Event.TheVariants.{Ship}
 use Rattle.dac_messages.specs.declared.reply.Reply.{Reply}
 use Rattle.dac_messages.specs.declared.reply.Reply.TheVariants.{Booted, Shipped}
-use Rattle.dac_events.specs.declared.WorldEvent.{WorldEvent}
 use Rattle.dac_events.specs.declared.What.TheVariants.{Ship as Shipping}
 use Rattle.dac_events.specs.declared.world_fault.WorldFault.{WorldFault}
 use Rattle.dac_events.specs.declared.refusal.Refusal.{Refusal}
-use Rattle.dac_events.specs.declared.refusal.Refusal.TheVariants.{UnknownNode, OnSelf, UpToDate}
+use Rattle.dac_events.specs.declared.refusal.Refusal.TheVariants.{OnSelf}
 use Rattle.dac_commands.specs.Causes.{first}
 use Rattle.dac_model_node.specs.NodeValue.{RunningValue}
-use Rattle.dac_model_node.specs.EventRefusals.{refusal_of}
-use Rattle.dac_model_node.specs.ModelNode.{ModelNode, ModelRunning, joined, running_shown, shown}
-use Rattle.dac_model_node.specs.Transitions.{message_of, body_from}
-use Rattle.dac_model_node.specs.Step.{up, comes_up, step_by}
+use Rattle.dac_model_node.specs.Transitions.{body_from}
 use Rattle.dac_model_world.specs.Histories.{off_after}
-use Rattle.dac_model_world.specs.ModelWorld.{ModelWorld, WorldStepped, Run, Shows, numbered, start, happens, answered_by}
+use Rattle.dac_model_world.specs.ModelWorld.{WorldStepped, Shows, numbered}
 use Rattle.dac_model_world.specs.WorldValue.{WorldValue}
-use Rattle.dac_in_form.specs.InForm.{ContextFits, VotesFit, StartsFit, StateFits}
-use Rattle.dac_in_form.specs.HeldForm.{BodyFits}
-use Rattle.dac_in_form.specs.WorkedState.{first_origin, second_origin, worked_table}
 use Rattle.dac_in_form.specs.WorkedRun.{boot_and_ship, RunsCanFit}
 use Rattle.dac_in_form.proofs.WorkedState.{plain, in_order_none}
 

@@ -1,51 +1,25 @@
 -- The worked state fits: the rows of its dots, and its votes and start wishes by key, are lists of one or two.
-use Rattle.std.specs.Prelude.{◌≡◌, ℕ, ◌+◌, ◌-◌, ◌*◌, ◌<◌, ◌≤◌, ◌^◌, Bool, true, false, not, cond, ◌&&◌, ◌||◌, nat_eq, List, [], ◌∷◌, length, get_or, None, Some, refl}
+use Rattle.std.specs.Prelude.{◌≡◌, ℕ, ◌+◌, ◌-◌, ◌*◌, ◌<◌, ◌≤◌, ◌^◌, Bool, true, false, not, cond, ◌||◌, nat_eq, List, [], ◌∷◌, length, get_or, None, Some, refl}
 use Rattle.std.proofs.Common.{sym, ap, subst, ◌∙◌, inl, inr, arith}
+use Rattle.dac_in_form.proofs.Common.{◌&&◌, Ordering, eq_by_cmp, IsTotalOrder, AllByRecursion, find, CmpEqualImpliesEq, the_limits, Dot, Origin, Dots, dot, dot_cmp, origin_cmp, in_order, dots_total, exact_dots, origins_total, exact_origins, Row, rows_of, dots_in, dots_in_row, one_to, kept_are, Flag, Key, key_cmp, keys_total, exact_keys, Write, write, writes_total, exact_writes, writes_of, AreStarts, dots_stored, starts_again, DotFlags, AreKeyedVotes, votes_of, votes_again, votes_stored, Up, Operation, IsOperationOf, meaning_of, heard_of, known_of, permits_of, starts_of, is_replaced, IsIncarnation, IsOrigin, IsDot, Two, IsKey, IsOperation, AreOver, ContextFits, VotesFit, StartsFit, StateFits, AreInForm, first_origin, second_origin, worked_table}
 use Rattle.std.proofs.lemmas.Bool.{false≢true}
-use Rattle.std.specs.declared.cmp.Ordering.{Ordering}
-use Rattle.std.specs.Ordering.{eq_by_cmp}
-use Rattle.std.specs.Cmp.{IsTotalOrder}
-use Rattle.std.specs.List.{AllByRecursion}
 use Rattle.std.specs.FinSet as set
-use Rattle.std.specs.FinMap.{find}
-use Rattle.std.proofs.lemmas.Map.Lookups.{CmpEqualImpliesEq}
-use Rattle.dac_base.specs.Limits.{the_limits}
-use Rattle.dac_origins.specs.declared.dot.Dot.{Dot}
-use Rattle.dac_origins.specs.declared.dot.Origin.{Origin}
-use Rattle.dac_origins.specs.Dots.{Dots, dot, dot_cmp, origin_cmp}
-use Rattle.dac_origins.specs.InOrder.{in_order}
-use Rattle.dac_origins.specs.laws.Dots.{dots_total, exact_dots, origins_total, exact_origins}
 use Rattle.dac_origins.specs.laws.InOrder.{in_order-one}
-use Rattle.dac_dots.specs.Rows.{Row, rows_of, dots_in, dots_in_row, one_to, IsKept}
-use Rattle.dac_dots.specs.laws.RowSets.{kept_are}
+use Rattle.dac_dots.specs.Rows.{IsKept}
 use Rattle.dac_lattice.specs.Chains.{IsAny}
-use Rattle.dac_lattice.specs.declared.flags.Flag.{Flag}
 use Rattle.dac_lattice.specs.declared.flags.Flag.TheVariants.{Down}
 use Rattle.dac_lattice.specs.Lattices.{IsOptionOf}
 use Rattle.dac_lattice.specs.Maps.{IsMap}
 use Rattle.dac_store.specs.DotFuns.{is_empty_list}
 use Rattle.dac_store.specs.DotSets.{is_empty_set}
 use Rattle.dac_store.specs.DotMaps.{IsKept as IsKeptStore, store_at}
-use Rattle.dac_wishes.specs.declared.key.Key.{Key}
-use Rattle.dac_wishes.specs.Keys.{key_cmp, same_key}
-use Rattle.dac_wishes.specs.laws.Keys.{keys_total, exact_keys}
+use Rattle.dac_wishes.specs.Keys.{same_key}
 use Rattle.dac_wishes.specs.KeyedWrites.{same_dot}
-use Rattle.dac_wishes.specs.Writes.{Write, Writes, write, write_cmp}
-use Rattle.dac_wishes.specs.laws.Writes.{writes_total, exact_writes, same_write}
-use Rattle.dac_wishes.specs.StoredWishes.{writes_of}
-use Rattle.dac_wishes.specs.StartsByKey.{AreStarts}
-use Rattle.dac_wishes.specs.laws.StartsByKey.{contains-writes_of, dots_stored, starts_again}
-use Rattle.dac_wishes.specs.StoredVotes.{DotFlags, AreKeyedVotes, votes_of}
-use Rattle.dac_wishes.specs.laws.VotesByKey.{votes_again, votes_stored}
-use Rattle.dac_operations.specs.declared.act.Act.TheVariants.{Up}
-use Rattle.dac_operations.specs.Operations.{Operation}
-use Rattle.dac_meaning.specs.Meaning.{IsOperationOf, meaning_of, heard_of, known_of, permits_of, starts_of, standing_drains, is_replaced}
-use Rattle.dac_bytes.specs.Ranges.{IsIncarnation, IsOrigin, IsDot}
-use Rattle.dac_bytes.specs.declared.version.Version.TheVariants.{Two}
-use Rattle.dac_part_bytes.specs.KeyedForm.{IsKey}
-use Rattle.dac_wire.specs.Form.{IsOperation, AreOver}
-use Rattle.dac_in_form.specs.InForm.{ContextFits, VotesFit, StartsFit, StateFits, AreInForm}
-use Rattle.dac_in_form.specs.WorkedState.{first_origin, second_origin, the_key, worked_table, issued_by, worked_set, StatesCanFit}
+use Rattle.dac_wishes.specs.Writes.{Writes, write_cmp}
+use Rattle.dac_wishes.specs.laws.Writes.{same_write}
+use Rattle.dac_wishes.specs.laws.StartsByKey.{contains-writes_of}
+use Rattle.dac_meaning.specs.Meaning.{standing_drains}
+use Rattle.dac_in_form.specs.WorkedState.{the_key, issued_by, worked_set, StatesCanFit}
 
 -- ---- dots
 

@@ -1,3 +1,4 @@
+mod Common
 mod Followed
 mod Passed
 mod Repeated

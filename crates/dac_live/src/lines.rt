@@ -2,7 +2,6 @@
 
 ghost use Rattle.std.specs.Prelude.{◌≡◌, ◌++◌, true, map, length, IfOk};
 ghost use Rattle.std.specs.Option.{option_copied};
-ghost use Rattle.dac_crews.specs.Compared.{found};
 ghost use Rattle.dac_live.specs.Lines.{told_one, told_in, told_of, Answers, LinesAnswered, AreAnswered};
 
 use crate::lists::AnswerList;

@@ -1,5 +1,5 @@
 -- From the results of the run and the weave to the result of the script.
-use Rattle.std.proofs.Common.{◌≡◌, List, Result, Ok, Err, true≢false, Bor, map, sym, ap, subst, ◌∙◌}
+use Rattle.std.proofs.Common.{◌≡◌, List, Ok, Err, true≢false, Bor, map, sym, ap, subst, ◌∙◌}
 use Rattle.std.specs.Result.{is_ok}
 use Rattle.dac_config.specs.Table.{Table}
 use Rattle.dac_script.specs.declared.live_line.LiveLine.{LiveLine}

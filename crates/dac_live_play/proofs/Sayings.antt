@@ -10,7 +10,6 @@ use Rattle.std.proofs.lemmas.List.Elements.{All-head, All-tail}
 use Rattle.std.proofs.lemmas.List.FromFn.{map-range_with_len_more, length-map-range_with_len}
 use Rattle.dac_config.specs.Canonical.{canonical_text}
 use Rattle.dac_base.specs.declared.NoMemory.{NoMemory}
-use Rattle.dac_config.specs.Says.{IsConfigOf}
 use Rattle.dac_config.specs.Table.{Table, node_count}
 use Rattle.dac_events.specs.declared.WorldEvent.{WorldEvent}
 use Rattle.dac_shapes.specs.declared.limits.TheConstants.{MAX_TEXT}
@@ -23,7 +22,6 @@ use Rattle.dac_script.specs.declared.line.ScriptLine.{ScriptLine}
 use Rattle.dac_script.specs.declared.line.ScriptLine.TheVariants as says
 use Rattle.dac_script.specs.Forms.{Spells}
 use Rattle.dac_script.specs.Input.{IsTaken, IsParted, divider, with_feeds}
-use Rattle.dac_script.specs.Inputs.{SaysScript}
 use Rattle.dac_script.specs.InWords.{LinesInWords}
 use Rattle.dac_script.specs.LineFaults.{HasFault, IsFaultless}
 use Rattle.dac_script.specs.Script.{lines_of, is_said, ReadsAs, IsFirstFault, IsScriptFailure}

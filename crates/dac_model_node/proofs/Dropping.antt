@@ -1,22 +1,14 @@
 -- Which deltas a node drops.
 use Rattle.std.proofs.Common.{◌≡◌, ◌⊎◌, ◌↔◌, ℕ, ◌+◌, ◌-◌, ◌<◌, ◌≤◌, Bool, true, false, length, Option, Some, None, inl, inr, refl, sym, ap, subst, ◌∙◌, arith}
-use Rattle.std.specs.Prelude.{min, max, nat_eq, nat_lt}
-use Rattle.std.proofs.lemmas.Bool.{ltb-true, ltb-false, eqb-true, eqb-false}
-use Rattle.dac_base.specs.declared.NodeId.{NodeId}
-use Rattle.dac_meaning.specs.StateValue.{StateValue}
-use Rattle.dac_config.specs.Table.{Table, node_count}
-use Rattle.dac_deltas.specs.KeptDeltas.{KeptDeltas}
-use Rattle.dac_deltas.specs.declared.buffer.TheConstants.{MAX_DELTAS}
-use Rattle.dac_messages.specs.declared.event.Event.{Event}
-use Rattle.dac_messages.specs.declared.event.Event.TheVariants.{Boot, Crash, Command as Commanded, Tick, Ship, Hear, HearOp}
-use Rattle.dac_messages.specs.declared.reply.Reply.{Reply}
-use Rattle.dac_messages.specs.declared.reply.Reply.TheVariants.{Booted, Crashed, Issued, Ticked, Held, GaveUp, Shipped, Heard}
-use Rattle.dac_peers.specs.Peers.{PeersValue, number_acked, acked_by_all}
+use Rattle.dac_model_node.specs.laws.Common.{min, max, nat_eq, nat_lt, ltb-true, ltb-false, eqb-true, NodeId, StateValue, Table, node_count, KeptDeltas, MAX_DELTAS, Event, Boot, Crash, Tick, Ship, Hear, HearOp, Reply, Ticked, Held, Shipped, PeersValue, RunningValue, LeavesRunning, RunsOn, deltas_in, had_by_all}
+use Rattle.std.proofs.lemmas.Bool.{eqb-false}
+use Rattle.dac_messages.specs.declared.event.Event.TheVariants.{Command as Commanded}
+use Rattle.dac_messages.specs.declared.reply.Reply.TheVariants.{Booted, Crashed, Issued, GaveUp, Heard}
+use Rattle.dac_peers.specs.Peers.{number_acked, acked_by_all}
 use Rattle.dac_peers.specs.InWords.{IsNumberOf, IsOther}
 use Rattle.dac_peers.specs.laws.Least.{is_number, number_is, all_have_the_least}
-use Rattle.dac_model_node.specs.NodeValue.{RunningValue}
 use Rattle.dac_model_node.specs.Refused.{Some! }
-use Rattle.dac_model_node.specs.Keeping.{KeepsBy, LeavesRunning, RunsOn, deltas_in, had_by_all}
+use Rattle.dac_model_node.specs.Keeping.{KeepsBy}
 use Rattle.dac_model_node.specs.Dropping.{AllHave, IsHadByAll, DropsSo, DropsInWords}
 
 -- ---- the base

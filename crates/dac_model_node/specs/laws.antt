@@ -1,3 +1,4 @@
+pub mod Common
 pub mod Options
 pub mod Steps
 pub mod Heard

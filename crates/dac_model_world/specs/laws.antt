@@ -1,3 +1,4 @@
+pub mod Common
 pub mod Operations
 pub mod Meanings
 pub mod HeardDots

@@ -1,6 +1,6 @@
 //! The effect of an accepted event, prepared before anything changes.
 
-ghost use Rattle.std.specs.Prelude.{◌≡◌, ◌<◌, ◌∷◌, [], not, IfOk, IfErr, MatchOption, None};
+ghost use Rattle.std.specs.Prelude.{◌≡◌, ◌<◌, ◌∷◌, [], IfOk, IfErr, MatchOption, None};
 ghost use Rattle.dac_base.specs.declared.limits.TheConstants.{MAX_INCARNATION};
 ghost use Rattle.dac_config.specs.Table.{Table};
 ghost use Rattle.dac_meaning.specs.Below.{is_below};

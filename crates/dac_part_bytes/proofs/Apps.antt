@@ -1,16 +1,13 @@
 -- The laws of an application's field.
-use Rattle.std.specs.Prelude.{ℕ, ◌+◌, ◌^◌, ◌<◌, ◌≤◌, Bool, cond, nat_lt, ◌++◌, length, Ok}
+use Rattle.std.specs.Prelude.{ℕ, ◌^◌, ◌<◌, ◌≤◌, Bool, cond, nat_lt, ◌++◌, length, Ok}
 use Rattle.std.specs.Int.{w16}
 use Rattle.std.proofs.Common.{ap, subst, ◌∙◌, arith}
+use Rattle.dac_part_bytes.proofs.Common.{◌+◌, AppId, Rest, fault, ◌>>=◌, number_at, TakesAs, Again, app_at, app_bytes}
 use Rattle.std.proofs.lemmas.Bool.{ltb-true, lt-ltb}
-use Rattle.dac_base.specs.declared.AppId.{AppId}
 use Rattle.dac_bytes.specs.declared.fault.ReadFaultKind.TheVariants.{BadName}
 use Rattle.dac_bytes.specs.laws.Fields.{u16_takes, u16_again}
-use Rattle.dac_bytes.specs.Reading.{Rest, fault, ◌>>=◌, number_at}
-use Rattle.dac_bytes.specs.Takes.{Takes, TakesAs, Again}
+use Rattle.dac_bytes.specs.Takes.{Takes}
 use Rattle.dac_bytes.specs.laws.Takes.{bind_ok, wanted_ok}
-use Rattle.dac_part_bytes.specs.Reading.{app_at}
-use Rattle.dac_part_bytes.specs.Spelling.{app_bytes}
 
 abbrev numbered : ℕ → AppId
 numbered n = record { 0 = n }

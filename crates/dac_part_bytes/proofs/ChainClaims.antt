@@ -1,31 +1,20 @@
 -- The laws of a claim's fields.
-use Rattle.std.specs.Prelude.{◌≡◌, ℕ, zero, suc, ◌+◌, ◌^◌, ◌<◌, ◌≤◌, Bool, true, false, cond, nat_lt, List, ◌++◌, Option, None, Some, Ok, refl}
-use Rattle.std.specs.Int.{w8}
+use Rattle.std.specs.Prelude.{◌≡◌, ℕ, ◌^◌, ◌<◌, ◌≤◌, Bool, true, false, cond, nat_lt, List, ◌++◌, Option, None, Some, Ok, refl}
 use Rattle.std.proofs.Common.{sym, ap, subst, arith, append_assoc}
+use Rattle.dac_part_bytes.proofs.Common.{zero, suc, ◌+◌, w8, NodeId, AppId, app_cmp, Origin, Claim, Table, node_count, app_count, BadOrder, u8_in_takes, u8_in_again, u8_bytes, u16_bytes, IsOrigin, Rest, fault, ◌>>=◌, number_at, range_at, origin_at, is_above, origin_bytes, TakesAs, Again, TakesAs-more, TakesAs-made, TakesAs-both, TakesAs-wanted, Again-made, Again-both, Again-wanted, IsNext, app_at, claim_at, app_bytes, claim_bytes, Version}
 use Rattle.std.proofs.lemmas.Bool.{ltb-true, ltb-false, lt-ltb, le-ltb, eqb-true}
-use Rattle.dac_base.specs.declared.NodeId.{NodeId}
-use Rattle.dac_base.specs.declared.AppId.{AppId}
-use Rattle.dac_base.specs.Ids.{app_cmp}
 use Rattle.dac_base.specs.declared.limits.TheConstants.{MAX_COUNTER}
-use Rattle.dac_origins.specs.declared.dot.Origin.{Origin}
-use Rattle.dac_chains.specs.declared.claims.Claim.{Claim}
 use Rattle.dac_chains.specs.declared.claims.How.{How}
 use Rattle.dac_chains.specs.declared.claims.How.TheVariants.{Normal, Failover, Takeover}
-use Rattle.dac_config.specs.Table.{Table, node_count, app_count}
-use Rattle.dac_bytes.specs.declared.fault.ReadFaultKind.TheVariants.{BadNumber, BadOrder, BadName, NotInList}
-use Rattle.dac_bytes.specs.laws.Fields.{u8_takes, u8_again, u8_in_takes, u8_in_again, counter_takes, counter_again, origin_takes, origin_again}
-use Rattle.dac_bytes.specs.Numbers.{u8_bytes, u16_bytes, u64_bytes}
-use Rattle.dac_bytes.specs.Ranges.{IsOrigin}
-use Rattle.dac_bytes.specs.Reading.{Rest, fault, ◌>>=◌, number_at, range_at, counter_at, origin_at, is_above}
-use Rattle.dac_bytes.specs.Spelling.{origin_bytes}
-use Rattle.dac_bytes.specs.Takes.{TakesAs, Again}
-use Rattle.dac_bytes.specs.laws.Takes.{TakesAs-more, TakesAs-made, TakesAs-both, TakesAs-guard, TakesAs-wanted, Again-made, Again-both, Again-guard, Again-wanted}
-use Rattle.dac_bytes.specs.laws.Ascending.{IsNext}
+use Rattle.dac_bytes.specs.declared.fault.ReadFaultKind.TheVariants.{BadNumber, BadName, NotInList}
+use Rattle.dac_bytes.specs.laws.Fields.{u8_takes, u8_again, counter_takes, counter_again, origin_takes, origin_again}
+use Rattle.dac_bytes.specs.Numbers.{u64_bytes}
+use Rattle.dac_bytes.specs.Reading.{counter_at}
+use Rattle.dac_bytes.specs.laws.Takes.{TakesAs-guard, Again-guard}
 use Rattle.dac_part_bytes.specs.ChainForm.{IsConsistentOrigin, IsClaimInForm}
-use Rattle.dac_part_bytes.specs.Reading.{app_at, is_listed, how_of, how_at, from_code_at, is_from_of, fitting_code_at, from_of, from_at, manner_at, claimer_at, claim_of, term_and_claimer_at, claim_fields_at, listed_claim_at, claim_at}
-use Rattle.dac_part_bytes.specs.Spelling.{app_bytes, how_code, from_code, manner_bytes, claim_bytes}
+use Rattle.dac_part_bytes.specs.Reading.{is_listed, how_of, how_at, from_code_at, is_from_of, fitting_code_at, from_of, from_at, manner_at, claimer_at, claim_of, term_and_claimer_at, claim_fields_at, listed_claim_at}
+use Rattle.dac_part_bytes.specs.Spelling.{how_code, from_code, manner_bytes}
 use Rattle.dac_part_bytes.proofs.Apps.{app_takes, app_again}
-use Rattle.dac_bytes.specs.declared.version.Version.{Version}
 
 -- ---- how an application came to its node
 

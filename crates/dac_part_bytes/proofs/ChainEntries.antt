@@ -1,16 +1,9 @@
 -- Finite maps that are read and spelled by their entries in order.
 use Rattle.std.specs.Prelude.{ℕ, List, ◌++◌, length, map as list_map, Option, Ok}
-use Rattle.std.specs.List.{flat_map, AllByRecursion}
 use Rattle.std.proofs.Common.{ap, subst}
-use Rattle.std.specs.declared.cmp.Ordering.{Ordering}
-use Rattle.std.specs.Cmp.{IsTotalOrder}
+use Rattle.dac_part_bytes.proofs.Common.{flat_map, AllByRecursion, Ordering, IsTotalOrder, CmpEqualImpliesEq, IsRising, Rest, Field, ◌>>=◌, counted_at, TakesAs, Again, TakesAs-made, Again-made, IsNext}
 use Rattle.std.specs.FinMap as map
-use Rattle.std.proofs.lemmas.Map.Lookups.{CmpEqualImpliesEq}
-use Rattle.dac_origins.specs.Keys.{IsRising}
-use Rattle.dac_bytes.specs.Reading.{Rest, Field, ◌>>=◌, counted_at}
-use Rattle.dac_bytes.specs.Takes.{TakesAs, Again}
-use Rattle.dac_bytes.specs.laws.Takes.{TakesAs-made, Again-made}
-use Rattle.dac_bytes.specs.laws.Ascending.{IsNext, counted_takes, counted_again}
+use Rattle.dac_bytes.specs.laws.Ascending.{counted_takes, counted_again}
 use Rattle.dac_part_bytes.proofs.Entries.{entries_rise, map_of_entries, entries_of_map}
 
 module _ {K V : Type 0} {R : K → K → Ordering} (o : IsTotalOrder R) (exact : CmpEqualImpliesEq R) (Q : K × V → Type 0) where

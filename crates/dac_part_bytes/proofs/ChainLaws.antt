@@ -1,25 +1,17 @@
 -- The codecs of lives and claims: a part that is read is well-formed, with these bytes as its spelling, and each
 -- well-formed one is read from its spelling.
 use Rattle.std.specs.Prelude.{ℕ, ◌<◌, ◌≤◌, ◌^◌, length}
-use Rattle.std.specs.List.{AllByRecursion}
-use Rattle.std.specs.Int.{w8, w16}
+use Rattle.dac_part_bytes.proofs.Common.{AllByRecursion, w8, nodes_total, apps_total, exact_nodes, exact_apps, Table, node_count, app_count, u8_bytes, u16_bytes, number_at, TakesAs, Again, TakesAs-more, life_at, all_lives_at, claim_at, all_claims_at, life_bytes, lives_bytes, claim_bytes, claims_bytes, Version}
+use Rattle.std.specs.Int.{w16}
 use Rattle.std.specs.FinMap as map
-use Rattle.dac_base.specs.laws.Ids.{nodes_total, apps_total, exact_nodes, exact_apps}
 use Rattle.dac_chains.specs.Lives.{Lives}
 use Rattle.dac_chains.specs.Claims.{Claims}
-use Rattle.dac_config.specs.Table.{Table, node_count, app_count}
 use Rattle.dac_bytes.specs.laws.Fields.{u8_takes, u8_again, u16_takes, u16_again}
-use Rattle.dac_bytes.specs.Numbers.{u8_bytes, u16_bytes}
-use Rattle.dac_bytes.specs.Reading.{number_at}
-use Rattle.dac_bytes.specs.Takes.{TakesAs, Again}
-use Rattle.dac_bytes.specs.laws.Takes.{TakesAs-more}
 use Rattle.dac_part_bytes.proofs.ChainClaims.{claim_takes, claim_again}
 use Rattle.dac_part_bytes.proofs.ChainEntries.{map_takes, map_again}
 use Rattle.dac_part_bytes.specs.ChainForm.{IsLifeInForm, AreLivesInForm, IsClaimInForm, AreClaimsInForm}
 use Rattle.dac_part_bytes.proofs.ChainLives.{life_takes, life_again}
-use Rattle.dac_part_bytes.specs.Reading.{life_at, lives_in_order_at, all_lives_at, claim_at, claims_in_order_at, all_claims_at}
-use Rattle.dac_part_bytes.specs.Spelling.{life_bytes, lives_bytes, claim_bytes, claims_bytes}
-use Rattle.dac_bytes.specs.declared.version.Version.{Version}
+use Rattle.dac_part_bytes.specs.Reading.{lives_in_order_at, claims_in_order_at}
 
 -- Lives that are read are well-formed, with these bytes as their spelling.
 pub lives_takes : (version : Version) (nodes : ℕ) → TakesAs (all_lives_at version nodes) (lives_bytes version) (AreLivesInForm version nodes)

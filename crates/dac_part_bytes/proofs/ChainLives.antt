@@ -1,25 +1,14 @@
 -- The laws of the fields of a life.
-use Rattle.std.specs.Prelude.{◌≡◌, ℕ, zero, suc, ◌^◌, ◌<◌, ◌≤◌, true, List, ◌++◌, Option, refl}
-use Rattle.std.specs.Int.{w8}
+use Rattle.std.specs.Prelude.{◌≡◌, ℕ, ◌^◌, ◌<◌, ◌≤◌, true, List, ◌++◌, Option, refl}
 use Rattle.std.proofs.Common.{sym, ap, subst, arith, append_assoc}
-use Rattle.dac_base.specs.declared.NodeId.{NodeId}
-use Rattle.dac_base.specs.Ids.{node_cmp}
-use Rattle.dac_lattice.specs.declared.flags.Flag.{Flag}
-use Rattle.dac_lattice.specs.declared.flags.Flag.TheVariants.{Up, Down}
-use Rattle.dac_chains.specs.declared.lives.Life.{Life}
-use Rattle.dac_bytes.specs.declared.fault.ReadFaultKind.TheVariants.{BadOrder}
-use Rattle.dac_bytes.specs.laws.Fields.{u8_in_takes, u8_in_again, incarnation_takes, incarnation_again, node_takes, node_again}
-use Rattle.dac_bytes.specs.Numbers.{u8_bytes}
+use Rattle.dac_part_bytes.proofs.Common.{zero, suc, w8, NodeId, node_cmp, Flag, Up, Down, Life, BadOrder, u8_in_takes, u8_in_again, u8_bytes, range_at, is_above, TakesAs, Again, TakesAs-both, TakesAs-wanted, Again-both, Again-wanted, IsNext, life_at, life_bytes, Version}
+use Rattle.dac_bytes.specs.laws.Fields.{incarnation_takes, incarnation_again, node_takes, node_again}
 use Rattle.dac_bytes.specs.Ranges.{IsIncarnation}
 use Rattle.dac_bytes.specs.Spelling.{incarnation_bytes}
-use Rattle.dac_bytes.specs.Reading.{range_at, node_at, incarnation_at, is_above}
-use Rattle.dac_bytes.specs.Takes.{TakesAs, Again}
-use Rattle.dac_bytes.specs.laws.Takes.{TakesAs-both, TakesAs-wanted, Again-both, Again-wanted}
-use Rattle.dac_bytes.specs.laws.Ascending.{IsNext}
+use Rattle.dac_bytes.specs.Reading.{node_at, incarnation_at}
 use Rattle.dac_part_bytes.specs.ChainForm.{IsLifeInForm}
-use Rattle.dac_part_bytes.specs.Reading.{node_above_at, flag_of, inc_and_flag_at, life_at}
-use Rattle.dac_part_bytes.specs.Spelling.{down_code, life_bytes}
-use Rattle.dac_bytes.specs.declared.version.Version.{Version}
+use Rattle.dac_part_bytes.specs.Reading.{node_above_at, flag_of, inc_and_flag_at}
+use Rattle.dac_part_bytes.specs.Spelling.{down_code}
 
 -- ---- up and down
 

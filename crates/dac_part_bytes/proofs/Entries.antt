@@ -2,16 +2,13 @@
 -- its entries.
 use Rattle.std.specs.Prelude.{◌≡◌, Bool, true, false, cond, ◌&&◌, T, List, [], ◌∷◌, map as list_map, Option, None, Some, is_some, unwrap_or, refl}
 use Rattle.std.proofs.Common.{sym, ap, subst, ◌∙◌, inl, inr}
-use Rattle.std.specs.declared.cmp.Ordering.{Ordering}
-use Rattle.std.specs.Ordering.{is_lt, is_eq, eq_by_cmp}
-use Rattle.std.specs.Cmp.{IsTotalOrder, tied_itself}
-use Rattle.std.specs.List.{AllByRecursion}
+use Rattle.dac_part_bytes.proofs.Common.{Ordering, is_eq, IsTotalOrder, tied_itself, AllByRecursion, find, false≢true, or_left, CmpEqualImpliesEq, IsRising}
+use Rattle.std.specs.Ordering.{is_lt, eq_by_cmp}
 use Rattle.std.specs.FinMap as map
-use Rattle.std.specs.FinMap.{find, is_sorted}
+use Rattle.std.specs.FinMap.{is_sorted}
 use Rattle.std.specs.FinMap.Entries.{below_all, same_entries}
-use Rattle.std.proofs.lemmas.Bool.{false≢true, or_left, or_right, or_cases}
-use Rattle.std.proofs.lemmas.Map.Lookups.{CmpEqualImpliesEq}
-use Rattle.dac_origins.specs.Keys.{is_below_all, is_rising, IsRising, has_key}
+use Rattle.std.proofs.lemmas.Bool.{or_right, or_cases}
+use Rattle.dac_origins.specs.Keys.{is_below_all, is_rising, has_key}
 use Rattle.dac_origins.specs.laws.InOrder.{tie}
 use Rattle.dac_lattice.specs.laws.Entries.{find_below}
 use Rattle.dac_lattice.specs.laws.EntryLaws.{first, second}

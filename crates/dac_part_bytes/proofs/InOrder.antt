@@ -1,17 +1,9 @@
 -- Nonempty lists and sets, and the dots of sets in order.
 use Rattle.std.specs.Prelude.{◌≡◌, ◌≤◌, false, List, [], ◌∷◌, length, refl}
 use Rattle.std.proofs.Common.{sym, ap, ◌∙◌, arith}
-use Rattle.std.specs.Ordering.{is_eq}
-use Rattle.std.specs.Cmp.{tied_itself}
+use Rattle.dac_part_bytes.proofs.Common.{is_eq, tied_itself, false≢true, or_left, Dot, dot_cmp, dots_total, exact_dots, in_order, in_order-one, is_empty_list, is_empty_set}
 use Rattle.std.specs.FinSet as set
-use Rattle.std.proofs.lemmas.Bool.{false≢true, or_left, eqb-true, false_from_ne_true}
-use Rattle.dac_origins.specs.declared.dot.Dot.{Dot}
-use Rattle.dac_origins.specs.Dots.{dot_cmp}
-use Rattle.dac_origins.specs.laws.Dots.{dots_total, exact_dots}
-use Rattle.dac_origins.specs.InOrder.{in_order}
-use Rattle.dac_origins.specs.laws.InOrder.{in_order-one}
-use Rattle.dac_store.specs.DotFuns.{is_empty_list}
-use Rattle.dac_store.specs.DotSets.{is_empty_set}
+use Rattle.std.proofs.lemmas.Bool.{eqb-true, false_from_ne_true}
 
 pub not_empty : {X : Type 0} (xs : List X) → 1 ≤ length xs → is_empty_list xs ≡ false
 not_empty [] h = absurd (omega arith)

@@ -1,6 +1,6 @@
 -- The spelling of a map to `Max` values, entry by entry, is the spelling of the map.
 use Rattle.std.proofs.Common.{◌≡◌, ℕ, ◌≤◌, List, ◌++◌, length, take, sym, ap, ◌∙◌, append_assoc}
-use Rattle.std.specs.List.{flat_map}
+use Rattle.dac_part_bytes.proofs.Common.{flat_map}
 use Rattle.std.proofs.lemmas.List.{take_all, length-map}
 use Rattle.std.proofs.lemmas.List.Folds.{flat_map-map}
 use Rattle.dac_lattice.specs.declared.chain.Max.{Max}

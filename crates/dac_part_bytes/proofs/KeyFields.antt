@@ -1,24 +1,14 @@
 -- The codecs of keys and known dots, the fields of permits, drains and start wishes.
 use Rattle.std.specs.Prelude.{◌≡◌, ℕ, ◌^◌, ◌<◌, ◌≤◌, true, Option, refl}
 use Rattle.std.specs.FinSet as set
-use Rattle.dac_origins.specs.declared.dot.Dot.{Dot}
-use Rattle.dac_origins.specs.Dots.{Dots, dot_cmp}
-use Rattle.dac_wishes.specs.declared.key.Key.{Key}
-use Rattle.dac_wishes.specs.Keys.{key_cmp}
-use Rattle.dac_config.specs.Table.{Table, node_count, app_count}
-use Rattle.dac_bytes.specs.declared.fault.ReadFaultKind.TheVariants.{BadOrder, NotInList, NotKnown}
-use Rattle.dac_bytes.specs.Ranges.{IsOrigin, IsDot}
-use Rattle.dac_bytes.specs.Reading.{origin_at, dot_above_at, is_above}
-use Rattle.dac_bytes.specs.Spelling.{origin_bytes, dot_bytes}
-use Rattle.dac_bytes.specs.Takes.{TakesAs, Again}
-use Rattle.dac_bytes.specs.laws.Takes.{TakesAs-more, TakesAs-wanted, TakesAs-both, Again-wanted, Again-both}
+use Rattle.dac_part_bytes.proofs.Common.{Dot, Dots, dot_cmp, Key, key_cmp, Table, node_count, app_count, BadOrder, IsOrigin, origin_at, is_above, origin_bytes, dot_bytes, TakesAs, Again, TakesAs-more, TakesAs-wanted, TakesAs-both, Again-wanted, Again-both, IsNext, app_at, key_above_at, known_dot_at, app_bytes, key_bytes, IsKey, IsKeyAbove, IsKnownDot, Version}
+use Rattle.dac_bytes.specs.declared.fault.ReadFaultKind.TheVariants.{NotInList, NotKnown}
+use Rattle.dac_bytes.specs.Ranges.{IsDot}
+use Rattle.dac_bytes.specs.Reading.{dot_above_at}
 use Rattle.dac_bytes.specs.laws.Fields.{origin_takes, origin_again, dot_above_takes, dot_above_again}
-use Rattle.dac_bytes.specs.laws.Ascending.{IsNext}
-use Rattle.dac_part_bytes.specs.Reading.{app_at, key_of, is_listed, key_fields_at, listed_key_at, key_above_at, known_dot_at}
-use Rattle.dac_part_bytes.specs.Spelling.{app_bytes, key_origin, key_bytes}
+use Rattle.dac_part_bytes.specs.Reading.{key_of, is_listed, key_fields_at, listed_key_at}
+use Rattle.dac_part_bytes.specs.Spelling.{key_origin}
 use Rattle.dac_part_bytes.proofs.Apps.{app_takes, app_again}
-use Rattle.dac_part_bytes.specs.KeyedForm.{IsKey, IsKeyAbove, IsKnownDot}
-use Rattle.dac_bytes.specs.declared.version.Version.{Version}
 
 -- ---- keys
 

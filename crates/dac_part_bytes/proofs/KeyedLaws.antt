@@ -1,37 +1,27 @@
 -- The codecs of permits, drains and start wishes: a part that is read is well-formed, with these bytes as its spelling,
 -- and each well-formed one is read from its spelling.
-use Rattle.std.specs.Prelude.{◌≡◌, ℕ, ◌+◌, ◌^◌, ◌≤◌, List, Option, Ok, refl}
+use Rattle.std.specs.Prelude.{◌≡◌, ℕ, ◌^◌, ◌≤◌, List, Option, Ok, refl}
 use Rattle.std.proofs.Common.{sym, ap, subst, arith}
-use Rattle.std.specs.declared.cmp.Ordering.{Ordering}
-use Rattle.std.specs.Cmp.{IsTotalOrder}
+use Rattle.dac_part_bytes.proofs.Common.{◌+◌, Ordering, IsTotalOrder, CmpEqualImpliesEq, Dots, origins_total, Flag, Up, Down, keys_total, starts_by_key, Table, node_count, app_count, IsOrigin, Rest, Field, is_above, origin_bytes, TakesAs, Again, TakesAs-made, Again-made, Version, Two, key_above_at, votes_of_key_at, key_bytes, votes_bytes, starts_bytes, IsKey, AreStartsInForm}
 use Rattle.std.specs.FinMap as map
-use Rattle.std.proofs.lemmas.Map.Lookups.{CmpEqualImpliesEq}
-use Rattle.dac_origins.specs.Dots.{Dots}
-use Rattle.dac_origins.specs.laws.Dots.{origins_total, exact_origins}
-use Rattle.dac_lattice.specs.declared.flags.Flag.{Flag}
-use Rattle.dac_lattice.specs.declared.flags.Flag.TheVariants.{Up, Down}
-use Rattle.dac_wishes.specs.laws.Keys.{keys_total, exact_keys}
+use Rattle.dac_origins.specs.laws.Dots.{exact_origins}
+use Rattle.dac_wishes.specs.laws.Keys.{exact_keys}
 use Rattle.dac_wishes.specs.Writes.{Writes}
 use Rattle.dac_wishes.specs.DrainsValue.{Drains}
 use Rattle.dac_wishes.specs.StoredVotes.{votes_of}
 use Rattle.dac_wishes.specs.VotesByKey.{votes_by_key}
 use Rattle.dac_wishes.specs.laws.VotesByKey.{votes_by_key_again}
 use Rattle.dac_wishes.specs.StoredWishes.{writes_of}
-use Rattle.dac_wishes.specs.StartsByKey.{starts_by_key}
 use Rattle.dac_wishes.specs.laws.StartsByKey.{writes_again}
-use Rattle.dac_config.specs.Table.{Table, node_count, app_count}
 use Rattle.dac_bytes.specs.FieldCodecs.{FieldCodecs}
-use Rattle.dac_bytes.specs.Ranges.{IsOrigin}
-use Rattle.dac_bytes.specs.Reading.{Rest, Field, is_above, origin_above_at}
-use Rattle.dac_bytes.specs.Spelling.{origin_bytes}
-use Rattle.dac_bytes.specs.Takes.{IsCodec, Passes, Takes, TakesAs, Again}
-use Rattle.dac_bytes.specs.laws.Takes.{Takes-none, TakesAs-made, Again-made, ok_is}
-use Rattle.dac_bytes.specs.declared.version.Version.{Version}
-use Rattle.dac_bytes.specs.declared.version.Version.TheVariants.{One, Two}
+use Rattle.dac_bytes.specs.Reading.{origin_above_at}
+use Rattle.dac_bytes.specs.Takes.{IsCodec, Passes, Takes}
+use Rattle.dac_bytes.specs.laws.Takes.{Takes-none, ok_is}
+use Rattle.dac_bytes.specs.declared.version.Version.TheVariants.{One}
 use Rattle.dac_bytes.specs.laws.Codecs.{codec_made}
-use Rattle.dac_part_bytes.specs.Reading.{key_above_at, votes_of_key_at, votes_by_key_at, all_votes_at, all_permits_at, all_drains_at, starts_by_key_at, all_starts_at}
-use Rattle.dac_part_bytes.specs.Spelling.{key_bytes, votes_bytes, permits_bytes, drains_bytes, starts_bytes}
-use Rattle.dac_part_bytes.specs.KeyedForm.{IsKey, AreVotesInForm, ArePermitsInForm, AreDrainsInForm, AreStartsInForm}
+use Rattle.dac_part_bytes.specs.Reading.{votes_by_key_at, all_votes_at, all_permits_at, all_drains_at, starts_by_key_at, all_starts_at}
+use Rattle.dac_part_bytes.specs.Spelling.{permits_bytes, drains_bytes}
+use Rattle.dac_part_bytes.specs.KeyedForm.{AreVotesInForm, ArePermitsInForm, AreDrainsInForm}
 use Rattle.dac_part_bytes.proofs.KeyFields.{key_takes, key_again}
 use Rattle.dac_part_bytes.proofs.KeyedLists.{AreStartsByKey, starts_list_bytes, starts_list_takes, starts_list_again}
 use Rattle.dac_part_bytes.proofs.VoteLists.{AreVotesByKey, votes_list_bytes, votes_list_codec}

@@ -1,32 +1,13 @@
 -- The codec of start wishes by key, as the lists that are read.
 use Rattle.std.specs.Prelude.{◌≡◌, ℕ, ◌-◌, ◌^◌, ◌<◌, ◌≤◌, List, ◌++◌, length, map as list_map, Option, refl}
-use Rattle.std.specs.List.{flat_map, AllByRecursion}
-use Rattle.std.specs.Int.{w32}
 use Rattle.std.specs.FinSet as set
 use Rattle.std.proofs.Common.{sym, ap, subst, ◌∙◌, arith, append_assoc}
-use Rattle.dac_origins.specs.declared.dot.Dot.{Dot}
-use Rattle.dac_origins.specs.Dots.{Dots, dot_cmp}
-use Rattle.dac_origins.specs.laws.Dots.{dots_total, exact_dots}
-use Rattle.dac_origins.specs.Keys.{IsRising}
-use Rattle.dac_origins.specs.InOrder.{in_order}
-use Rattle.dac_origins.specs.laws.InOrder.{in_order-one, in_order-same}
-use Rattle.dac_wishes.specs.declared.key.Key.{Key}
-use Rattle.dac_wishes.specs.Keys.{key_cmp}
-use Rattle.dac_wishes.specs.laws.Keys.{keys_total}
-use Rattle.dac_config.specs.Table.{Table, node_count, app_count}
-use Rattle.dac_bytes.specs.Numbers.{u32_bytes}
-use Rattle.dac_bytes.specs.Reading.{number_at}
-use Rattle.dac_bytes.specs.Spelling.{dot_bytes}
-use Rattle.dac_bytes.specs.Takes.{TakesAs, Again}
-use Rattle.dac_bytes.specs.laws.Takes.{TakesAs-both, Again-both}
+use Rattle.dac_part_bytes.proofs.Common.{flat_map, AllByRecursion, w32, Dot, Dots, dot_cmp, dots_total, exact_dots, IsRising, in_order, in_order-one, in_order-same, Key, key_cmp, keys_total, Table, node_count, app_count, u32_bytes, number_at, dot_bytes, TakesAs, Again, TakesAs-both, Again-both, IsNext, key_above_at, some_at, known_dot_at, keyed_dots_at, key_bytes, keyed_dots_bytes, IsKey, IsKeyAbove, IsKnownDot, Version}
 use Rattle.dac_bytes.specs.laws.Fields.{u32_takes, u32_again, u32_in_takes, u32_in_again}
 use Rattle.std.proofs.lemmas.List.{map-id}
-use Rattle.dac_bytes.specs.laws.Ascending.{IsNext, counted_takes, counted_again}
-use Rattle.dac_part_bytes.specs.Reading.{key_above_at, some_at, known_dot_at, dots_of_key_at, keyed_dots_at, starts_by_key_at}
-use Rattle.dac_part_bytes.specs.Spelling.{key_bytes, keyed_dots_bytes}
-use Rattle.dac_part_bytes.specs.KeyedForm.{IsKey, IsKeyAbove, IsKnownDot}
+use Rattle.dac_bytes.specs.laws.Ascending.{counted_takes, counted_again}
+use Rattle.dac_part_bytes.specs.Reading.{dots_of_key_at, starts_by_key_at}
 use Rattle.dac_part_bytes.proofs.KeyFields.{key_takes, key_again, known_dot_takes, known_dot_again}
-use Rattle.dac_bytes.specs.declared.version.Version.{Version}
 
 -- at least one, and a number that fits its field
 abbrev pub IsSome : ℕ → Type 0

@@ -1,35 +1,24 @@
 -- Start wishes are well-formed exactly if their lists by key are.
 use Rattle.std.specs.Prelude.{◌≡◌, ◌^◌, ◌<◌, ◌≤◌, true, false, List, [], ◌∷◌, length, nat_eq, Option, None, Some, refl}
 use Rattle.std.proofs.Common.{sym, ap, subst, ◌∙◌, arith}
-use Rattle.std.specs.Ordering.{is_eq}
-use Rattle.std.specs.Cmp.{tied_itself}
+use Rattle.dac_part_bytes.proofs.Common.{is_eq, tied_itself, find, false≢true, or_left, Dot, Dots, dot_cmp, dots_total, exact_dots, IsRising, in_order, in_order-same, is_empty_set, Key, key_cmp, keys_total, starts_by_key, Table, IsKey, IsKnownDot, AreStartsInForm, Version}
 use Rattle.std.specs.FinSet as set
-use Rattle.std.specs.FinMap.{find}
-use Rattle.std.proofs.lemmas.Bool.{false≢true, true≢false, or_left}
+use Rattle.std.proofs.lemmas.Bool.{true≢false}
 use Rattle.std.proofs.lemmas.List.{map-id}
-use Rattle.dac_origins.specs.declared.dot.Dot.{Dot}
-use Rattle.dac_origins.specs.Dots.{Dots, dot_cmp}
-use Rattle.dac_origins.specs.laws.Dots.{dots_total, exact_dots}
-use Rattle.dac_origins.specs.Keys.{IsRising, has_key}
-use Rattle.dac_origins.specs.InOrder.{in_order}
-use Rattle.dac_origins.specs.laws.InOrder.{in_order-same, in_order-rising, has_key-in_order}
+use Rattle.dac_origins.specs.Keys.{has_key}
+use Rattle.dac_origins.specs.laws.InOrder.{in_order-rising, has_key-in_order}
 use Rattle.dac_lattice.specs.Chains.{IsAny}
-use Rattle.dac_store.specs.DotSets.{is_empty_set}
 use Rattle.dac_store.specs.DotMaps.{store_at, IsKept}
-use Rattle.dac_wishes.specs.declared.key.Key.{Key}
-use Rattle.dac_wishes.specs.Keys.{key_cmp}
-use Rattle.dac_wishes.specs.laws.Keys.{keys_total, exact_keys}
+use Rattle.dac_wishes.specs.laws.Keys.{exact_keys}
 use Rattle.dac_wishes.specs.Writes.{Write, Writes, write, dots_at}
 use Rattle.dac_wishes.specs.laws.Writes.{contains-dots_at}
 use Rattle.dac_wishes.specs.StoredWishes.{writes_of}
-use Rattle.dac_wishes.specs.StartsByKey.{starts_by_key, AreStarts}
+use Rattle.dac_wishes.specs.StartsByKey.{AreStarts}
 use Rattle.dac_wishes.specs.laws.StartsByKey.{contains-writes_of, dots_stored, are_starts, starts_again, writes_again}
-use Rattle.dac_config.specs.Table.{Table}
-use Rattle.dac_part_bytes.specs.KeyedForm.{IsKey, IsKnownDot, IsKnownWrite, AreStartsInForm}
+use Rattle.dac_part_bytes.specs.KeyedForm.{IsKnownWrite}
 use Rattle.dac_part_bytes.proofs.Entries.{sorted_of, rising_keys, all_has, has_all, found, all_found}
 use Rattle.dac_part_bytes.proofs.KeyedLists.{IsKeyedDots, AreStartsByKey}
 use Rattle.dac_part_bytes.proofs.InOrder.{no_dots, not_empty_set}
-use Rattle.dac_bytes.specs.declared.version.Version.{Version}
 
 -- ---- sets and their dots in order
 

@@ -1,29 +1,18 @@
 -- Votes are well-formed exactly if their lists by key are.
 use Rattle.std.specs.Prelude.{◌≡◌, ◌^◌, ◌<◌, ◌≤◌, true, false, cond, List, [], ◌∷◌, length, Option, None, Some, is_some, refl}
 use Rattle.std.proofs.Common.{sym, ap, subst, ◌∙◌, arith}
-use Rattle.std.specs.declared.cmp.Ordering.{Ordering}
-use Rattle.std.specs.Ordering.{is_eq}
-use Rattle.std.specs.Cmp.{IsTotalOrder, tied_itself}
-use Rattle.std.specs.FinMap.{find}
-use Rattle.std.proofs.lemmas.Bool.{false≢true, true≢false}
-use Rattle.std.proofs.lemmas.Map.Lookups.{CmpEqualImpliesEq}
-use Rattle.dac_origins.specs.declared.dot.Dot.{Dot}
-use Rattle.dac_origins.specs.Dots.{Dots, dot_cmp}
-use Rattle.dac_origins.specs.laws.Dots.{dots_total, exact_dots}
-use Rattle.dac_lattice.specs.declared.flags.Flag.{Flag}
+use Rattle.dac_part_bytes.proofs.Common.{Ordering, is_eq, IsTotalOrder, tied_itself, find, false≢true, CmpEqualImpliesEq, Dot, Dots, dot_cmp, dots_total, exact_dots, Flag, is_empty_list, DotFlags, Table, Version, IsKnownDot}
+use Rattle.std.proofs.lemmas.Bool.{true≢false}
 use Rattle.dac_lattice.specs.Chains.{IsAny}
 use Rattle.dac_lattice.specs.Lattices.{IsOptionOf}
 use Rattle.dac_lattice.specs.Maps.{IsMap}
-use Rattle.dac_store.specs.DotFuns.{is_empty_list}
 use Rattle.dac_store.specs.DotMaps.{store_at, IsKept}
 use Rattle.dac_wishes.specs.KeyedWrites.{KeyedWrite, keyed_write}
-use Rattle.dac_wishes.specs.StoredVotes.{DotFlags, AreKeyedVotes, votes_of}
+use Rattle.dac_wishes.specs.StoredVotes.{AreKeyedVotes, votes_of}
 use Rattle.dac_wishes.specs.Votes.{Votes, votes_at}
 use Rattle.dac_wishes.specs.VotesByKey.{votes_by_key}
 use Rattle.dac_wishes.specs.laws.VotesByKey.{get-votes_of, find-votes_at, votes_stored, are_votes, votes_again, votes_by_key_again}
-use Rattle.dac_config.specs.Table.{Table}
-use Rattle.dac_bytes.specs.declared.version.Version.{Version}
-use Rattle.dac_part_bytes.specs.KeyedForm.{IsKnownDot, IsKnownWrite, AreVotesInForm}
+use Rattle.dac_part_bytes.specs.KeyedForm.{IsKnownWrite, AreVotesInForm}
 use Rattle.dac_part_bytes.proofs.Entries.{sorted_of, rising_keys, found, found_key, all_found}
 use Rattle.dac_part_bytes.proofs.InOrder.{not_empty}
 use Rattle.dac_part_bytes.proofs.VoteLists.{IsKeyedVotes, AreVotesByKey}

@@ -1,3 +1,4 @@
+pub mod Common
 pub mod Apps
 pub mod ChainClaims
 pub mod ChainEntries

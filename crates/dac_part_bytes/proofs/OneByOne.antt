@@ -1,6 +1,6 @@
 -- Entries that are written in sequence, after their number.
 use Rattle.std.proofs.Common.{◌≡◌, ℕ, ◌<◌, List, [], ◌∷◌, ◌++◌, length, sym, ap, ◌∙◌, arith, add-one, append_assoc, append-nil}
-use Rattle.std.specs.List.{flat_map}
+use Rattle.dac_part_bytes.proofs.Common.{flat_map}
 
 module _ {E : Type 0} where
   pub one_fewer : (now next : List E) (e : E) → now ≡ e ∷ next → length next < length now

@@ -1,7 +1,7 @@
 -- Each field and each part has a codec, provided that node numbers fit one byte and application numbers two.
 use Rattle.std.specs.Prelude.{◌<◌, ◌≤◌, ◌^◌}
 use Rattle.std.proofs.Common.{arith}
-use Rattle.dac_config.specs.Table.{Table, node_count, app_count}
+use Rattle.dac_part_bytes.proofs.Common.{Table, node_count, app_count, Version}
 use Rattle.dac_bytes.specs.FieldCodecs.{FieldCodecs}
 use Rattle.dac_part_bytes.specs.PartCodecs.{PartCodecs}
 use Rattle.dac_part_bytes.proofs.Apps.{app_takes, app_again}
@@ -9,7 +9,6 @@ use Rattle.dac_part_bytes.proofs.ChainClaims.{manner_takes, manner_again}
 use Rattle.dac_part_bytes.proofs.ChainLaws.{lives_takes, lives_again, claims_takes, claims_again}
 use Rattle.dac_part_bytes.proofs.KeyFields.{key_takes, key_again}
 use Rattle.dac_part_bytes.proofs.KeyedLaws.{permits_codec, drains_codec, starts_takes, starts_again}
-use Rattle.dac_bytes.specs.declared.version.Version.{Version}
 
 module _ (version : Version) (t : Table) (few_nodes : node_count t < 2 ^ 8) (few_apps : app_count t ≤ 2 ^ 16) where
   pub part_codecs : FieldCodecs version (node_count t) → PartCodecs version t

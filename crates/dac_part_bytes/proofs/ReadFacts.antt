@@ -1,45 +1,23 @@
 -- The facts about an item that was read: it is greater than the previous one, its dots are known, and a key has at
 -- least one.
 use Rattle.std.proofs.Common.{◌≡◌, ℕ, ◌≤◌, ◌-◌, ◌^◌, Bool, true, false, cond, ◌||◌, nat_lt, List, [], ◌∷◌, Option, None, Some, Ok, is_some, refl, sym, ap, subst, ◌∙◌, inl, inr}
-use Rattle.std.specs.declared.cmp.Ordering.{Ordering}
-use Rattle.std.specs.Cmp.{IsTotalOrder}
-use Rattle.std.specs.List.{AllByRecursion}
-use Rattle.std.specs.Int.{w8, w32}
+use Rattle.dac_part_bytes.proofs.Common.{Ordering, IsTotalOrder, AllByRecursion, w8, w32, find, false≢true, Origin, Dot, Dots, dot_cmp, dots_total, exact_dots, origins_total, Flag, Up, Down, Life, Claim, NodeId, AppId, app_cmp, node_cmp, is_empty_list, is_empty_set, Key, key_cmp, keys_total, DotFlags, Table, node_count, BadOrder, Rest, Field, fault, ◌>>=◌, number_at, range_at, origin_at, items_at, is_above, known_dot_at, vote_at, some_at, votes_of_key_at, key_above_at, keyed_dots_at, life_at, claim_at, IsNext, Version, Two}
 use Rattle.std.specs.FinSet as set
-use Rattle.std.specs.FinMap.{find}
-use Rattle.std.proofs.lemmas.Bool.{false≢true, or_cases, ltb-false}
+use Rattle.std.proofs.lemmas.Bool.{or_cases, ltb-false}
 use Rattle.std.proofs.lemmas.List.Elements.{All-from_recursion}
-use Rattle.dac_origins.specs.declared.dot.Origin.{Origin}
-use Rattle.dac_origins.specs.declared.dot.Dot.{Dot}
-use Rattle.dac_origins.specs.Dots.{Dots, dot_cmp, origin_cmp}
-use Rattle.dac_origins.specs.laws.Dots.{dots_total, exact_dots, origins_total}
+use Rattle.dac_origins.specs.Dots.{origin_cmp}
 use Rattle.dac_origins.specs.laws.KeyLaws.{each_key}
-use Rattle.dac_lattice.specs.declared.flags.Flag.{Flag}
-use Rattle.dac_lattice.specs.declared.flags.Flag.TheVariants.{Up, Down}
-use Rattle.dac_chains.specs.declared.lives.Life.{Life}
-use Rattle.dac_chains.specs.declared.claims.Claim.{Claim}
-use Rattle.dac_base.specs.declared.NodeId.{NodeId}
-use Rattle.dac_base.specs.declared.AppId.{AppId}
-use Rattle.dac_base.specs.Ids.{app_cmp, node_cmp}
 use Rattle.dac_store.specs.Stores.{IsHeld}
-use Rattle.dac_store.specs.DotFuns.{has_dot, is_empty_list}
-use Rattle.dac_store.specs.DotSets.{is_empty_set}
+use Rattle.dac_store.specs.DotFuns.{has_dot}
 use Rattle.dac_store.specs.DotMaps.{has_in}
-use Rattle.dac_wishes.specs.declared.key.Key.{Key}
-use Rattle.dac_wishes.specs.Keys.{key_cmp}
-use Rattle.dac_wishes.specs.laws.Keys.{keys_total}
 use Rattle.dac_wishes.specs.Writes.{same_dot}
 use Rattle.dac_wishes.specs.laws.KeyedWrites.{same_dot_is}
-use Rattle.dac_wishes.specs.StoredVotes.{DotFlags}
-use Rattle.dac_config.specs.Table.{Table, node_count}
-use Rattle.dac_bytes.specs.declared.fault.ReadFaultKind.TheVariants.{BadNumber, BadOrder, NotKnown}
-use Rattle.dac_bytes.specs.Reading.{Rest, Field, fault, ◌>>=◌, number_at, range_at, node_at, origin_at, origin_above_at, dot_at, dot_above_at, items_at, is_above}
+use Rattle.dac_bytes.specs.declared.fault.ReadFaultKind.TheVariants.{BadNumber, NotKnown}
+use Rattle.dac_bytes.specs.Reading.{node_at, origin_above_at, dot_at, dot_above_at}
 use Rattle.dac_bytes.specs.laws.Takes.{bind_ok, guard_ok, wanted_ok, ok_is}
-use Rattle.dac_part_bytes.specs.Reading.{known_dot_at, flag_of_code, vote_at, some_at, votes_of_key_at, key_above_at, listed_key_at, keyed_votes_at, permits_of_key_at, drains_of_key_at, dots_of_key_at, keyed_dots_at, node_above_at, inc_and_flag_at, life_at, claim_at, listed_claim_at}
-use Rattle.dac_bytes.specs.laws.Ascending.{IsNext, counted_chain, items_chain, chain_each}
+use Rattle.dac_part_bytes.specs.Reading.{flag_of_code, listed_key_at, keyed_votes_at, permits_of_key_at, drains_of_key_at, dots_of_key_at, node_above_at, inc_and_flag_at, listed_claim_at}
+use Rattle.dac_bytes.specs.laws.Ascending.{counted_chain, items_chain, chain_each}
 use Rattle.dac_part_bytes.proofs.InOrder.{not_empty, not_empty_set}
-use Rattle.dac_bytes.specs.declared.version.Version.{Version}
-use Rattle.dac_bytes.specs.declared.version.Version.TheVariants.{Two}
 
 -- ---- dots
 

@@ -1,29 +1,18 @@
 -- The invariants of loops that read items: they begin with nothing, and append one item at a time.
 use Rattle.std.proofs.Common.{◌≡◌, ℕ, Bool, true, false, cond, List, [], ◌∷◌, ◌++◌, Option, None, Some, Ok, Err, refl, sym, ap, subst, ◌∙◌}
+use Rattle.dac_part_bytes.proofs.Common.{Ordering, IsTotalOrder, tied_itself, find, false≢true, CmpEqualImpliesEq, Dot, Dots, dots_total, exact_dots, in_order, in_order-one, in_order-same, greater, Rest, Field, items_at, with_front, Reaches}
 use Rattle.std.specs.Prelude.{Result, IsOk, IfOk, IfErr}
-use Rattle.std.specs.declared.cmp.Ordering.{Ordering}
 use Rattle.std.specs.Ordering.{ord_max, is_lt, eq_by_cmp}
-use Rattle.std.specs.Cmp.{IsTotalOrder, tied_itself}
 use Rattle.std.specs.FinSet as set
 use Rattle.std.specs.FinMap as map
-use Rattle.std.specs.FinMap.{find}
 use Rattle.std.specs.FinMap.Entries.{same_entries, find-append}
 use Rattle.std.proofs.lemmas.List.{nil_from_length}
-use Rattle.std.proofs.lemmas.Bool.{and_parts, false≢true}
-use Rattle.std.proofs.lemmas.Map.Lookups.{CmpEqualImpliesEq}
-use Rattle.dac_origins.specs.declared.dot.Dot.{Dot}
-use Rattle.dac_origins.specs.Dots.{Dots}
-use Rattle.dac_origins.specs.laws.Dots.{dots_total, exact_dots}
-use Rattle.dac_origins.specs.InOrder.{in_order}
-use Rattle.dac_origins.specs.laws.InOrder.{in_order-one, in_order-rising, in_order-same, tie}
+use Rattle.std.proofs.lemmas.Bool.{and_parts}
+use Rattle.dac_origins.specs.laws.InOrder.{in_order-rising, tie}
 use Rattle.dac_lattice.specs.Lattices.{join_options}
 use Rattle.dac_store.specs.Appending.{is_above_dots, is_above_entries}
 use Rattle.dac_store.specs.laws.Appending.{rising_appended, sorted_appended}
-use Rattle.dac_chains.specs.Greatest.{greater}
 use Rattle.dac_chains.specs.laws.Greatest.{get-greater}
-use Rattle.dac_bytes.specs.Reading.{Rest, Field, items_at}
-use Rattle.dac_bytes.specs.Items.{with_front}
-use Rattle.dac_bytes.specs.laws.Ascending.{Reaches}
 
 with_none : {X : Type 0} (read : Field (List X)) → with_front [] read ≡ read
 with_none (Ok y) = refl

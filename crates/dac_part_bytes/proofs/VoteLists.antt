@@ -1,29 +1,13 @@
 -- The codec of votes by key, as the lists that are read.
-use Rattle.std.specs.Prelude.{◌≡◌, ℕ, zero, suc, ◌-◌, ◌^◌, ◌<◌, ◌≤◌, List, ◌++◌, length, map as list_map, Option, refl}
+use Rattle.std.specs.Prelude.{◌≡◌, ℕ, ◌-◌, ◌^◌, ◌<◌, ◌≤◌, List, ◌++◌, length, map as list_map, Option, refl}
 use Rattle.std.proofs.Common.{ap, arith}
-use Rattle.std.specs.declared.cmp.Ordering.{Ordering}
-use Rattle.std.specs.Cmp.{IsTotalOrder}
-use Rattle.std.specs.List.{flat_map, AllByRecursion}
-use Rattle.std.specs.Int.{w8, w32}
-use Rattle.dac_origins.specs.declared.dot.Dot.{Dot}
-use Rattle.dac_origins.specs.Dots.{Dots, dot_cmp}
-use Rattle.dac_origins.specs.laws.Dots.{dots_total}
-use Rattle.dac_origins.specs.Keys.{IsRising}
-use Rattle.dac_lattice.specs.declared.flags.Flag.{Flag}
-use Rattle.dac_lattice.specs.declared.flags.Flag.TheVariants.{Up, Down}
-use Rattle.dac_wishes.specs.StoredVotes.{DotFlags}
-use Rattle.dac_config.specs.Table.{Table, node_count}
-use Rattle.dac_bytes.specs.Numbers.{u8_bytes, u32_bytes}
-use Rattle.dac_bytes.specs.Reading.{Rest, Field, number_at, range_at, is_above}
-use Rattle.dac_bytes.specs.Spelling.{dot_bytes}
+use Rattle.dac_part_bytes.proofs.Common.{zero, suc, Ordering, IsTotalOrder, flat_map, AllByRecursion, w8, w32, Dot, Dots, dot_cmp, dots_total, IsRising, Flag, Up, Down, DotFlags, Table, node_count, u8_bytes, u32_bytes, Rest, Field, number_at, range_at, is_above, dot_bytes, Version, IsNext, u8_in_takes, u8_in_again, IsKnownDot, known_dot_at, some_at, vote_at, votes_of_key_at, keyed_votes_bytes}
 use Rattle.dac_bytes.specs.Takes.{IsCodec, Passes}
-use Rattle.dac_bytes.specs.declared.version.Version.{Version}
-use Rattle.dac_bytes.specs.laws.Ascending.{IsNext, counted_codec}
+use Rattle.dac_bytes.specs.laws.Ascending.{counted_codec}
 use Rattle.dac_bytes.specs.laws.Codecs.{codec_both}
-use Rattle.dac_bytes.specs.laws.Fields.{u8_in_takes, u8_in_again, u32_takes, u32_again, u32_in_takes, u32_in_again}
-use Rattle.dac_part_bytes.specs.KeyedForm.{IsKnownDot}
-use Rattle.dac_part_bytes.specs.Reading.{known_dot_at, some_at, flag_of_code, vote_at, votes_of_key_at, keyed_votes_at, votes_by_key_at}
-use Rattle.dac_part_bytes.specs.Spelling.{code_of_flag, vote_bytes, votes_of_key_bytes, keyed_votes_bytes}
+use Rattle.dac_bytes.specs.laws.Fields.{u32_takes, u32_again, u32_in_takes, u32_in_again}
+use Rattle.dac_part_bytes.specs.Reading.{flag_of_code, keyed_votes_at, votes_by_key_at}
+use Rattle.dac_part_bytes.specs.Spelling.{code_of_flag, vote_bytes, votes_of_key_bytes}
 use Rattle.dac_part_bytes.proofs.KeyFields.{IsDotAbove, known_dot_takes, known_dot_again}
 
 -- ---- the value of a vote

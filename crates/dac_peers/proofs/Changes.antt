@@ -1,23 +1,15 @@
 -- Reads with a pending change, and changes without effect.
 use Rattle.std.proofs.Common.{◌≡◌, ◌≤◌, ◌&&◌, ◌||◌, ℕ, true, false, not, cond, nat_eq, Option, None, Some, refl, inl, inr, arith, ap, sym, ◌∙◌, eq-eqb}
-use Rattle.std.proofs.lemmas.Bool.{eqb-true}
-use Rattle.std.specs.Ordering.{eq_by_cmp}
+use Rattle.dac_peers.specs.laws.Common.{eqb-true, eq_by_cmp, NodeId, node_cmp, nodes_total, exact_nodes, Origin, origin_cmp, origins_total, Numbers, greater, raised, Position, PeersValue, got_after, lists_kept}
 use Rattle.std.specs.FinSet as set
 use Rattle.std.specs.FinMap as map
 use Rattle.std.specs.Arc.{arc_value}
 use Rattle.std.specs.declared.sync.Arc.{Arc}
-use Rattle.dac_base.specs.declared.NodeId.{NodeId}
-use Rattle.dac_base.specs.Ids.{node_cmp}
-use Rattle.dac_base.specs.laws.Ids.{nodes_total, exact_nodes}
-use Rattle.dac_origins.specs.declared.dot.Origin.{Origin}
-use Rattle.dac_origins.specs.Dots.{origin_cmp}
-use Rattle.dac_origins.specs.laws.Dots.{origins_total, exact_origins}
-use Rattle.dac_deltas.specs.Numbers.{Numbers, greater, raised}
-use Rattle.dac_peers.specs.declared.positions.Position.{Position}
+use Rattle.dac_origins.specs.laws.Dots.{exact_origins}
 use Rattle.dac_peers.specs.declared.pending.Answer.{Answer}
 use Rattle.dac_peers.specs.declared.pending.Answer.TheVariants.{Owed, Given}
-use Rattle.dac_peers.specs.Peers.{PeersValue, no_peers, got_after}
-use Rattle.dac_peers.specs.Pending.{ack_done, position_done, answer_done, same_node, same_origin, number_then, position_then, is_owed_then, lists_kept}
+use Rattle.dac_peers.specs.Peers.{no_peers}
+use Rattle.dac_peers.specs.Pending.{ack_done, position_done, answer_done, same_node, same_origin, number_then, position_then, is_owed_then}
 use Rattle.dac_peers.specs.laws.Acked.{and_parts, same_or_not as same_origin_or_not}
 use Rattle.dac_peers.specs.laws.Onward.{same_or_not}
 

@@ -1,11 +1,7 @@
 -- The cache stays right after a number is raised.
 use Rattle.std.proofs.Common.{◌≡◌, ◌≢◌, ℕ, List, cond, Option, Some, inl, inr, refl, ap, sym, ◌∙◌}
+use Rattle.dac_peers.specs.laws.Common.{NodeId, Origin, origins_total, Numbers, greater, raised, Position}
 use Rattle.std.specs.FinMap as map
-use Rattle.dac_base.specs.declared.NodeId.{NodeId}
-use Rattle.dac_origins.specs.declared.dot.Origin.{Origin}
-use Rattle.dac_origins.specs.laws.Dots.{origins_total}
-use Rattle.dac_deltas.specs.Numbers.{Numbers, greater, raised}
-use Rattle.dac_peers.specs.declared.positions.Position.{Position}
 use Rattle.dac_peers.specs.Newest.{noted, AreLatest, IsNoted}
 use Rattle.dac_peers.specs.laws.Acked.{same_or_not as same_origin_or_not}
 use Rattle.dac_peers.specs.laws.Onward.{same_or_not}

@@ -1,3 +1,4 @@
+pub mod Common
 pub mod Least
 pub mod Onward
 pub mod Acked

@@ -1,6 +1,6 @@
 //! The seats of a node.
 
-ghost use Rattle.std.specs.Prelude.{◌≡◌, ◌<◌, ◌≤◌, true, All, Err, OnOk, length};
+ghost use Rattle.std.specs.Prelude.{◌≡◌, ◌<◌, ◌≤◌, true, Err, OnOk, length};
 ghost use Rattle.dac_base.specs.declared.limits.TheConstants.{MAX_NODES};
 ghost use Rattle.dac_phases.specs.Pairs.{IsSeat, AreOfSeats, SeatsHold};
 ghost use Rattle.dac_phases.specs.Seating.{AreInOrder};

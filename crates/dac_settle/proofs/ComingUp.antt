@@ -1,65 +1,30 @@
 -- Boots in the worked runs: the live nodes and the counters used. Each node requests a start, and one that knows of no
 -- other claims the application.
 use Rattle.std.proofs.Common.{◌≡◌, ℕ, ◌+◌, ◌<◌, Bool, true, false, not, cond, ◌||◌, List, [], ◌∷◌, length, Option, Some, None, option_map, refl, sym, ap, subst, ◌∙◌, arith, inl, inr}
-use Rattle.std.specs.Prelude.{nat_lt, nat_le, unwrap_or, IsSome}
-use Rattle.std.specs.Option.{is_some, option_map_or}
+use Rattle.dac_settle.specs.laws.Common.{nat_lt, nat_le, unwrap_or, IsSome, option_map_or, true≢false, leb-true, and_from, NodeId, AppId, MAX_COUNTER, Dot, dot, Life, Normal, IsGreatest, IsSaid, claim_cmp, IsLive, life_cmp, live_is, keyed_write, write, same_dot, same_dot_is, same_dot_itself, Key, Operation, operation, StateValue, join, IsOperationOf, DotsDetermine, meaning_of, pairs, life_said, claim_said, lives_of, names, replaces, SaysFor, of_said, is_said, found, finds, known-meaning, starts-meaning, permits-meaning, drains-meaning, lives-meaning, lives_are, group_of, is_up, IsEligible, IsStartedAt, key_at, holder_of, IsVerdict, verdict_of, candidate_of, Verdict, Failover, Halted, Move, Takeover, Kept, Nobody, verdict_in_words, up_is, is_due_by, noted_at, waits_of, Noted, Refusal, DeclaredDown, MomentBack, DotsUsedUp, UnknownNode, NotLive, TooManyDots, greatest_counter, live_or_none, act_of, next_operation, no_node, not_live, too_many, used_up, terms_used_up, next-is, no_peers, Sweep, sweep_of, sweep_from, claim_of, claimed_by, is_mine, if_own, ModelNode, joined, shown, base_after, refusal_of, otherwise, join-meaning, the_app, worked_table, first_of, up_of, start_of}
+use Rattle.std.specs.Option.{is_some}
 use Rattle.std.specs.FinMap as map
 use Rattle.std.specs.FinSet as set
-use Rattle.std.proofs.lemmas.Bool.{true≢false, leb-true, and_from}
-use Rattle.dac_base.specs.declared.NodeId.{NodeId}
-use Rattle.dac_base.specs.declared.AppId.{AppId}
-use Rattle.dac_base.specs.declared.limits.TheConstants.{MAX_COUNTER}
-use Rattle.dac_origins.specs.declared.dot.Dot.{Dot}
-use Rattle.dac_origins.specs.Dots.{dot, dot_cmp}
+use Rattle.dac_origins.specs.Dots.{dot_cmp}
 use Rattle.dac_origins.specs.laws.Dots.{dots_total, exact_dots}
 use Rattle.dac_origins.specs.Keys.{has_key}
 use Rattle.dac_origins.specs.laws.InOrder.{has_key-in_order}
 use Rattle.dac_lattice.specs.declared.flags.Flag.TheVariants.{Up as IsUpFlag}
-use Rattle.dac_chains.specs.declared.lives.Life.{Life}
 use Rattle.dac_chains.specs.declared.claims.Claim.{Claim}
-use Rattle.dac_chains.specs.declared.claims.How.TheVariants.{Normal}
-use Rattle.dac_chains.specs.Greatest.{IsGreatest, IsSaid}
-use Rattle.dac_chains.specs.Claims.{claim_cmp}
-use Rattle.dac_chains.specs.Lives.{IsLive, life_cmp}
-use Rattle.dac_chains.specs.laws.Live.{live_is}
-use Rattle.dac_wishes.specs.KeyedWrites.{keyed_write}
 use Rattle.dac_wishes.specs.DrainsValue.{origin}
-use Rattle.dac_wishes.specs.Writes.{write, dots_at, same_dot}
-use Rattle.dac_wishes.specs.laws.KeyedWrites.{same_dot_is, same_dot_itself}
+use Rattle.dac_wishes.specs.Writes.{dots_at}
 use Rattle.dac_wishes.specs.laws.Writes.{contains-dots_at}
-use Rattle.dac_wishes.specs.declared.key.Key.{Key}
 use Rattle.dac_operations.specs.declared.act.Act.TheVariants.{Claim as Claims, Start as Starts}
-use Rattle.dac_operations.specs.Operations.{Operation, operation}
-use Rattle.dac_meaning.specs.StateValue.{StateValue, join}
-use Rattle.dac_meaning.specs.Meaning.{IsOperationOf, DotsDetermine, meaning_of, pairs, life_said, claim_said, lives_of, names, replaces}
-use Rattle.dac_meaning.specs.Chained.{SaysFor}
-use Rattle.dac_meaning.specs.laws.Chained.{of_said, is_said}
-use Rattle.dac_meaning.specs.laws.Members.{found, finds}
-use Rattle.dac_meaning.specs.laws.Readers.{known-meaning, starts-meaning, permits-meaning, drains-meaning, lives-meaning, lives_are}
-use Rattle.dac_config.specs.Table.{node_count, group_of}
-use Rattle.dac_placement.specs.Placement.{is_up, IsEligible, IsStartedAt, key_at, holder_of, IsVerdict, verdict_of, candidate_of}
-use Rattle.dac_placement.specs.declared.verdicts.Verdict.{Verdict}
-use Rattle.dac_placement.specs.declared.verdicts.Verdict.TheVariants.{Start as ToStart, Failover, Halted, Move, Takeover, Kept, Nobody}
-use Rattle.dac_placement.specs.laws.Judged.{verdict_in_words}
-use Rattle.dac_placement.specs.laws.Tests.{up_is}
-use Rattle.dac_decide.specs.FailoverWait.{is_due_by, noted_at, waits_of}
-use Rattle.dac_decide.specs.declared.waits.Noted.{Noted}
+use Rattle.dac_config.specs.Table.{node_count}
+use Rattle.dac_placement.specs.declared.verdicts.Verdict.TheVariants.{Start as ToStart}
 use Rattle.dac_events.specs.declared.Command.TheVariants.{Start}
 use Rattle.dac_messages.specs.declared.event.Event.TheVariants.{Command as Commanded, Tick}
-use Rattle.dac_events.specs.declared.refusal.Refusal.{Refusal}
-use Rattle.dac_events.specs.declared.refusal.Refusal.TheVariants.{DeclaredDown, MomentBack, DotsUsedUp, UnknownApp, UnknownNode, NotInList, NotLive, TooManyDots}
-use Rattle.dac_commands.specs.Commands.{greatest_counter, live_key, live, live_or_none, standing_starts, act_of, next_operation}
-use Rattle.dac_commands.specs.Causes.{first, no_node, unlisted, not_live, too_many, used_up, terms_used_up}
-use Rattle.dac_commands.specs.laws.Counters.{next-is}
-use Rattle.dac_peers.specs.Peers.{no_peers}
-use Rattle.dac_ticks.specs.Ticks.{Sweep, sweep_of, sweep_from, claim_of, claimed_by, is_mine}
-use Rattle.dac_ticks.specs.laws.Words.{if_own}
-use Rattle.dac_model_world.specs.ModelNode.{ModelNode, joined, shown, base_after}
-use Rattle.dac_model_world.specs.EventRefusals.{refusal_of, otherwise}
+use Rattle.dac_events.specs.declared.refusal.Refusal.TheVariants.{UnknownApp, NotInList}
+use Rattle.dac_commands.specs.Commands.{live_key, live, standing_starts}
+use Rattle.dac_commands.specs.Causes.{first, unlisted}
 use Rattle.dac_model_world.specs.Step.{comes_up}
 use Rattle.dac_meaning.specs.laws.StateLaws.{bottom-join}
-use Rattle.dac_meaning.specs.laws.Joins.{meaning-state, join-meaning}
-use Rattle.dac_settle.specs.Worked.{the_app, worked_table, first_of, up_of, start_of}
+use Rattle.dac_meaning.specs.laws.Joins.{meaning-state}
 use Rattle.dac_settle.specs.laws.AnyPlacement.{one}
 use Rattle.dac_settle.specs.laws.OnlyClaims.{claim_greatest}
 use Rattle.dac_settle.specs.laws.Started.{up_life}

@@ -1,49 +1,20 @@
 -- The worked run with a loss: the world is ready after two nodes have noted the loss, and their round fails over.
 use Rattle.std.proofs.Common.{◌≡◌, append-nil, ℕ, ◌+◌, ◌≤◌, Bool, true, false, not, cond, ◌||◌, ◌&&◌, List, [], ◌∷◌, ◌++◌, length, Option, Some, None, option_map, Ok, refl, sym, ap, subst, ◌∙◌, arith, inl, inr}
-use Rattle.std.specs.Prelude.{nat_eq, nat_lt, IsSome, ◌==◌}
-use Rattle.std.specs.Option.{is_some, option_map_or, option_and_then}
-use Rattle.std.proofs.lemmas.Bool.{true≢false, false_from_ne_true}
+use Rattle.dac_settle.specs.laws.Common.{nat_lt, IsSome, ◌==◌, option_map_or, option_and_then, true≢false, NodeId, MAX_COUNTER, Operation, StateValue, join, AreOperationsOf, meaning_of, meaning-same, starts-meaning, dot, write, DistinctDots-agree, app_count, is_up, key_at, Failover, up_is, is_due_by, noted_at, Note, IsLost, waits_of, Noted, kept_is, WorldEvent, Hand, Boot, Crash, HearOp, Booted, Issued, Refusal, DeclaredDown, MomentBack, DotsUsedUp, greatest_counter, terms_used_up, Sweep, sweep_of, sweep_from, claim_of, is_mine, is_mine_by, ModelNode, ModelRunning, joined, shown, base_after, refusal_of, meanings, step_by, off_after, ModelWorld, AnsweredAs, happens, answered_by, world_after, NodeSet, SetWorld, no_sets, set_run, Sound, sound_run, sound_start, members_of, AreRounds, EndsInRounds, first_node, second_node, IsEither, the_app, worked_table, first_of, up_of, both_go_round, lost_node, lost_claim}
+use Rattle.std.specs.Prelude.{nat_eq}
+use Rattle.std.specs.Option.{is_some}
+use Rattle.std.proofs.lemmas.Bool.{false_from_ne_true}
 use Rattle.std.proofs.lemmas.List.{length-append}
-use Rattle.dac_base.specs.declared.NodeId.{NodeId}
-use Rattle.dac_base.specs.declared.limits.TheConstants.{MAX_COUNTER}
 use Rattle.dac_chains.specs.declared.claims.Claim.{Claim}
-use Rattle.dac_operations.specs.Operations.{Operation}
-use Rattle.dac_meaning.specs.StateValue.{StateValue, join}
-use Rattle.dac_meaning.specs.Meaning.{AreOperationsOf, meaning_of}
-use Rattle.dac_meaning.specs.laws.Joins.{meaning-same}
-use Rattle.dac_meaning.specs.laws.Readers.{starts-meaning}
-use Rattle.dac_origins.specs.Dots.{dot}
-use Rattle.dac_wishes.specs.Writes.{write}
-use Rattle.dac_model_world.specs.laws.Operations.{DistinctDots-agree}
-use Rattle.dac_config.specs.Table.{app_count}
-use Rattle.dac_placement.specs.Placement.{is_up, key_at}
-use Rattle.dac_placement.specs.declared.verdicts.Verdict.TheVariants.{Failover}
-use Rattle.dac_placement.specs.laws.Tests.{up_is}
-use Rattle.dac_decide.specs.FailoverWait.{is_due_by, is_over_at, lost_in, lost_if, since_of, is_same, noted_of, noted_at, Note, IsLost, waits_of}
-use Rattle.dac_decide.specs.declared.waits.Noted.{Noted}
-use Rattle.dac_decide.specs.laws.Kept.{kept_is}
+use Rattle.dac_decide.specs.FailoverWait.{is_over_at, lost_in, lost_if, since_of, is_same, noted_of}
 use Rattle.dac_events.specs.declared.Command.TheVariants.{Start}
-use Rattle.dac_events.specs.declared.WorldEvent.{WorldEvent}
-use Rattle.dac_events.specs.declared.What.TheVariants.{Boot as Booting, Crash as Crashing, Command as Telling, Tick as Ticking, Hand}
-use Rattle.dac_messages.specs.declared.event.Event.TheVariants.{Boot, Crash, Command as Commanded, Tick, HearOp}
-use Rattle.dac_messages.specs.declared.reply.Reply.TheVariants.{Booted, Crashed, Issued, Ticked}
-use Rattle.dac_events.specs.declared.refusal.Refusal.{Refusal}
-use Rattle.dac_events.specs.declared.refusal.Refusal.TheVariants.{DeclaredDown, MomentBack, DotsUsedUp}
-use Rattle.dac_commands.specs.Commands.{greatest_counter}
-use Rattle.dac_commands.specs.Causes.{first, terms_used_up}
-use Rattle.dac_ticks.specs.Ticks.{Sweep, sweep_of, sweep_from, claim_of, is_mine, is_mine_by}
-use Rattle.dac_model_world.specs.ModelNode.{ModelNode, ModelRunning, joined, shown, base_after}
-use Rattle.dac_model_world.specs.EventRefusals.{refusal_of}
-use Rattle.dac_model_world.specs.Transitions.{meanings}
-use Rattle.dac_model_world.specs.Step.{step_by}
-use Rattle.dac_model_world.specs.Histories.{off_after}
-use Rattle.dac_model_world.specs.ModelWorld.{ModelWorld, AnsweredAs, Run, happens, answered_by, world_after}
-use Rattle.dac_model_world.specs.SetWorld.{NodeSet, SetWorld, no_sets, set_run}
-use Rattle.dac_model_world.specs.laws.Sound.{Sound, sound_run, sound_start}
+use Rattle.dac_events.specs.declared.What.TheVariants.{Boot as Booting, Crash as Crashing, Command as Telling, Tick as Ticking}
+use Rattle.dac_messages.specs.declared.event.Event.TheVariants.{Command as Commanded, Tick}
+use Rattle.dac_messages.specs.declared.reply.Reply.TheVariants.{Crashed, Ticked}
+use Rattle.dac_commands.specs.Causes.{first}
+use Rattle.dac_model_world.specs.ModelWorld.{Run}
 use Rattle.dac_settle.specs.Settling.{IsReady}
-use Rattle.dac_settle.specs.WorldRounds.{members_of, AreRounds, EndsInRounds}
-use Rattle.dac_settle.specs.Worked.{first_node, second_node, IsEither, the_app, worked_table, first_of, up_of, both_go_round}
-use Rattle.dac_settle.specs.WorkedLoss.{lost_node, lost_claim, losing, RunsCanFailOver}
+use Rattle.dac_settle.specs.WorkedLoss.{losing, RunsCanFailOver}
 use Rattle.dac_settle.specs.laws.WorldsSettle.{worlds_settle}
 use Rattle.dac_settle.proofs.ComingUp.{CanClaim, start_at, started_op, booted, starts_on, begun, begun_log, begun_node, ticks_alone, sweep_alone}
 use Rattle.dac_settle.proofs.Handed.{Answer, w0, pushed, known_there, run_of, waiting, with_op, base_with, hearing, few_by, longer, hears_op, wide}

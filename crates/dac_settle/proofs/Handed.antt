@@ -1,31 +1,12 @@
 -- The worked runs before their rounds: one more accepted event, and handed operations.
 use Rattle.std.proofs.Common.{◌≡◌, ℕ, ◌+◌, ◌≤◌, Bool, true, false, not, cond, ◌&&◌, List, [], ◌∷◌, ◌++◌, length, Some, None, Ok, refl, sym, ap, ◌∙◌, arith, inl}
-use Rattle.std.specs.Prelude.{nat_lt, Result}
-use Rattle.std.proofs.lemmas.Bool.{leb-true, le-ltb}
+use Rattle.dac_settle.specs.laws.Common.{nat_lt, leb-true, le-ltb, NodeId, MAX_COUNTER, Operation, StateValue, meaning_of, is_below, Note, WorldEvent, HearOp, Reply, Heard, DotsUsedUp, no_peers, WorldFault, ModelNode, ModelRunning, joined, shown, base_after, refusal_of, ModelWorld, WorldStepped, start, happens, answered_by, NodeSet, SetWorld, Sound, held_at, worked_table, first_of}
+use Rattle.std.specs.Prelude.{Result}
 use Rattle.std.proofs.lemmas.List.{length-append}
-use Rattle.dac_base.specs.declared.NodeId.{NodeId}
-use Rattle.dac_base.specs.declared.limits.TheConstants.{MAX_COUNTER}
-use Rattle.dac_operations.specs.Operations.{Operation}
-use Rattle.dac_meaning.specs.StateValue.{StateValue}
-use Rattle.dac_meaning.specs.Meaning.{meaning_of}
-use Rattle.dac_meaning.specs.Below.{is_below}
-use Rattle.dac_decide.specs.FailoverWait.{Note}
-use Rattle.dac_events.specs.declared.WorldEvent.{WorldEvent}
-use Rattle.dac_messages.specs.declared.event.Event.TheVariants.{HearOp}
-use Rattle.dac_messages.specs.declared.reply.Reply.{Reply}
-use Rattle.dac_messages.specs.declared.reply.Reply.TheVariants.{Heard}
-use Rattle.dac_events.specs.declared.refusal.Refusal.TheVariants.{DotsUsedUp}
 use Rattle.dac_commands.specs.Causes.{first}
-use Rattle.dac_peers.specs.Peers.{no_peers}
-use Rattle.dac_events.specs.declared.world_fault.WorldFault.{WorldFault}
-use Rattle.dac_model_world.specs.ModelNode.{ModelNode, ModelRunning, joined, shown, base_after}
-use Rattle.dac_model_world.specs.EventRefusals.{refusal_of}
 use Rattle.dac_model_world.specs.Transitions.{brings}
-use Rattle.dac_model_world.specs.ModelWorld.{ModelWorld, WorldStepped, Run, start, happens, answered_by}
-use Rattle.dac_model_world.specs.SetWorld.{NodeSet, SetWorld}
+use Rattle.dac_model_world.specs.ModelWorld.{Run}
 use Rattle.dac_model_world.specs.laws.Runs.{Run-push}
-use Rattle.dac_model_world.specs.laws.Sound.{Sound, held_at}
-use Rattle.dac_settle.specs.Worked.{worked_table, first_of}
 use Rattle.dac_settle.specs.laws.AnyPlacement.{one}
 
 abbrev pub Answer : Type 0

@@ -1,57 +1,24 @@
 -- The state of the two nodes in the worked run with a loss: the live nodes, the counters used, the lost claim, and the
 -- verdict. The first node should claim the application after the wait.
 use Rattle.std.proofs.Common.{◌≡◌, ℕ, ◌+◌, ◌≤◌, ◌<◌, Bool, true, false, ◌||◌, List, [], ◌∷◌, ◌++◌, Option, Some, None, option_map, refl, sym, ap, subst, ◌∙◌, arith, inl, inr}
-use Rattle.std.specs.Prelude.{nat_eq, nat_lt, All}
-use Rattle.std.specs.Option.{option_map_or}
+use Rattle.dac_settle.specs.laws.Common.{nat_lt, All, option_map_or, false≢true, leb-true, and_from, NodeId, AppId, MAX_COUNTER, Dot, Origin, dot, IsGreatest, claim_cmp, Lives, IsLive, keyed_write, write, same_dot, same_dot_is, same_dot_itself, Operation, StateValue, join, IsOperationOf, meaning_of, claim_said, names, replaces, SaysFor, In-append_left, In-append_right, In-append_cases, found, finds, known-meaning, starts-meaning, permits-meaning, drains-meaning, is_up, IsEligible, key_at, holder_of, load_of, IsFirst, IsVerdict, verdict_of, candidate_of, Verdict, Failover, Halted, Move, Takeover, Kept, Nobody, verdict_in_words, up_is, preferred_is, is_due_by, Note, IsLost, waits_of, Noted, kept_is, greatest_counter, terms_used_up, next-is, Sweep, claim_of, claimed_by, is_mine, if_own, MayRunAlike, IsLate, first_node, second_node, IsEither, the_app, worked_table, first_of, start_of, lost_node, lost_claim}
+use Rattle.std.specs.Prelude.{nat_eq}
 use Rattle.std.specs.FinMap as map
 use Rattle.std.specs.FinSet as set
-use Rattle.std.proofs.lemmas.Bool.{false≢true, leb-true, and_from}
-use Rattle.dac_base.specs.declared.NodeId.{NodeId}
-use Rattle.dac_base.specs.declared.AppId.{AppId}
-use Rattle.dac_base.specs.declared.limits.TheConstants.{MAX_COUNTER}
-use Rattle.dac_origins.specs.declared.dot.Dot.{Dot}
-use Rattle.dac_origins.specs.declared.dot.Origin.{Origin}
-use Rattle.dac_origins.specs.Dots.{dot}
 use Rattle.dac_chains.specs.declared.claims.Claim.{Claim}
 use Rattle.dac_chains.specs.declared.claims.How.TheVariants.{Failover as FailedOver}
-use Rattle.dac_chains.specs.Greatest.{IsGreatest}
-use Rattle.dac_chains.specs.Claims.{claim_cmp}
-use Rattle.dac_chains.specs.Lives.{Lives, IsLive}
-use Rattle.dac_wishes.specs.KeyedWrites.{keyed_write}
 use Rattle.dac_wishes.specs.DrainsValue.{origin}
-use Rattle.dac_wishes.specs.Writes.{write, same_dot}
-use Rattle.dac_wishes.specs.laws.KeyedWrites.{same_dot_is, same_dot_itself}
 use Rattle.dac_operations.specs.declared.act.Act.TheVariants.{Claim as Claims}
-use Rattle.dac_operations.specs.Operations.{Operation}
-use Rattle.dac_meaning.specs.StateValue.{StateValue, join}
-use Rattle.dac_meaning.specs.Meaning.{IsOperationOf, meaning_of, claim_said, names, replaces}
-use Rattle.dac_meaning.specs.Chained.{SaysFor}
-use Rattle.dac_meaning.specs.laws.Members.{In-append_left, In-append_right, In-append_cases, found, finds}
-use Rattle.dac_meaning.specs.laws.Readers.{known-meaning, starts-meaning, permits-meaning, drains-meaning}
 use Rattle.dac_config.specs.Table.{timeout_of}
-use Rattle.dac_placement.specs.Placement.{IsUp, is_up, IsEligible, key_at, holder_of, load_of, IsFirst, IsVerdict, verdict_of, candidate_of}
-use Rattle.dac_placement.specs.declared.verdicts.Verdict.{Verdict}
-use Rattle.dac_placement.specs.declared.verdicts.Verdict.TheVariants.{Start as ToStart, Failover, Halted, Move, Takeover, Kept, Nobody}
-use Rattle.dac_placement.specs.laws.Judged.{verdict_in_words}
-use Rattle.dac_placement.specs.laws.Tests.{up_is}
-use Rattle.dac_placement.specs.laws.Loads.{preferred_is}
-use Rattle.dac_decide.specs.FailoverWait.{is_due_by, Note, IsLost, waits_of}
-use Rattle.dac_decide.specs.declared.waits.Noted.{Noted}
-use Rattle.dac_decide.specs.laws.Kept.{kept_is}
-use Rattle.dac_commands.specs.Commands.{greatest_counter}
-use Rattle.dac_commands.specs.Causes.{first, terms_used_up}
-use Rattle.dac_commands.specs.laws.Counters.{next-is}
-use Rattle.dac_ticks.specs.Ticks.{Sweep, claim_of, claimed_by, is_mine}
-use Rattle.dac_ticks.specs.laws.Words.{if_own}
-use Rattle.dac_ticks.specs.laws.Claimed.{MayRunAlike}
-use Rattle.dac_settle.specs.Settling.{IsLate}
-use Rattle.dac_settle.specs.Worked.{first_node, second_node, IsEither, the_app, worked_table, first_of, start_of, begun}
+use Rattle.dac_placement.specs.Placement.{IsUp}
+use Rattle.dac_placement.specs.declared.verdicts.Verdict.TheVariants.{Start as ToStart}
+use Rattle.dac_commands.specs.Causes.{first}
+use Rattle.dac_settle.specs.Worked.{begun}
 use Rattle.dac_settle.specs.laws.AnyPlacement.{same_node, one}
 use Rattle.dac_settle.specs.laws.OnlyClaims.{AddsClaims, is_claim, alike, claim_greatest}
 use Rattle.dac_settle.specs.laws.Due.{candidate_due}
 use Rattle.dac_settle.specs.laws.Started.{AreStarts, are_live, live_only, no_claim_said}
 use Rattle.dac_settle.specs.laws.BothTick.{no_row}
-use Rattle.dac_settle.specs.WorkedLoss.{lost_node, lost_claim}
 use Rattle.dac_settle.proofs.ComingUp.{none_some, claiming_at}
 
 -- ---- the set

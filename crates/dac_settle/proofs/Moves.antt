@@ -1,68 +1,27 @@
 -- The worked run with a drain: the world is ready after both nodes have heard of the drain, and their round moves the
 -- application.
 use Rattle.std.proofs.Common.{◌≡◌, ◌⊎◌, ℕ, ◌+◌, ◌<◌, ◌≤◌, Bool, true, false, not, cond, ◌||◌, List, [], ◌∷◌, ◌++◌, length, Option, Some, None, option_map, Ok, refl, sym, ap, subst, ◌∙◌, arith, inl, inr}
-use Rattle.std.specs.Prelude.{nat_eq, nat_lt, nat_le, IsSome, All, unwrap_or}
-use Rattle.std.specs.Option.{is_some, option_map_or}
+use Rattle.dac_settle.specs.laws.Common.{nat_lt, nat_le, IsSome, All, unwrap_or, option_map_or, false≢true, true≢false, leb-true, le-ltb, NodeId, AppId, MAX_COUNTER, Dot, Origin, dot, Normal, IsGreatest, IsAtMost, claim_cmp, IsLive, live_is, keyed_write, write, same_dot_itself, Operation, operation, StateValue, join, IsOperationOf, AreOperationsOf, meaning_of, claim_said, names, replaces, SaysFor, In-append_right, In-append_cases, finds, meaning-same, known-meaning, starts-meaning, drains-meaning, app_count, is_up, IsDrainedAt, key_at, holder_of, verdict_of, Move, up_is, Note, IsLost, IsLostByNewest, waits_of, Noted, WorldEvent, Hand, Boot, HearOp, Booted, Issued, Refusal, DeclaredDown, DotsUsedUp, UnknownNode, NotLive, TooManyDots, greatest_counter, live_or_none, act_of, next_operation, not_live, too_many, used_up, terms_used_up, next-is, Sweep, sweep_from, claim_of, claimed_by, is_mine, is_mine_by, ModelNode, joined, shown, base_after, refusal_of, otherwise, meanings, off_after, WorldValue, ModelWorld, AnsweredAs, happens, answered_by, world_after, NodeSet, SetWorld, no_sets, set_run, RunsWith, DistinctDots-agree, Sound, sound_run, sound_start, IsLate, members_of, AreRounds, EndsInRounds, first_node, second_node, IsEither, the_app, worked_table, first_of, up_of, both_go_round, first_claim, draining, drained_set}
+use Rattle.std.specs.Prelude.{nat_eq}
+use Rattle.std.specs.Option.{is_some}
 use Rattle.std.specs.FinMap as map
-use Rattle.std.proofs.lemmas.Bool.{false≢true, true≢false, leb-true, leb-false, le-ltb}
+use Rattle.std.proofs.lemmas.Bool.{leb-false}
 use Rattle.std.proofs.lemmas.List.{length-append}
-use Rattle.dac_base.specs.declared.NodeId.{NodeId}
-use Rattle.dac_base.specs.declared.AppId.{AppId}
-use Rattle.dac_base.specs.declared.limits.TheConstants.{MAX_COUNTER}
-use Rattle.dac_origins.specs.declared.dot.Dot.{Dot}
-use Rattle.dac_origins.specs.declared.dot.Origin.{Origin}
-use Rattle.dac_origins.specs.Dots.{dot}
 use Rattle.dac_chains.specs.declared.claims.Claim.{Claim}
-use Rattle.dac_chains.specs.declared.claims.How.TheVariants.{Normal}
-use Rattle.dac_chains.specs.Greatest.{IsGreatest}
-use Rattle.dac_lattice.specs.Chains.{IsAtMost}
-use Rattle.dac_chains.specs.Claims.{claim_cmp}
-use Rattle.dac_chains.specs.Lives.{IsLive}
-use Rattle.dac_chains.specs.laws.Live.{live_is}
-use Rattle.dac_wishes.specs.KeyedWrites.{keyed_write}
 use Rattle.dac_wishes.specs.DrainsValue.{origin}
-use Rattle.dac_wishes.specs.Writes.{write}
-use Rattle.dac_wishes.specs.laws.KeyedWrites.{same_dot_itself}
 use Rattle.dac_operations.specs.declared.act.Act.TheVariants.{Claim as Claims, Drain as Drains}
-use Rattle.dac_operations.specs.Operations.{Operation, operation}
-use Rattle.dac_meaning.specs.StateValue.{StateValue, join}
-use Rattle.dac_meaning.specs.Meaning.{IsOperationOf, AreOperationsOf, meaning_of, claim_said, names, replaces}
-use Rattle.dac_meaning.specs.Chained.{SaysFor}
-use Rattle.dac_meaning.specs.laws.Members.{In-append_right, In-append_cases, finds}
-use Rattle.dac_meaning.specs.laws.Joins.{meaning-same}
-use Rattle.dac_meaning.specs.laws.Readers.{known-meaning, starts-meaning, drains-meaning}
-use Rattle.dac_config.specs.Table.{app_count}
-use Rattle.dac_placement.specs.Placement.{is_up, IsDrainedAt, key_at, holder_of, verdict_of}
-use Rattle.dac_placement.specs.declared.verdicts.Verdict.TheVariants.{Move}
-use Rattle.dac_placement.specs.laws.Tests.{up_is}
-use Rattle.dac_decide.specs.FailoverWait.{Note, IsLost, IsLostByNewest, waits_of}
-use Rattle.dac_decide.specs.declared.waits.Noted.{Noted}
 use Rattle.dac_events.specs.declared.Command.TheVariants.{Start, Drain}
-use Rattle.dac_events.specs.declared.WorldEvent.{WorldEvent}
-use Rattle.dac_events.specs.declared.What.TheVariants.{Boot as Booting, Command as Telling, Tick as Ticking, Hand}
-use Rattle.dac_messages.specs.declared.event.Event.TheVariants.{Boot, Command as Commanded, Tick, HearOp}
-use Rattle.dac_messages.specs.declared.reply.Reply.TheVariants.{Booted, Issued, Ticked}
-use Rattle.dac_events.specs.declared.refusal.Refusal.{Refusal}
-use Rattle.dac_events.specs.declared.refusal.Refusal.TheVariants.{DeclaredDown, DotsUsedUp, UnknownNode, NotLive, TooManyDots}
-use Rattle.dac_commands.specs.Commands.{greatest_counter, live, live_or_none, live_origin, standing_drains, act_of, next_operation}
-use Rattle.dac_commands.specs.Causes.{first, not_live, too_many, used_up, terms_used_up}
-use Rattle.dac_commands.specs.laws.Counters.{next-is, used_up_is}
+use Rattle.dac_events.specs.declared.What.TheVariants.{Boot as Booting, Command as Telling, Tick as Ticking}
+use Rattle.dac_messages.specs.declared.event.Event.TheVariants.{Command as Commanded, Tick}
+use Rattle.dac_messages.specs.declared.reply.Reply.TheVariants.{Ticked}
+use Rattle.dac_commands.specs.Commands.{live, live_origin, standing_drains}
+use Rattle.dac_commands.specs.Causes.{first}
+use Rattle.dac_commands.specs.laws.Counters.{used_up_is}
 use Rattle.dac_commands.specs.laws.Standing.{drains_at-has}
-use Rattle.dac_ticks.specs.Ticks.{Sweep, sweep_from, claim_of, claimed_by, is_mine, is_mine_by}
-use Rattle.dac_model_world.specs.ModelNode.{ModelNode, joined, shown, base_after}
-use Rattle.dac_model_world.specs.EventRefusals.{refusal_of, otherwise}
-use Rattle.dac_model_world.specs.Transitions.{meanings}
-use Rattle.dac_model_world.specs.Histories.{off_after}
-use Rattle.dac_model_world.specs.WorldValue.{WorldValue}
-use Rattle.dac_model_world.specs.ModelWorld.{ModelWorld, AnsweredAs, RanAs, Run, numbered, happens, answered_by, world_after}
-use Rattle.dac_model_world.specs.SetWorld.{NodeSet, SetWorld, no_sets, set_run}
-use Rattle.dac_model_world.specs.Convergence.{RunsWith}
-use Rattle.dac_model_world.specs.laws.Operations.{DistinctDots-agree}
-use Rattle.dac_model_world.specs.laws.Sound.{Sound, sound_run, sound_start}
-use Rattle.dac_settle.specs.Settling.{IsReady, IsLate}
-use Rattle.dac_settle.specs.WorldRounds.{members_of, AreRounds, EndsInRounds}
-use Rattle.dac_settle.specs.Worked.{first_node, second_node, IsEither, the_app, worked_table, first_of, up_of, begun, both_go_round}
-use Rattle.dac_settle.specs.WorkedMove.{first_claim, claiming, draining, drained_set}
+use Rattle.dac_model_world.specs.ModelWorld.{RanAs, Run, numbered}
+use Rattle.dac_settle.specs.Settling.{IsReady}
+use Rattle.dac_settle.specs.Worked.{begun}
+use Rattle.dac_settle.specs.WorkedMove.{claiming}
 use Rattle.dac_settle.specs.WorkedDrain.{drains_first, RunsCanMove}
 use Rattle.dac_settle.specs.laws.AnyPlacement.{one}
 use Rattle.dac_settle.specs.laws.OnlyClaims.{claim_greatest}

@@ -1,56 +1,21 @@
 -- The round of the worked runs: both nodes know the same, tick, ship and hear. Their claims are given where they are
 -- known.
 use Rattle.std.proofs.Common.{◌≡◌, append-nil, ◌⊎◌, ℕ, ◌+◌, ◌≤◌, Bool, true, false, not, cond, ◌||◌, ◌&&◌, List, [], ◌∷◌, ◌++◌, length, Option, Some, None, option_map, Ok, Err, refl, sym, ap, subst, ◌∙◌, arith, inl, inr}
-use Rattle.std.specs.Prelude.{nat_eq, nat_lt, IsSome, Result}
-use Rattle.std.specs.Option.{is_some, option_and_then}
+use Rattle.dac_settle.specs.laws.Common.{nat_lt, IsSome, option_and_then, false≢true, true≢false, leb-true, le-ltb, NodeId, AppId, MAX_COUNTER, origin_cmp, Life, IsLive, Operation, StateValue, IsOperationOf, AreOperationsOf, meaning_of, In-append_left, In-append_right, In-append_cases, app_count, is_up, up_is, Note, IsLost, IsLostByNewest, waits_of, WorldEvent, What, Message, Whole, Hear, Reply, Heard, Refusal, DeclaredDown, MomentBack, DotsUsedUp, UnknownNode, OnSelf, UpToDate, NotForMe, greatest_counter, no_node, terms_used_up, Position, no_peers, ack_for, has_all, Sweep, sweep_of, sweep_from, swept_by, WorldFault, ModelNode, ModelRunning, joined, shown, running_shown, base_after, refusal_of, meanings, message_of, body_from, step_by, is_below, NoSuchNode, ModelWorld, WorldStepped, AnsweredAs, event_of, happens, happens_by, answered_by, world_after, NodeSet, SetWorld, set_run, Member, IsLate, AllSame, member_by, members_of, InRound, AreInRound, IsWorldRound, AreRounds, first_node, second_node, IsEither, the_app, worked_table, first_of, both_go_round}
+use Rattle.std.specs.Prelude.{nat_eq, Result}
+use Rattle.std.specs.Option.{is_some}
 use Rattle.std.specs.FinMap as map
 use Rattle.std.specs.FinSet as set
 use Rattle.std.proofs.lemmas.List.{length-append, length-map}
-use Rattle.std.proofs.lemmas.Bool.{false≢true, true≢false, leb-true, le-ltb}
-use Rattle.dac_base.specs.declared.NodeId.{NodeId}
-use Rattle.dac_base.specs.declared.AppId.{AppId}
-use Rattle.dac_base.specs.declared.limits.TheConstants.{MAX_COUNTER}
-use Rattle.dac_origins.specs.Dots.{origin_cmp}
-use Rattle.dac_chains.specs.declared.lives.Life.{Life}
 use Rattle.dac_chains.specs.declared.claims.Claim.{Claim}
-use Rattle.dac_chains.specs.Lives.{IsLive}
-use Rattle.dac_operations.specs.Operations.{Operation}
-use Rattle.dac_meaning.specs.StateValue.{StateValue}
-use Rattle.dac_meaning.specs.Meaning.{IsOperationOf, AreOperationsOf, meaning_of}
-use Rattle.dac_meaning.specs.laws.Members.{In-append_left, In-append_right, In-append_cases}
-use Rattle.dac_config.specs.Table.{app_count}
-use Rattle.dac_placement.specs.Placement.{is_up}
-use Rattle.dac_placement.specs.laws.Tests.{up_is}
-use Rattle.dac_decide.specs.FailoverWait.{Note, IsLost, IsLostByNewest, waits_of}
-use Rattle.dac_events.specs.declared.WorldEvent.{WorldEvent}
-use Rattle.dac_events.specs.declared.What.{What}
 use Rattle.dac_events.specs.declared.What.TheVariants.{Tick as Ticking, Ship as Shipping, Deliver}
-use Rattle.dac_messages.specs.declared.message.Message.{Message}
-use Rattle.dac_messages.specs.declared.message.Body.TheVariants.{Whole}
 use Rattle.dac_messages.specs.declared.event.Event.{Event}
-use Rattle.dac_messages.specs.declared.event.Event.TheVariants.{Tick, Ship, Hear}
-use Rattle.dac_messages.specs.declared.reply.Reply.{Reply}
-use Rattle.dac_messages.specs.declared.reply.Reply.TheVariants.{Ticked, Shipped, Heard}
-use Rattle.dac_events.specs.declared.refusal.Refusal.{Refusal}
-use Rattle.dac_events.specs.declared.refusal.Refusal.TheVariants.{DeclaredDown, MomentBack, DotsUsedUp, UnknownNode, OnSelf, UpToDate, NotForMe}
-use Rattle.dac_commands.specs.Commands.{greatest_counter}
-use Rattle.dac_commands.specs.Causes.{first, no_node, terms_used_up}
-use Rattle.dac_peers.specs.declared.positions.Position.{Position}
-use Rattle.dac_peers.specs.Peers.{no_peers, begins, acked_at, acked_by, kept_from, ack_for, has_all}
-use Rattle.dac_ticks.specs.Ticks.{Sweep, sweep_of, sweep_from}
-use Rattle.dac_ticks.specs.laws.Sweeping.{swept_by}
-use Rattle.dac_events.specs.declared.world_fault.WorldFault.{WorldFault}
-use Rattle.dac_model_world.specs.ModelNode.{ModelNode, ModelRunning, joined, shown, running_shown, base_after}
-use Rattle.dac_model_world.specs.EventRefusals.{refusal_of}
-use Rattle.dac_model_world.specs.Transitions.{meanings, message_of, body_from}
-use Rattle.dac_model_world.specs.Step.{step_by}
-use Rattle.dac_meaning.specs.Below.{is_below}
-use Rattle.dac_events.specs.declared.world_fault.WorldFault.TheVariants.{NoSuchNode}
-use Rattle.dac_model_world.specs.ModelWorld.{ModelWorld, WorldStepped, AnsweredAs, event_of, happens, happens_by, answered_by, world_after}
-use Rattle.dac_model_world.specs.SetWorld.{Issue, NodeSet, SetWorld, set_run}
-use Rattle.dac_settle.specs.Settling.{Member, IsLate, AllSame, IsReady}
-use Rattle.dac_settle.specs.WorldRounds.{member_by, members_of, InRound, AreInRound, IsWorldRound, AreRounds}
-use Rattle.dac_settle.specs.Worked.{first_node, second_node, IsEither, the_app, worked_table, first_of, both_go_round}
+use Rattle.dac_messages.specs.declared.event.Event.TheVariants.{Tick, Ship}
+use Rattle.dac_messages.specs.declared.reply.Reply.TheVariants.{Ticked, Shipped}
+use Rattle.dac_commands.specs.Causes.{first}
+use Rattle.dac_peers.specs.Peers.{begins, acked_at, acked_by, kept_from}
+use Rattle.dac_model_world.specs.SetWorld.{Issue}
+use Rattle.dac_settle.specs.Settling.{IsReady}
 use Rattle.dac_settle.specs.laws.AnyPlacement.{same_node, one}
 use Rattle.dac_settle.proofs.ComingUp.{none_some}
 

@@ -1,39 +1,19 @@
 -- The worked run with a share: both nodes boot, one hears of the other, and each ships its whole set to the other.
 use Rattle.std.proofs.Common.{◌≡◌, append-nil, ◌⊎◌, ℕ, ◌+◌, ◌≤◌, Bool, true, false, not, cond, ◌&&◌, List, [], ◌∷◌, ◌++◌, length, Option, Some, None, option_map, Ok, refl, sym, ap, subst, ◌∙◌, arith, inl, inr}
-use Rattle.std.specs.Prelude.{nat_eq, nat_lt}
+use Rattle.dac_settle.specs.laws.Common.{nat_lt, NodeId, MAX_COUNTER, Life, IsLive, Operation, StateValue, IsOperationOf, AreOperationsOf, meaning_of, life_said, is_below, meaning-same, WorldEvent, Hand, Message, Whole, Boot, Hear, HearOp, Booted, Heard, Refusal, DotsUsedUp, UnknownNode, OnSelf, UpToDate, NotForMe, no_node, Position, no_peers, ack_for, has_all, ModelNode, joined, shown, running_shown, refusal_of, message_of, body_from, step_by, ModelWorld, answered_by, NodeSet, SetWorld, no_sets, set_run, first_node, second_node, IsEither, worked_table, first_of, up_of}
+use Rattle.std.specs.Prelude.{nat_eq}
 use Rattle.std.specs.FinMap as map
 use Rattle.std.specs.FinSet as set
-use Rattle.dac_base.specs.declared.NodeId.{NodeId}
-use Rattle.dac_base.specs.declared.limits.TheConstants.{MAX_COUNTER}
-use Rattle.dac_chains.specs.declared.lives.Life.{Life}
-use Rattle.dac_chains.specs.Lives.{IsLive}
-use Rattle.dac_operations.specs.Operations.{Operation}
-use Rattle.dac_meaning.specs.StateValue.{StateValue}
-use Rattle.dac_meaning.specs.Meaning.{IsOperationOf, AreOperationsOf, meaning_of, life_said}
-use Rattle.dac_meaning.specs.Below.{is_below}
-use Rattle.dac_meaning.specs.laws.Joins.{meaning-same}
-use Rattle.dac_events.specs.declared.WorldEvent.{WorldEvent}
-use Rattle.dac_events.specs.declared.What.TheVariants.{Boot as Booting, Ship as Shipping, Deliver, Hand}
-use Rattle.dac_messages.specs.declared.message.Message.{Message}
-use Rattle.dac_messages.specs.declared.message.Body.TheVariants.{Whole}
-use Rattle.dac_messages.specs.declared.event.Event.TheVariants.{Boot, Ship, Hear, HearOp}
-use Rattle.dac_messages.specs.declared.reply.Reply.TheVariants.{Booted, Shipped, Heard}
-use Rattle.dac_events.specs.declared.refusal.Refusal.{Refusal}
-use Rattle.dac_events.specs.declared.refusal.Refusal.TheVariants.{DotsUsedUp, UnknownNode, OnSelf, UpToDate, NotForMe}
-use Rattle.dac_commands.specs.Causes.{first, no_node}
-use Rattle.dac_peers.specs.declared.positions.Position.{Position}
-use Rattle.dac_peers.specs.Peers.{no_peers, ack_for, has_all}
-use Rattle.dac_model_world.specs.ModelNode.{ModelNode, joined, shown, running_shown}
-use Rattle.dac_model_world.specs.EventRefusals.{refusal_of}
-use Rattle.dac_model_world.specs.Transitions.{message_of, body_from}
-use Rattle.dac_model_world.specs.Step.{step_by}
-use Rattle.dac_model_world.specs.ModelWorld.{ModelWorld, Run, answered_by}
-use Rattle.dac_model_world.specs.SetWorld.{NodeSet, SetWorld, no_sets, set_run}
+use Rattle.dac_events.specs.declared.What.TheVariants.{Boot as Booting, Ship as Shipping, Deliver}
+use Rattle.dac_messages.specs.declared.event.Event.TheVariants.{Ship}
+use Rattle.dac_messages.specs.declared.reply.Reply.TheVariants.{Shipped}
+use Rattle.dac_commands.specs.Causes.{first}
+use Rattle.dac_model_world.specs.ModelWorld.{Run}
 use Rattle.dac_model_world.specs.Fits.{RunsIn}
 use Rattle.dac_model_world.specs.Shares.{TellsAll, IsShare, KnowPresent}
 use Rattle.dac_model_world.specs.laws.Numbering.{life_says}
 use Rattle.dac_model_world.specs.laws.SharesInRuns.{shares_run}
-use Rattle.dac_settle.specs.Worked.{first_node, second_node, IsEither, worked_table, first_of, up_of, begun}
+use Rattle.dac_settle.specs.Worked.{begun}
 use Rattle.dac_settle.specs.WorkedShare.{coming, telling, SharesCanBe}
 use Rattle.dac_settle.specs.laws.AnyPlacement.{same_node, one}
 use Rattle.dac_settle.specs.laws.Started.{are_live}

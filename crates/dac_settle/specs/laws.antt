@@ -1,3 +1,4 @@
+pub mod Common
 pub mod Counting
 pub mod AnyPlacement
 pub mod OnlyClaims

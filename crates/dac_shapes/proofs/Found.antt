@@ -1,38 +1,8 @@
 -- Soundness of the parser for tokens, lists, pairs and terms: their words are in the grammar, and their names are
 -- allowed.
 use Rattle.std.proofs.Common.{◌≡◌, Bool, true, false, cond, List, [], ◌∷◌, ◌++◌, map, Result, Ok, Err, refl, sym, ap, subst, ◌∙◌, append_assoc, inl, inr, ℕ, zero, suc, ◌⊎◌, IfOk, All}
-use Rattle.std.proofs.lemmas.List.Elements.{All-nil, All-cons}
-use Rattle.dac_tokens.specs.declared.fault.ConfigFault.{ConfigFault}
-use Rattle.dac_tokens.specs.declared.token.Symbol.{Symbol}
-use Rattle.dac_tokens.specs.declared.token.Symbol.TheVariants.{OpenList, CloseList, OpenTuple, CloseTuple, Comma}
-use Rattle.dac_tokens.specs.declared.fault.FaultKind.TheVariants.{BadShape}
-use Rattle.dac_tokens.specs.Gives.{◌>>=◌}
-use Rattle.dac_tokens.specs.Words.{Word, Punctuation, End, Located, is_end, Name, Number, Text}
-use Rattle.dac_tokens.specs.Stream.{Stream, taken, taken_of}
-use Rattle.dac_shapes.specs.Shape.{State, fails, is_symbol, token, symbol_at, more_at, comma_list, list_of, pair_at, closed, room, is_text, terms_at, terms_in, texts_at, term_by, term_at, passed_at}
-use Rattle.dac_shapes.specs.laws.Names.{chosen, mark_is, text_is}
-use Rattle.dac_shapes.specs.Limits.{Seen, AllMay, steps}
-use Rattle.dac_shapes.specs.Grammar.{Parted, PartedOrNone, IsListOf, between, AreBrackets, IsTerm, AreTerms, OfList, OfTuple, Atom, Integer, Strings, Empty, Between, One, More}
-
-pub bind_ok : {A B : Type 0} (r : Result A ConfigFault) (f : A → Result B ConfigFault) (y : B) → (r >>= f) ≡ Ok y → (x : A) × (r ≡ Ok x) × (f x ≡ Ok y)
-bind_ok (Ok x) f y e = (x, refl, e)
-bind_ok (Err d) f y e = absurd cc
-
--- a test must have held, or failed, because the result is `Ok`
-pub held : {A : Type 0} (b : Bool) (x : A) (e : ConfigFault) (y : A) → cond b (Ok x) (Err e) ≡ Ok y → (b ≡ true) × (x ≡ y)
-held true x e y h = (refl, cc)
-held false x e y h = absurd cc
-
-pub required : {A : Type 0} (b : Bool) (r : Result A ConfigFault) (e : ConfigFault) (y : A) → cond b r (Err e) ≡ Ok y → (b ≡ true) × (r ≡ Ok y)
-required true r e y h = (refl, h)
-required false r e y h = absurd cc
-
-pub passed : {A : Type 0} (b : Bool) (e : ConfigFault) (r : Result A ConfigFault) (y : A) → cond b (Err e) r ≡ Ok y → (b ≡ false) × (r ≡ Ok y)
-passed true e r y h = absurd cc
-passed false e r y h = (refl, h)
-
-pub ok_is : {A : Type 0} (x y : A) → ◌≡◌ {A = Result A ConfigFault} (Ok x) (Ok y) → x ≡ y
-ok_is x y e = cc
+use Rattle.dac_shapes.specs.laws.Common.{All-nil, All-cons, ConfigFault, Symbol, OpenList, CloseList, OpenTuple, CloseTuple, Comma, BadShape, ◌>>=◌, Word, Punctuation, End, Located, is_end, Name, Number, Text, Stream, taken, taken_of, State, fails, is_symbol, token, symbol_at, more_at, comma_list, list_of, pair_at, closed, room, is_text, terms_at, terms_in, texts_at, term_by, term_at, passed_at, Seen, AllMay, steps, Parted, PartedOrNone, IsListOf, between, AreBrackets, IsTerm, AreTerms, OfList, OfTuple, Atom, Integer, Strings, Empty, Between, One, More}
+use Rattle.dac_shapes.specs.laws.Names.{chosen, mark_is, text_is, bind_ok, held, required, ok_is}
 
 abbrev pub words_in : State → List Word
 words_in s = map (λ t. t.word) s.left.tokens

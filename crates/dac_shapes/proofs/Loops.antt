@@ -1,25 +1,11 @@
 -- Loops of the parser: faults that are passed on, elements separated by commas, terms that are skipped, names by their
 -- bytes.
 use Rattle.std.proofs.Common.{◌≡◌, ℕ, Result, Ok, Err, sym, ap, ◌∙◌, zero, suc, ◌<◌, ◌≤◌, Bool, true, false, cond, List, [], ◌∷◌, ◌++◌, length, refl, arith, ◌||◌, map, bytes_eq, IsErrAnd, IfErr}
-use Rattle.std.specs.List.{list_any}
-use Rattle.std.proofs.lemmas.List.{length-map}
-use Rattle.dac_tokens.specs.declared.fault.FaultKind.{FaultKind}
-use Rattle.dac_tokens.specs.declared.fault.FaultKind.TheVariants.{BadToken, Unsupported, NoMemory, BadShape}
-use Rattle.dac_tokens.specs.declared.fault.ConfigFault.{ConfigFault}
+use Rattle.dac_shapes.specs.laws.Common.{list_any, length-map, FaultKind, BadToken, Unsupported, NoMemory, BadShape, ConfigFault, ◌>>=◌, OrMemory, Fails, Reads, Gives, Stream, taken, Symbol, Located, Word, End, is_end, Comma, State, token, more_at, comma_list, fails, is_symbol, is_text, terms_at, terms_in, texts_at, term_by, term_at, IsEnough, Reading, app_of, apps_of, param_of, params_of, section_of, sections_of, ParamName, is_among, is_named, has_param, is_kernel, has_kernel, name_of}
 use Rattle.dac_tokens.specs.Faults.{IsTokenFault}
-use Rattle.dac_tokens.specs.Gives.{◌>>=◌, OrMemory, Fails, Reads, Gives}
-use Rattle.dac_tokens.specs.Stream.{Stream, taken}
-use Rattle.dac_tokens.specs.declared.token.Symbol.{Symbol}
-use Rattle.dac_tokens.specs.Words.{Located, Word, End, is_end}
-use Rattle.dac_tokens.specs.declared.token.Symbol.TheVariants.{Comma}
-use Rattle.dac_shapes.specs.Shape.{State, token, more_at, comma_list, fails, is_symbol, is_text, terms_at, terms_in, texts_at, term_by, term_at, IsEnough}
-use Rattle.dac_shapes.specs.Views.{Reading, app_of, apps_of, param_of, params_of, section_of, sections_of}
 use Rattle.dac_shapes.specs.declared.draft.DraftApp.{DraftApp}
 use Rattle.dac_shapes.specs.declared.param.Param.{Param}
 use Rattle.dac_shapes.specs.declared.param.Section.{Section}
-use Rattle.dac_shapes.specs.declared.param.ParamName.{ParamName}
-use Rattle.dac_shapes.specs.Limits.{is_among, is_named, has_param, is_kernel, has_kernel}
-use Rattle.dac_shapes.specs.Written.{name_of}
 
 or_memory : (k : FaultKind) (at : ℕ) (P Q : Type 0) → (P → Q) → OrMemory k at P → OrMemory k at Q
 or_memory NoMemory at P Q f h = h

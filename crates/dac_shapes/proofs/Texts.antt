@@ -1,49 +1,16 @@
 -- Whole texts: a text is read exactly if its tokens form a file whose names are allowed in order.
 use Rattle.std.proofs.Common.{◌≡◌, ℕ, ◌<◌, ◌≤◌, Bool, true, false, not, ◌&&◌, ◌≢◌, cond, eqb, ltb, leb, List, [], ◌∷◌, ◌++◌, length, map, Option, Some, None, Result, Ok, refl, sym, ap, subst, ◌∙◌, arith, inl, inr, codes, zero, suc, Err, bytes_eq, ltb-true, ltb-false, leb-false, eqb-true, ne_eqb, IfOk, IfErr, MatchResult, ◌↔◌}
-use Rattle.std.proofs.lemmas.Bool.{eqb-false}
-use Rattle.std.specs.List.{AllByRecursion}
-use Rattle.dac_base.specs.declared.limits.TheConstants.{MAX_NODES}
-use Rattle.dac_tokens.specs.declared.fault.ConfigFault.{ConfigFault}
-use Rattle.dac_tokens.specs.declared.token.Symbol.TheVariants.{OpenList, CloseList, OpenTuple, CloseTuple, Comma, FullStop}
-use Rattle.dac_tokens.specs.declared.fault.FaultKind.TheVariants.{BadShape, EmptyTuple, NumberTooLarge, NameTooLong, NoMemory}
-use Rattle.dac_tokens.specs.Gives.{◌>>=◌, OrMemory, Gives}
-use Rattle.dac_tokens.specs.Words.{Word, Punctuation, Name, Number, Located, is_end, End}
-use Rattle.dac_tokens.specs.Digits.{value_from}
-use Rattle.dac_tokens.specs.declared.fault.FaultKind.{FaultKind}
-use Rattle.dac_tokens.specs.TokenGrammar.{AreTokensOf}
-use Rattle.dac_tokens.specs.Stream.{Stream, token_from, and_then, tokens_within, tokens_of, taken_of, end_at as end_of, ended as ended_by}
-use Rattle.dac_shapes.specs.declared.draft.SyncWait.{SyncWait}
-use Rattle.dac_shapes.specs.declared.draft.SyncWait.TheVariants.{Ms}
-use Rattle.dac_shapes.specs.declared.param.ParamName.{ParamName}
+use Rattle.dac_shapes.specs.laws.Common.{eqb-false, AllByRecursion, MAX_NODES, ConfigFault, OpenList, CloseList, OpenTuple, CloseTuple, Comma, FullStop, BadShape, EmptyTuple, NumberTooLarge, NameTooLong, NoMemory, ◌>>=◌, OrMemory, Gives, Word, Punctuation, Name, Number, Located, is_end, End, value_from, FaultKind, AreTokensOf, Stream, token_from, and_then, tokens_within, tokens_of, taken_of, SyncWait, Ms, ParamName, App, Permission, Param, Distributed, Permissions, Mandatory, Optional, Timeout, Section, Kernel, name_of, spelled, Written, written, Seen, AllMay, steps, is_among, has_param, with_node, NodeKeeps, with_nodes, NodesKeep, ListKeeps, listing, with_list, with_app, AppKeeps, with_permission, PermissionKeeps, with_param, ValueKeeps, ParamKeeps, has_kernel, with_section, SectionKeeps, nothing, Every, State, fails, is_symbol, token, atom_of, short_name_of, node_of, names_at, item_at, groups_at, milliseconds_of, timeout_at, wait_of, app_name_of, app_value_at, app_at, flag_of, permission_value_at, permission_at, param_named, first_param, param_name_of, param_value_at, param_rest_at, param_at, names_kernel, kernel_at, section_rest_at, section_at, closed, list_of, room, end_at, file_at, between, IsListOf, IsNode, IsItem, IsNodeList, IsMs, IsFlag, IsPermission, strict, IsTimeout, IsApp, IsWait, IsParam, IsSection, IsFile, IsTextOf, nodes_in, AreWithinLimits, draft_of, ended, at, symbol_again}
+use Rattle.dac_tokens.specs.Stream.{end_at as end_of, ended as ended_by}
 use Rattle.dac_shapes.specs.declared.param.ParamName.TheVariants as named
-use Rattle.dac_shapes.specs.Written.{App, Permission, Param, Distributed, Permissions, Mandatory, Optional, Timeout, Section, Kernel, name_of, spelled, Written, written}
-use Rattle.dac_shapes.specs.Limits.{Seen, AllMay, steps, is_among, has_param, with_node, NodeKeeps, with_nodes, NodesKeep, ListKeeps, listing, with_list, with_app, AppKeeps, with_permission, PermissionKeeps, with_param, ValueKeeps, ParamKeeps, has_kernel, with_section, SectionKeeps, nothing, Every}
-use Rattle.dac_shapes.specs.Shape.{State, fails, is_symbol, token, atom_of, short_name_of, node_of, names_at, item_at, groups_at, milliseconds_of, timeout_at, wait_of, app_name_of, app_value_at, app_at, flag_of, permission_value_at, permission_at, param_named, first_param, param_name_of, param_value_at, param_rest_at, param_at, names_kernel, kernel_at, section_rest_at, section_at, closed, list_of, room, end_at, file_at}
-use Rattle.dac_shapes.specs.Grammar.{between, IsListOf, IsNode, IsItem, IsNodeList, IsMs, IsFlag, IsPermission, strict, IsTimeout, IsApp, IsWait, IsParam, IsSection, IsFile, IsTextOf}
-use Rattle.dac_shapes.specs.laws.Names.{chosen, unless_first, zero_is, mark_is, is_named, same_seen, param_is, unknown_is}
+use Rattle.dac_shapes.specs.laws.Names.{chosen, unless_first, zero_is, mark_is, is_named, same_seen, param_is, unknown_is, bind_ok, held, required, passed, ok_is, atom_is, short_name_is}
 use Rattle.dac_shapes.specs.declared.draft.Draft.{Draft}
-use Rattle.dac_shapes.specs.Within.{nodes_in, AreWithinLimits}
-use Rattle.dac_shapes.specs.Views.{draft_of}
-use Rattle.dac_shapes.specs.laws.Splits.{ended, at, symbol_again}
 use Rattle.dac_shapes.specs.laws.AgainSections.{sections_again}
-use Rattle.dac_shapes.proofs.Found.{bind_ok, held, required, passed, ok_is, words_in, EndsWell, Moves, Moves-then, same_last, token_is, token_moves, word_passes, symbol_passes, back, still_well, Reads, Gets, token_then, list_found, bracketed_found, pair_begun, pair_words, closed_found, pair_found, passed_found}
+use Rattle.dac_shapes.proofs.Found.{words_in, EndsWell, Moves, Moves-then, same_last, token_is, token_moves, word_passes, symbol_passes, back, still_well, Reads, Gets, token_then, list_found, bracketed_found, pair_begun, pair_words, closed_found, pair_found, passed_found}
 use Rattle.dac_shapes.proofs.Loops.{at_start}
 use Rattle.dac_shapes.proofs.Within.{within_from, may_from, seen_is}
 
 -- ---- nodes
-
-atom_is : (w : Word) (at : ℕ) (name : List ℕ) → atom_of (record { word = w; at = at }) ≡ Ok name → w ≡ Name name
-unfolding atom_of
-atom_is (Name n) at name e = ap Name (ok_is n name e)
-atom_is _ at name e = absurd cc
-
-short_name_is : (t : Located) (name : List ℕ) → short_name_of t ≡ Ok name → (t.word ≡ Name name) × (length name ≤ 255)
-unfolding short_name_of
-short_name_is t name e =
-    let b = bind_ok (atom_of t) (λ n. cond (ltb 255 (length n)) (fails NameTooLong t.at) (Ok n)) name e in
-    let p = passed (ltb 255 (length b.0)) _ (Ok b.0) name b.2 in
-    let q = ok_is b.0 name p.1 in
-    (atom_is t.word t.at b.0 b.1 ∙ ap Name q, omega (arith, ltb-false 255 (length b.0) p.0, ap length q))
 
 pub node_found : (repeats : Bool) (before : List (List ℕ)) (t : Located) (s : State) (name : List ℕ) (u : State) → EndsWell s → node_of repeats t s ≡ Ok (name, u) → Reads IsNode with_node (NodeKeeps Every repeats) t s name u
 unfolding node_of

@@ -1,25 +1,17 @@
 -- Names are allowed in order exactly if they keep the limits of `Within`; the draft then keeps them too.
 use Rattle.std.proofs.Common.{◌≡◌, ℕ, ◌<◌, ◌≤◌, Bool, true, false, cond, List, [], ◌∷◌, ◌++◌, length, map, fold, refl, sym, ap, subst, ◌∙◌, append_assoc, append-nil, length-append, arith, ◌+◌, ◌||◌, eqb, Option, None, Some, inl, inr, eq-eqb, count_by, All, bytes_eq}
-use Rattle.std.specs.List.{AllByRecursion as Each, IsDistinct, list_any}
-use Rattle.std.proofs.lemmas.Bool.{cond_both, or_parts, or_from, or_left, or_right, or_cases}
+use Rattle.dac_shapes.specs.laws.Common.{IsDistinct, list_any, cond_both, or_parts, or_from, or_left, or_right, or_cases, map_push, All-nil, MAX_NODES, Word, Seen, AllMay, steps, is_among, with_name, with_node, NodeKeeps, with_nodes, NodesKeep, with_groups, nothing, number_of, is_named, has_param, is_kernel, has_kernel, listing, with_app, AppKeeps, with_permission, PermissionKeeps, with_param, ValueKeeps, ParamKeeps, with_section, SectionKeeps, Every, MaySections, joined, params_in, names_of_app, names_of_param, names_in, nodes_in, AreAppsWithin, IsValueWithin, AreWithinLimits, ArePermissionsWithin, IsWithinLimits, ParamName, App, Permission, Param, Distributed, Permissions, Mandatory, Optional, Section, Kernel, name_of, Timeout, Written, unsaid, put, put_all, Parted, IsListOf, IsNode, IsItem, strict, IsApp, IsParam, IsSection, IsTextOf}
+use Rattle.std.specs.List.{AllByRecursion as Each}
 use Rattle.std.proofs.lemmas.List.Sums.{fold-append, sum_by-cons, sum_by-append}
 use Rattle.std.proofs.Math.Bool.{or-false}
-use Rattle.std.proofs.lemmas.List.{map_push}
-use Rattle.std.proofs.lemmas.List.Elements.{All-from_recursion as each_all, recursion_from_All as all_each, All-nil}
+use Rattle.std.proofs.lemmas.List.Elements.{All-from_recursion as each_all, recursion_from_All as all_each}
 use Rattle.std.proofs.lemmas.List.Folds.{list_any-append}
 use Rattle.std.specs.Set.{is_member}
 use Rattle.std.specs.Cmp.Lexicographic.{same_text}
 use Rattle.std.proofs.lemmas.Cmp.{nat_list_eq_equiv}
 use Rattle.std.proofs.lemmas.Map.Made.{length-le_from_is_member}
-use Rattle.dac_base.specs.declared.limits.TheConstants.{MAX_NODES}
-use Rattle.dac_tokens.specs.Words.{Word}
-use Rattle.dac_shapes.specs.Limits.{Seen, AllMay, steps, is_among, with_name, with_node, NodeKeeps, with_nodes, NodesKeep, with_groups, nothing, number_of, is_named, has_param, is_kernel, has_kernel, listing, with_app, AppKeeps, with_permission, PermissionKeeps, with_param, ValueKeeps, ParamKeeps, with_section, SectionKeeps, Every, MaySections}
-use Rattle.dac_shapes.specs.Within.{joined, params_in, names_of_app, names_of_param, names_in, nodes_in, AreAppsWithin, IsValueWithin, AreWithinLimits, ArePermissionsWithin, IsWithinLimits}
-use Rattle.dac_shapes.specs.declared.param.ParamName.{ParamName}
 use Rattle.dac_shapes.specs.declared.param.ParamName.TheVariants as named
-use Rattle.dac_shapes.specs.Written.{App, Permission, Param, Distributed, Permissions, Mandatory, Optional, Section, Kernel, name_of, Timeout, Written, unsaid, put, put_all}
-use Rattle.dac_shapes.specs.laws.Params.{each_append, put_params, nodes_stay}
-use Rattle.dac_shapes.specs.Grammar.{Parted, IsListOf, IsNode, IsItem, strict, IsApp, IsParam, IsSection, IsTextOf}
+use Rattle.dac_shapes.specs.laws.Params.{each_append, put_params, nodes_stay, ParamsHave, params_have}
 
 pub each_left : {A : Type 0} (P : A → Type 0) (xs ys : List A) → Each P (xs ++ ys) → Each P xs
 each_left P [] ys a = tt
@@ -349,12 +341,7 @@ keep_by P Q f before [] h = tt
 keep_by P Q f before (x ∷ xs) h = (f before x h.0, keep_by P Q f (before ++ x ∷ []) xs h.1)
 
 same_param : (a b : ParamName) → eqb (number_of a) (number_of b) ≡ true → a ≡ b
-same_param named.Distributed named.Distributed e = refl
-same_param named.Permissions named.Permissions e = refl
-same_param named.Mandatory named.Mandatory e = refl
-same_param named.Optional named.Optional e = refl
-same_param named.Timeout named.Timeout e = refl
-same_param _ _ e = absurd cc
+same_param a b e = grind arith
 
 abbrev is_this : ParamName → Param → Bool
 is_this name param = is_named name (name_of param)
@@ -540,10 +527,6 @@ abbrev ParamHasMembers : Param → Type 0
 ParamHasMembers (Distributed apps) = Each HasMembers apps
 ParamHasMembers _ = Unit {0}
 
-abbrev SectionHasMembers : Section → Type 0
-SectionHasMembers (Kernel params) = Each ParamHasMembers params
-SectionHasMembers Section.Other = Unit {0}
-
 module _ {A : Type 0} (Is : List Word → A → Type 0) (P : A → Type 0) (one : (words : List Word) (x : A) → Is words x → P x) where
   each_parted : (words : List Word) (xs : List A) → Parted Is words xs → Each P xs
   each_parted words [] h = absurd h
@@ -569,14 +552,9 @@ some_param : (words : List Word) (param : Param) → IsParam strict words param 
 some_param words (Distributed apps) h = each_listed (IsApp strict) HasMembers some_app h.0 apps h.2
 some_param words _ h = tt
 
-some_section : (words : List Word) (section : Section) → IsSection strict words section → SectionHasMembers section
+some_section : (words : List Word) (section : Section) → IsSection strict words section → ParamsHave ParamHasMembers section
 some_section words (Kernel params) h = each_listed (IsParam strict) ParamHasMembers some_param h.0 params h.2
 some_section words Section.Other h = tt
-
-some_params : (sections : List Section) → Each SectionHasMembers sections → Each ParamHasMembers (params_in sections)
-some_params [] h = tt
-some_params (Kernel params ∷ sections) h = each_append ParamHasMembers params (params_in sections) h.0 (some_params sections h.1)
-some_params (Section.Other ∷ sections) h = some_params sections h.1
 
 fewer_groups : (groups : List (List (List ℕ))) → Each HasMember groups → length groups ≤ length (joined groups)
 fewer_groups [] h = omega arith
@@ -642,4 +620,4 @@ put_within sections within some =
 
 pub text_within : (text : List ℕ) (w : Written) → IsTextOf text w → IsWithinLimits w
 text_within text w is =
-    subst IsWithinLimits (sym (is.says ∙ put_params (unsaid (nodes_in is.sections)) is.sections)) (put_within is.sections is.within (some_params is.sections (each_listed (IsSection strict) SectionHasMembers some_section is.file.0 is.sections is.file.2)))
+    subst IsWithinLimits (sym (is.says ∙ put_params (unsaid (nodes_in is.sections)) is.sections)) (put_within is.sections is.within (params_have ParamHasMembers is.sections (each_listed (IsSection strict) (ParamsHave ParamHasMembers) some_section is.file.0 is.sections is.file.2)))

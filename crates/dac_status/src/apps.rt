@@ -1,6 +1,6 @@
 //! The lines of applications.
 
-ghost use Rattle.std.specs.Prelude.{◌≡◌, ◌<◌, ◌≤◌, ◌++◌, ◌==◌, ℕ, false, [], Some, None, length, slice_index_or, OnOk};
+ghost use Rattle.std.specs.Prelude.{◌≡◌, ◌<◌, ◌≤◌, ◌++◌, ℕ, Some, None, slice_index_or, OnOk};
 ghost use Rattle.dac_config.specs.Table.{app_count, node_count};
 ghost use Rattle.dac_status.specs.Texts.{node_text, how_text, from_text, claim_text, holder_text, verdict_text, standing_text, mark_text, labels_of, groups_of, group_in, list_text, summary_text, app_lines};
 ghost use Rattle.dac_status.specs.Chains.{AreChains};

@@ -1,6 +1,6 @@
 //! The labels of nodes before their marks.
 
-ghost use Rattle.std.specs.Prelude.{◌≡◌, ◌<◌, ◌≤◌, [], IfOk, length, slice_index_or};
+ghost use Rattle.std.specs.Prelude.{◌≡◌, ◌<◌, [], IfOk, length, slice_index_or};
 ghost use Rattle.dac_config.specs.Table.{node_count};
 ghost use Rattle.dac_status.specs.Texts.{label_text, labels_of};
 

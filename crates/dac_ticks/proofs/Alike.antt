@@ -1,25 +1,22 @@
 -- Boards under configurations that are alike are the same.
 use Rattle.std.proofs.Common.{◌≡◌, ℕ, zero, suc, add-one, ◌+◌, ◌<◌, ◌≤◌, true, false, Bool, not, ◌&&◌, eqb, List, [], ◌∷◌, ◌++◌, get_or, All, Option, Some, None, slice_get, subst, refl, sym, ap, ◌∙◌, arith}
+use Rattle.dac_ticks.specs.laws.Common.{option_map_or, false_from_ne_true, eqb-true, NodeId, AppId, Origin, Table, node_count, app_count, StateValue, permissions_of, key_at, is_up, holder_of}
 use Rattle.std.specs.Prelude.{map as list_map, nat_lt, is_some, option_map, unwrap_or, if◌then◌else◌}
 use Rattle.std.specs.List.{range_with_len, list_any, position_from}
-use Rattle.std.specs.Option.{option_map_or, option_and_then}
-use Rattle.std.proofs.lemmas.Bool.{false_from_ne_true, eqb-true, ltb-true, ltb-false}
+use Rattle.std.specs.Option.{option_and_then}
+use Rattle.std.proofs.lemmas.Bool.{ltb-true, ltb-false}
 use Rattle.std.proofs.lemmas.Iterator.Adapters.{position_from-zero}
 use Rattle.std.proofs.lemmas.List.{map_push}
 use Rattle.std.proofs.lemmas.List.Elements.{All-head, All-tail, All-get_or}
 use Rattle.std.proofs.lemmas.List.Folds.{list_any_none}
 use Rattle.std.proofs.lemmas.List.FromFn.{map-range_with_len_more}
 use Rattle.std.proofs.lemmas.Option.{slice_get_within, get_or_from_slice_get}
-use Rattle.dac_base.specs.declared.NodeId.{NodeId}
-use Rattle.dac_base.specs.declared.AppId.{AppId}
-use Rattle.dac_origins.specs.declared.dot.Origin.{Origin}
-use Rattle.dac_config.specs.Table.{Table, AppRow, node_count, app_count, group_of, group_among, HaveEqualLists}
+use Rattle.dac_config.specs.Table.{AppRow, group_of, group_among, HaveEqualLists}
 use Rattle.dac_chains.specs.Lives.{live_at}
 use Rattle.dac_wishes.specs.PermissionsValue.{is_permitted}
-use Rattle.dac_meaning.specs.StateValue.{StateValue, permissions_of}
 use Rattle.dac_placement.specs.declared.standing.Standing.{Standing}
 use Rattle.dac_placement.specs.declared.standing.Standing.TheVariants.{Unclaimed, Lost, Stopped, Barred, Upheld}
-use Rattle.dac_placement.specs.Placement.{key_at, key_of, is_drained_at, is_started_at, is_up, holder_of, standing_of}
+use Rattle.dac_placement.specs.Placement.{key_of, is_drained_at, is_started_at, standing_of}
 use Rattle.dac_board.specs.declared.spot.Spot.{Spot}
 use Rattle.dac_board.specs.Boards.{spot_of, spots_of, group_held, row_of, rows_of}
 use Rattle.dac_ticks.specs.KeptBoards.{AreAlike, AreAlikeFor, GoesFor}

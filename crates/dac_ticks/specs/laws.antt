@@ -1,3 +1,4 @@
+pub mod Common
 pub mod Counters
 pub mod Sweeping
 pub mod Claims

@@ -1,21 +1,11 @@
 -- In the run of the woven events each journal is a history of its node.
 use Rattle.std.proofs.Common.{◌≡◌, true, cond, List, [], ◌∷◌, Ok, Err, map, refl, sym, ap, subst, ◌∙◌}
+use Rattle.dac_weave.specs.laws.Common.{NodeId, Table, node_count, WorldEvent, NoSuchNode, ModelNode, model_step, off_after, start, Record, JournalValue, entry_of, as_seen, as_world_result, Gives, node_step, node_step_by, replayed, AreAnswered}
 use Rattle.std.specs.Prelude.{nat_lt}
 use Rattle.std.proofs.lemmas.Bool.{true_from_ne_false}
-use Rattle.dac_base.specs.declared.NodeId.{NodeId}
-use Rattle.dac_config.specs.Table.{Table, node_count}
-use Rattle.dac_events.specs.declared.WorldEvent.{WorldEvent}
-use Rattle.dac_journal.specs.WorldFault.TheVariants.{NoSuchNode}
-use Rattle.dac_journal.specs.ModelNode.{ModelNode}
-use Rattle.dac_journal.specs.Step.{model_step}
-use Rattle.dac_journal.specs.Histories.{IsHistory, off_after}
-use Rattle.dac_journal.specs.ModelWorld.{start}
+use Rattle.dac_journal.specs.Histories.{IsHistory}
 use Rattle.dac_journal.specs.EveryList.{OfEachList}
 use Rattle.dac_journal.specs.Converges.{Converges}
-use Rattle.dac_journal.specs.declared.record.Record.{Record}
-use Rattle.dac_journal.specs.Journals.{JournalValue, entry_of}
-use Rattle.dac_weave.specs.Woven.{as_seen, as_world_result, Gives}
-use Rattle.dac_weave.specs.Replay.{node_step, node_step_by, replayed, AreAnswered}
 use Rattle.dac_weave.specs.Converging.{IsConverged}
 use Rattle.dac_weave.specs.laws.Runs.{node-after, history-after}
 use Rattle.dac_weave.proofs.Replays.{as_world_result-same, as_world_result-there, node_step-answer, node_step-node}

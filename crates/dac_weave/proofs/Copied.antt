@@ -1,12 +1,7 @@
 -- The copies of items, and the items that they equal.
-use Rattle.std.proofs.Common.{◌≡◌, ℕ, inl, inr, List, [], ◌∷◌, ◌++◌, Some, None, length, sym, ap, subst, ◌∙◌, refl}
-use Rattle.std.specs.List.{slice_get, slice_set}
-use Rattle.std.specs.Global.{Vec}
-use Rattle.std.proofs.lemmas.Bool.{cases_eq}
-use Rattle.std.proofs.lemmas.List.{length-map}
-use Rattle.std.specs.Borrow.{Bor}
-use Rattle.dac_weave.specs.Indexing.{numbers_of, later_of, HasCopy, HaveNoMore, HaveOneMore, AreCopies, Finds, IsIndexed}
-use Rattle.dac_weave.specs.Labels.{lent}
+use Rattle.std.proofs.Common.{◌≡◌, ℕ, inl, inr, List, [], ◌∷◌, ◌++◌, Some, length, sym, ap, subst, ◌∙◌}
+use Rattle.dac_weave.specs.laws.Common.{slice_get, slice_set, Vec, cases_eq, length-map, Bor, numbers_of, Finds, lent}
+use Rattle.dac_weave.specs.Indexing.{later_of, HasCopy, HaveNoMore, HaveOneMore, AreCopies, IsIndexed}
 use Rattle.dac_weave.proofs.Finding.{at-left, at-last, push-cases, set-here, set-apart, finds-again, lent-push}
 
 -- ---- the lists of copies

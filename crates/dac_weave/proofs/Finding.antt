@@ -1,17 +1,9 @@
 -- The hash table finds every item that was put.
 use Rattle.std.proofs.Common.{◌≡◌, ◌≢◌, ℕ, zero, suc, ◌+◌, ◌<◌, ◌≤◌, ◌%◌, inl, inr, ◌⊎◌, List, [], ◌∷◌, ◌++◌, Some, None, length, refl, sym, ap, subst, ◌∙◌, arith, below_more}
-use Rattle.std.specs.List.{slice_get, slice_set, slice_index_or}
-use Rattle.std.specs.Global.{Vec}
-use Rattle.std.proofs.lemmas.List.{length-set}
-use Rattle.std.proofs.lemmas.Bool.{cases_eq}
-use Rattle.std.proofs.lemmas.Option.{slice_get_within, slice_get_read}
-use Rattle.std.specs.Borrow.{Bor}
-use Rattle.std.proofs.lemmas.List.{length-map}
+use Rattle.dac_weave.specs.laws.Common.{slice_get, slice_set, Vec, length-set, cases_eq, slice_get_within, slice_get_read, Bor, length-map, slice_get-map, option_map, lent, numbers_of, Finds}
+use Rattle.std.specs.List.{slice_index_or}
 use Rattle.std.specs.Prelude.{Result, Ok, Err, OnErr}
-use Rattle.std.proofs.lemmas.Option.{slice_get-map}
-use Rattle.std.specs.Option.{option_map}
-use Rattle.dac_weave.specs.Labels.{lent}
-use Rattle.dac_weave.specs.Indexing.{numbers_of, bucket_of, IsFiledIn, Files, IsKept, Finds}
+use Rattle.dac_weave.specs.Indexing.{bucket_of, IsFiledIn, Files, IsKept}
 
 -- a fact that holds anyway holds on an error
 pub on_err : {A E P : Type 0} (r : Result A E) → P → OnErr r P

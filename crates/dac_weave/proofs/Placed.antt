@@ -1,34 +1,17 @@
 -- The merge keeps its invariant.
 use Rattle.std.proofs.Common.{◌≡◌, ◌≢◌, ℕ, zero, suc, ◌+◌, ◌-◌, ◌<◌, ◌≤◌, cond, inl, inr, ◌⊎◌, List, [], ◌∷◌, ◌++◌, Option, Some, None, Result, Ok, Err, length, take, drop, get_or, nat_eq, refl, sym, ap, subst, ◌∙◌, append-nil, arith, below_more}
-use Rattle.std.specs.Prelude.{MatchOption}
-use Rattle.std.specs.List.{slice_get, AllZip}
+use Rattle.dac_weave.specs.laws.Common.{MatchOption, slice_get, AllZip, take_more, length-set, length-map, slice_get_within, NodeId, Table, Reply, Refusal, Message, Operation, WorldEvent, What, ModelNode, off_after, ModelWorld, start, event_of, JournalValue, Seen, seen_of, seen_in, as_seen, journal_seen, as_world_result, At, IsPrefixOf, Gives, ReproducesPrefixes, IsFirst, node_step, replayed, AreAnswered, run_from, Begins, Weaves, BlockedBetween, IsLeft, IsRecorded}
 use Rattle.std.proofs.Math.ListN.{set}
-use Rattle.std.proofs.lemmas.List.{take_more, length-set, take_all, take-append-drop, length-take-le, length-map, length-append}
-use Rattle.std.proofs.lemmas.Option.{slice_get_within}
+use Rattle.std.proofs.lemmas.List.{take_all, take-append-drop, length-take-le, length-append}
 use Rattle.std.proofs.lemmas.Bool.{cases_lt}
-use Rattle.dac_base.specs.declared.NodeId.{NodeId}
-use Rattle.dac_config.specs.Table.{Table}
-use Rattle.dac_messages.specs.declared.reply.Reply.{Reply}
-use Rattle.dac_events.specs.declared.refusal.Refusal.{Refusal}
-use Rattle.dac_messages.specs.declared.message.Message.{Message}
-use Rattle.dac_operations.specs.Operations.{Operation}
-use Rattle.dac_events.specs.declared.WorldEvent.{WorldEvent}
-use Rattle.dac_events.specs.declared.What.{What}
-use Rattle.dac_journal.specs.ModelNode.{ModelNode}
-use Rattle.dac_journal.specs.Histories.{off_after}
-use Rattle.dac_journal.specs.ModelWorld.{ModelWorld, start, event_of}
 use Rattle.dac_weave.specs.declared.cursor.Cursor.{Cursor}
 use Rattle.dac_weave.specs.declared.merge.Merge.{Merge}
-use Rattle.dac_journal.specs.Journals.{JournalValue}
-use Rattle.dac_weave.specs.Woven.{Seen, seen_of, seen_in, as_seen, journal_seen, as_world_result, At, IsPrefixOf, AllFit, Gives, ReproducesPrefixes, IsFirst, IsStuckAt, IsUnwoven}
-use Rattle.dac_weave.specs.Replay.{node_step, replayed, AreAnswered}
-use Rattle.dac_journal.specs.EveryList.{run_from}
-use Rattle.dac_weave.specs.Names.{Begins, issued_in, shipped_in}
-use Rattle.dac_weave.specs.Placing.{IsCursor, HaveCursors, Weaves, CanBePlaced, IsBlocked, BlockedBetween, AllBlocked, Places, PlacesRecord, longer, IsLeft, IsLeftAt, AllWhole}
+use Rattle.dac_weave.specs.Woven.{AllFit, IsStuckAt, IsUnwoven}
+use Rattle.dac_weave.specs.Names.{issued_in, shipped_in}
+use Rattle.dac_weave.specs.Placing.{IsCursor, HaveCursors, CanBePlaced, IsBlocked, AllBlocked, Places, PlacesRecord, longer, IsLeftAt, AllWhole}
 use Rattle.dac_weave.specs.laws.Members.{not_true}
 use Rattle.dac_weave.specs.laws.Runs.{eq_self, node-after, count-after, seen-append, run-append, steps_node, grows, shipped_of, issued_of}
 use Rattle.dac_weave.proofs.Replays.{take-push, journal_seen-at, so_far}
-use Rattle.dac_weave.specs.Recording.{IsRecorded}
 use Rattle.dac_weave.specs.laws.Recorded.{kept, recorded-gives}
 use Rattle.dac_weave.specs.laws.Complete.{Stands, furthest, same_number}
 use Rattle.dac_weave.proofs.Least.{one_at}

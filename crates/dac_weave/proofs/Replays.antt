@@ -1,27 +1,13 @@
 -- One journal replayed alone.
 use Rattle.std.proofs.Common.{◌≡◌, ℕ, ◌+◌, ◌<◌, ◌≤◌, Bool, true, false, cond, zero, suc, List, [], ◌∷◌, ◌++◌, Some, None, Result, Ok, Err, length, take, map, get_or, lt-ltb, refl, sym, ap, subst, ◌∙◌, true≢false, arith}
-use Rattle.std.specs.Prelude.{nat_lt, IsTrue, ◌↔◌}
-use Rattle.std.specs.List.{slice_get}
-use Rattle.std.specs.Option.{option_map}
-use Rattle.std.proofs.lemmas.List.{take_more, length-map}
+use Rattle.dac_weave.specs.laws.Common.{IsTrue, ◌↔◌, slice_get, option_map, take_more, length-map, slice_get-map, slice_get_within, slice_get_read, NodeId, Table, node_count, NodeValue, Event, Reply, Refusal, NoSuchNode, ModelNode, model_step, Steps, off_after, Record, JournalValue, Seen, as_seen, journal_seen, as_world_result, At, NodeStepped, moved, node_step, node_step_by, replayed, AreAnswered, Repeats}
+use Rattle.std.specs.Prelude.{nat_lt}
 use Rattle.std.proofs.lemmas.Bool.Decides.{nat_tests}
-use Rattle.std.proofs.lemmas.Option.{slice_get-map, slice_get_within, get_or_from_slice_get, slice_get_past, slice_get_read}
-use Rattle.dac_base.specs.declared.NodeId.{NodeId}
-use Rattle.dac_config.specs.Table.{Table, node_count}
-use Rattle.dac_journal.specs.NodeValue.{NodeValue}
-use Rattle.dac_messages.specs.declared.event.Event.{Event}
-use Rattle.dac_messages.specs.declared.reply.Reply.{Reply}
-use Rattle.dac_events.specs.declared.refusal.Refusal.{Refusal}
-use Rattle.dac_journal.specs.WorldFault.TheVariants.{NoSuchNode}
-use Rattle.dac_journal.specs.ModelNode.{ModelNode, shown}
-use Rattle.dac_journal.specs.Step.{model_step, Steps}
+use Rattle.std.proofs.lemmas.Option.{get_or_from_slice_get, slice_get_past}
+use Rattle.dac_journal.specs.ModelNode.{shown}
 use Rattle.dac_journal.specs.laws.Histories.{refused_stays}
-use Rattle.dac_journal.specs.Histories.{off_after}
 use Rattle.dac_journal.specs.NodeValue.{off}
-use Rattle.dac_journal.specs.declared.record.Record.{Record}
-use Rattle.dac_journal.specs.Journals.{JournalValue}
-use Rattle.dac_weave.specs.Woven.{Seen, as_seen, journal_seen, as_world_result, At}
-use Rattle.dac_weave.specs.Replay.{NodeStepped, moved, node_step, node_step_by, replayed, AreAnswered, IsLongest, Repeats}
+use Rattle.dac_weave.specs.Replay.{IsLongest}
 use Rattle.dac_weave.specs.laws.Runs.{replayed-append, AreAnswered-push}
 
 -- ---- lists by place

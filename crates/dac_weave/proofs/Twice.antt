@@ -1,7 +1,6 @@
 -- Journals of one node.
 use Rattle.std.proofs.Common.{◌≡◌, ◌≢◌, ℕ, ◌<◌, List}
-use Rattle.dac_journal.specs.Journals.{JournalValue}
-use Rattle.dac_weave.specs.Woven.{At}
+use Rattle.dac_weave.specs.laws.Common.{JournalValue, At}
 
 -- no journal before k, except the i-th, belongs to its node
 abbrev pub NoneBefore : List JournalValue → ℕ → ℕ → Type 0

@@ -1,40 +1,12 @@
 -- A second tick of a node at the same moment claims nothing.
 use Rattle.std.proofs.Common.{◌≡◌, ℕ, Bool, true, false, not, cond, ◌||◌, List, [], ◌∷◌, ◌++◌, length, Option, Some, None, Result, Ok, refl, sym, ap, subst, ◌∙◌, inl, inr, arith, true≢false}
-use Rattle.std.specs.Prelude.{nat_lt}
-use Rattle.std.proofs.lemmas.Bool.{ltb-true, false_from_ne_true}
-use Rattle.dac_base.specs.declared.NodeId.{NodeId}
-use Rattle.dac_base.specs.declared.AppId.{AppId}
-use Rattle.dac_origins.specs.declared.dot.Origin.{Origin}
-use Rattle.dac_chains.specs.Lives.{IsLive, Lives}
-use Rattle.dac_operations.specs.declared.act.Act.{Act}
-use Rattle.dac_operations.specs.Operations.{Operation}
-use Rattle.dac_meaning.specs.StateValue.{StateValue, IsState, join}
-use Rattle.dac_meaning.specs.Meaning.{meaning_of}
-use Rattle.dac_config.specs.Table.{Table}
-use Rattle.dac_decide.specs.Placement.{is_up, verdict_of}
-use Rattle.dac_decide.specs.laws.Tests.{up_is}
-use Rattle.dac_decide.specs.declared.start_gate.Opening.{Opening}
-use Rattle.dac_decide.specs.declared.start_gate.Opening.TheVariants.{Shut, Opened, GiveUp}
-use Rattle.dac_decide.specs.declared.waits.Noted.{Noted}
-use Rattle.dac_decide.specs.FailoverWait.{Note, waits_of}
-use Rattle.dac_messages.specs.declared.event.Event.TheVariants.{Tick}
-use Rattle.dac_messages.specs.declared.reply.Reply.{Reply}
-use Rattle.dac_messages.specs.declared.reply.Reply.TheVariants.{Ticked}
-use Rattle.dac_events.specs.declared.refusal.Refusal.{Refusal}
-use Rattle.dac_events.specs.declared.refusal.Refusal.TheVariants.{DeclaredDown, MomentBack, DotsUsedUp}
-use Rattle.dac_commands.specs.Commands.{next_operation}
-use Rattle.dac_commands.specs.Causes.{first as first_cause, declared_down}
-use Rattle.dac_commands.specs.laws.Written.{none_is}
-use Rattle.dac_ticks.specs.Ticks.{Sweep, sweep_of, claim_of}
-use Rattle.dac_ticks.specs.laws.Sweeping.{numbered, swept_by, sweep_reaches}
-use Rattle.dac_ticks.specs.laws.Claims.{state_joined}
+use Rattle.dac_model_node.specs.laws.Common.{nat_lt, ltb-true, false_from_ne_true, NodeId, AppId, Origin, IsLive, Act, Operation, StateValue, IsState, join, meaning_of, Table, is_up, up_is, Opening, Shut, Opened, GiveUp, Noted, Note, waits_of, Tick, Reply, Ticked, Refusal, DeclaredDown, MomentBack, DotsUsedUp, next_operation, declared_down, none_is, Sweep, sweep_of, claim_of, numbered, swept_by, sweep_reaches, state_joined, ModelNode, ModelRunning, base_after, joined, running_shown, causes_to_tick, refusal_to_tick, needed, too_few_left, too_many_deltas, meanings, opening_at, ticks_by, goes_on, model_step, step_by}
+use Rattle.dac_chains.specs.Lives.{Lives}
+use Rattle.dac_decide.specs.Placement.{verdict_of}
+use Rattle.dac_commands.specs.Causes.{first as first_cause}
 use Rattle.dac_ticks.specs.laws.Claimed.{claim_alike, claim_state, claimed_as}
 use Rattle.dac_ticks.specs.laws.Again.{second_tick}
 use Rattle.dac_ticks.specs.Again.{IsAmong}
-use Rattle.dac_model_node.specs.ModelNode.{ModelNode, ModelRunning, base_after, joined, running_shown}
-use Rattle.dac_model_node.specs.EventRefusals.{causes_to_tick, refusal_to_tick, needed, too_few_left, too_many_deltas}
-use Rattle.dac_model_node.specs.Transitions.{meanings, opening_at, ticks_by}
-use Rattle.dac_model_node.specs.Step.{goes_on, model_step, step_by}
 use Rattle.dac_model_node.specs.Again.{ClaimsNothing, HoldsState, SecondTickClaimsNothing}
 use Rattle.dac_model_node.specs.laws.Steps.{joined-append}
 

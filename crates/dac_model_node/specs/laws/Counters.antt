@@ -1,13 +1,6 @@
 -- Numbers that are left for an accepted tick.
 use Rattle.std.proofs.Common.{◌≡◌, ◌≤◌, ℕ, ◌+◌, Bool, true, false, ◌||◌, None, refl, arith, true≢false}
-use Rattle.std.specs.Prelude.{nat_lt, max}
-use Rattle.std.proofs.lemmas.Bool.{ltb-false}
-use Rattle.dac_base.specs.declared.limits.TheConstants.{MAX_COUNTER}
-use Rattle.dac_config.specs.Table.{Table, app_count}
-use Rattle.dac_commands.specs.Commands.{greatest_counter}
-use Rattle.dac_commands.specs.laws.Written.{none_is}
-use Rattle.dac_model_node.specs.NodeValue.{RunningValue}
-use Rattle.dac_model_node.specs.EventRefusals.{causes_to_tick, refusal_to_tick, too_few_left, too_many_deltas, needed}
+use Rattle.dac_model_node.specs.laws.Common.{nat_lt, max, ltb-false, MAX_COUNTER, Table, app_count, greatest_counter, none_is, RunningValue, causes_to_tick, refusal_to_tick, too_few_left, too_many_deltas, needed}
 
 neither : (a b : Bool) → (a || b) ≡ false → (a ≡ false) × (b ≡ false)
 neither true b e = absurd (true≢false e)

@@ -1,33 +1,12 @@
 -- The effect of an accepted event at its node.
 use Rattle.std.proofs.Common.{◌≡◌, ℕ, Bool, true, false, not, List, [], ◌∷◌, Option, Some, None, refl, sym, subst, ◌∙◌, inl, inr, true≢false}
-use Rattle.std.specs.Prelude.{IfSome}
-use Rattle.dac_base.specs.declared.NodeId.{NodeId}
-use Rattle.dac_origins.specs.declared.dot.Origin.{Origin}
-use Rattle.dac_operations.specs.declared.act.Act.{Act}
+use Rattle.dac_model_node.specs.laws.Common.{IfSome, NodeId, Origin, Act, StateValue, IsState, Table, apps_of, is_up, up_is, Opening, Shut, Opened, GiveUp, Noted, sweep_of, state_joined, Command, Down, Permit, Start, Stop, Drain, Takeover, Event, Boot, Crash, Tick, Ship, Hear, HearOp, next_operation, none_is, NodeValue, RunningValue, causes_to_tick, refusal_by, refusal_to_tick, opening_at, ticks_by, left_by, reply_by, running_by, HasEffect}
 use Rattle.dac_operations.specs.declared.act.Act.TheVariants.{Claim}
-use Rattle.dac_meaning.specs.StateValue.{StateValue, IsState}
-use Rattle.dac_config.specs.Table.{Table}
-use Rattle.dac_decide.specs.Placement.{apps_of, is_up}
-use Rattle.dac_decide.specs.laws.Tests.{up_is}
-use Rattle.dac_decide.specs.declared.start_gate.Opening.{Opening}
-use Rattle.dac_decide.specs.declared.start_gate.Opening.TheVariants.{Shut, Opened, GiveUp}
-use Rattle.dac_decide.specs.declared.waits.Noted.{Noted}
-use Rattle.dac_ticks.specs.Ticks.{sweep_of}
 use Rattle.dac_ticks.specs.Staying.{AreKeptAt, AreLaterClaims}
-use Rattle.dac_ticks.specs.laws.Claims.{state_joined}
 use Rattle.dac_ticks.specs.laws.Staying.{next_is_later, claims_stay, claims_are_later}
 use Rattle.dac_ticks.specs.laws.TakesEffect.{commands_take_effect}
-use Rattle.dac_events.specs.declared.Command.{Command}
-use Rattle.dac_events.specs.declared.Command.TheVariants.{Down, Permit, Start, Stop, Drain, Takeover}
-use Rattle.dac_messages.specs.declared.event.Event.{Event}
-use Rattle.dac_messages.specs.declared.event.Event.TheVariants.{Boot, Crash, Command as Commanded, Tick, Ship, Hear, HearOp}
-use Rattle.dac_commands.specs.Commands.{next_operation, next_term, act_of}
-use Rattle.dac_commands.specs.laws.Written.{none_is}
-use Rattle.dac_model_node.specs.NodeValue.{NodeValue, RunningValue}
-use Rattle.dac_model_node.specs.EventRefusals.{causes_to_tick, refusal_by, refusal_to_tick}
-use Rattle.dac_model_node.specs.Transitions.{opening_at, ticks_by}
-use Rattle.dac_model_node.specs.Accepted.{left_by, reply_by, running_by}
-use Rattle.dac_model_node.specs.Effect.{HasEffect}
+use Rattle.dac_messages.specs.declared.event.Event.TheVariants.{Command as Commanded}
+use Rattle.dac_commands.specs.Commands.{next_term, act_of}
 use Rattle.dac_model_node.specs.laws.Numbers.{obeyed}
 use Rattle.dac_model_node.specs.laws.Writing.{no_off}
 

@@ -1,20 +1,7 @@
 -- An open start gate stays open until its node goes off.
 use Rattle.std.proofs.Common.{◌≡◌, ℕ, ◌-◌, true, cond, List, ◌∷◌, Option, Some, None, refl, sym, ap, subst}
-use Rattle.dac_base.specs.declared.NodeId.{NodeId}
-use Rattle.dac_config.specs.Table.{Table}
-use Rattle.dac_decide.specs.FailoverWait.{Note, waits_of}
-use Rattle.dac_decide.specs.StartGate.{opening_of}
-use Rattle.dac_decide.specs.declared.start_gate.Opening.{Opening}
-use Rattle.dac_decide.specs.declared.start_gate.Opening.TheVariants.{Shut, Opened, GiveUp}
-use Rattle.dac_decide.specs.declared.waits.Noted.{Noted}
-use Rattle.dac_messages.specs.declared.event.Event.{Event}
-use Rattle.dac_messages.specs.declared.event.Event.TheVariants.{Boot, Crash, Command as Commanded, Tick, Ship, Hear, HearOp}
-use Rattle.dac_events.specs.declared.refusal.Refusal.{Refusal}
-use Rattle.dac_model_node.specs.NodeValue.{RunningValue}
-use Rattle.dac_model_node.specs.ModelNode.{ModelNode, ModelRunning, joined, running_shown, shown}
-use Rattle.dac_model_node.specs.EventRefusals.{refusal_of}
-use Rattle.dac_model_node.specs.Transitions.{opening_at, ticks_by, note_of}
-use Rattle.dac_model_node.specs.Step.{goes_on, model_step, step_by}
+use Rattle.dac_model_node.specs.laws.Common.{NodeId, Table, Note, waits_of, opening_of, Opening, Shut, Opened, GiveUp, Noted, Event, Boot, Crash, Tick, Ship, Hear, HearOp, Refusal, RunningValue, ModelNode, ModelRunning, joined, running_shown, shown, refusal_of, opening_at, ticks_by, note_of, goes_on, model_step, step_by}
+use Rattle.dac_messages.specs.declared.event.Event.TheVariants.{Command as Commanded}
 use Rattle.dac_model_node.specs.Gates.{SaysOpen, SaysShut, SaysOff, Answers, RunsOpen, TicksOpen, OpenStays, OpenIsOpen}
 
 opens : (t : Table) (r : RunningValue) (now : ℕ) → r.is_open ≡ true → opening_at t r now ≡ Opened

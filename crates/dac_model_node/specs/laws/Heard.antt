@@ -1,33 +1,15 @@
 -- The dots that a node hears by an accepted event.
 use Rattle.std.proofs.Common.{◌≡◌, ℕ, Bool, true, false, cond, ◌||◌, List, [], ◌∷◌, Option, Some, None, map, refl, sym, ap, ◌∙◌, true≢false}
-use Rattle.std.specs.Prelude.{fold}
+use Rattle.dac_model_node.specs.laws.Common.{fold, NodeId, Operation, StateValue, join, meaning_of, is_below, is_below-is, Table, Opening, Shut, Opened, GiveUp, Noted, content_of, Event, Boot, Crash, Tick, Ship, Hear, HearOp, AlreadyOn, sweep_of, RunningValue, state_of, refusal_by, transition_of, brings, meanings, opening_at, ticks_by, left_by, reply_by, running_by}
 use Rattle.std.specs.List.{list_any}
 use Rattle.std.specs.FinSet as set
-use Rattle.dac_base.specs.declared.NodeId.{NodeId}
 use Rattle.dac_origins.specs.declared.dot.Dot.{Dot}
 use Rattle.dac_origins.specs.Dots.{Dots, IsSubset, dot_cmp}
 use Rattle.dac_origins.specs.laws.Dots.{dots_total, exact_dots}
 use Rattle.dac_store.specs.laws.Stores.{same_context, subset_left, subset_union}
 use Rattle.dac_wishes.specs.Writes.{same_dot}
-use Rattle.dac_operations.specs.Operations.{Operation}
-use Rattle.dac_meaning.specs.StateValue.{StateValue, join}
 use Rattle.dac_meaning.specs.laws.StateLaws.{heard-join}
-use Rattle.dac_meaning.specs.Meaning.{meaning_of}
-use Rattle.dac_meaning.specs.Below.{is_below}
-use Rattle.dac_meaning.specs.laws.Below.{is_below-is}
-use Rattle.dac_config.specs.Table.{Table}
-use Rattle.dac_decide.specs.declared.start_gate.Opening.{Opening}
-use Rattle.dac_decide.specs.declared.start_gate.Opening.TheVariants.{Shut, Opened, GiveUp}
-use Rattle.dac_decide.specs.declared.waits.Noted.{Noted}
-use Rattle.dac_messages.specs.Bodies.{content_of}
-use Rattle.dac_messages.specs.declared.event.Event.{Event}
-use Rattle.dac_messages.specs.declared.event.Event.TheVariants.{Boot, Crash, Command as Commanded, Tick, Ship, Hear, HearOp}
-use Rattle.dac_events.specs.declared.refusal.Refusal.TheVariants.{AlreadyOn}
-use Rattle.dac_ticks.specs.Ticks.{sweep_of}
-use Rattle.dac_model_node.specs.NodeValue.{RunningValue, state_of}
-use Rattle.dac_model_node.specs.EventRefusals.{refusal_by}
-use Rattle.dac_model_node.specs.Transitions.{transition_of, brings, meanings, opening_at, ticks_by}
-use Rattle.dac_model_node.specs.Accepted.{left_by, reply_by, running_by}
+use Rattle.dac_messages.specs.declared.event.Event.TheVariants.{Command as Commanded}
 use Rattle.dac_model_node.specs.Hearing.{dots_brought, dots_issued, HearsExactly}
 use Rattle.dac_model_node.specs.laws.Options.{some_same}
 

@@ -1,23 +1,7 @@
 -- A tick that is held back notes nothing, and its moment counts.
 use Rattle.std.proofs.Common.{◌≡◌, ℕ, ◌<◌, Bool, false, ◌||◌, List, [], ◌∷◌, ◌++◌, length, Option, Some, None, option_map, Result, Ok, Err, refl, ap, ◌∙◌, append-nil}
-use Rattle.std.proofs.lemmas.Bool.{lt-ltb}
-use Rattle.dac_base.specs.declared.NodeId.{NodeId}
-use Rattle.dac_config.specs.Table.{Table}
-use Rattle.dac_decide.specs.FailoverWait.{waits_of}
-use Rattle.dac_decide.specs.declared.start_gate.Opening.{Opening}
-use Rattle.dac_decide.specs.declared.start_gate.Opening.TheVariants.{Shut, Opened, GiveUp}
-use Rattle.dac_decide.specs.declared.waits.Noted.{Noted}
-use Rattle.dac_messages.specs.declared.event.Event.TheVariants.{Tick}
-use Rattle.dac_messages.specs.declared.reply.Reply.{Reply}
-use Rattle.dac_messages.specs.declared.reply.Reply.TheVariants.{Held}
-use Rattle.dac_events.specs.declared.refusal.Refusal.{Refusal}
-use Rattle.dac_events.specs.declared.refusal.Refusal.TheVariants.{DeclaredDown, MomentBack, DotsUsedUp}
-use Rattle.dac_commands.specs.Causes.{first as first_cause, declared_down}
-use Rattle.dac_commands.specs.laws.Written.{none_is}
-use Rattle.dac_model_node.specs.ModelNode.{ModelNode, ModelRunning, base_after, joined, running_shown}
-use Rattle.dac_model_node.specs.EventRefusals.{causes_to_tick, refusal_to_tick, needed, too_few_left, too_many_deltas}
-use Rattle.dac_model_node.specs.Transitions.{opening_at, note_of, ticks_by}
-use Rattle.dac_model_node.specs.Step.{goes_on, model_step, step_by}
+use Rattle.dac_model_node.specs.laws.Common.{lt-ltb, NodeId, Table, waits_of, Opening, Shut, Opened, GiveUp, Noted, Tick, Reply, Held, Refusal, DeclaredDown, MomentBack, DotsUsedUp, declared_down, none_is, ModelNode, ModelRunning, base_after, joined, running_shown, causes_to_tick, refusal_to_tick, needed, too_few_left, too_many_deltas, opening_at, note_of, ticks_by, goes_on, model_step, step_by}
+use Rattle.dac_commands.specs.Causes.{first as first_cause}
 use Rattle.dac_model_node.specs.HeldBack.{WaitsAsBefore, HeldTicksNoteNothing, HeldTicksCount}
 
 module _ (t : Table) (me : NodeId) (last now : ℕ) where

@@ -1,27 +1,11 @@
 -- A node after an accepted event.
 use Rattle.std.proofs.Common.{◌≡◌, ℕ, ◌+◌, ◌-◌, Bool, true, false, not, cond, List, [], ◌∷◌, ◌++◌, length, drop, Option, Some, None, refl, sym, ap, ◌∙◌, arith, drop-drop}
-use Rattle.std.specs.Prelude.{fold, min, max, unwrap_or, IfSome}
-use Rattle.dac_base.specs.declared.NodeId.{NodeId}
-use Rattle.dac_config.specs.Table.{Table}
-use Rattle.dac_meaning.specs.StateValue.{StateValue, join}
-use Rattle.dac_meaning.specs.Meaning.{meaning_of}
-use Rattle.dac_meaning.specs.Below.{is_below}
-use Rattle.dac_deltas.specs.KeptDeltas.{KeptDeltas, pushed, trimmed}
+use Rattle.dac_model_node.specs.laws.Common.{fold, min, max, unwrap_or, IfSome, NodeId, Table, StateValue, join, meaning_of, is_below, KeptDeltas, pushed, trimmed, Opening, Shut, Opened, GiveUp, Noted, content_of, Event, Boot, Crash, Tick, Ship, Hear, HearOp, RunningValue, refusal_by, Transition, transition_of, opening_at, ticks_by, AreNewest, IsNotingBy, left_by, reply_by, running_by, LeavesRunning, RunsOn, deltas_in, had_by_all, MAX_DELTAS}
 use Rattle.dac_deltas.specs.laws.Logs.{same_kept, pushes_drop_together}
-use Rattle.dac_decide.specs.declared.start_gate.Opening.{Opening}
-use Rattle.dac_decide.specs.declared.start_gate.Opening.TheVariants.{Shut, Opened, GiveUp}
-use Rattle.dac_decide.specs.declared.waits.Noted.{Noted}
-use Rattle.dac_messages.specs.Bodies.{content_of}
-use Rattle.dac_messages.specs.declared.event.Event.{Event}
-use Rattle.dac_messages.specs.declared.event.Event.TheVariants.{Boot, Crash, Command as Commanded, Tick, Ship, Hear, HearOp}
-use Rattle.dac_model_node.specs.NodeValue.{RunningValue}
-use Rattle.dac_model_node.specs.EventRefusals.{refusal_by}
+use Rattle.dac_messages.specs.declared.event.Event.TheVariants.{Command as Commanded}
 use Rattle.dac_model_node.specs.Refused.{tick_in}
-use Rattle.dac_model_node.specs.Transitions.{Transition, transition_of, opening_at, ticks_by}
-use Rattle.dac_model_node.specs.Accepted.{AreNewest, IsNotingBy, left_by, reply_by, running_by}
-use Rattle.dac_model_node.specs.Keeping.{AreWaitsAfter, Keeps, LeavesRunning, RunsOn, deltas_in, had_by_all, is_open_after, kept_after, peers_after}
+use Rattle.dac_model_node.specs.Keeping.{AreWaitsAfter, Keeps, is_open_after, kept_after, peers_after}
 use Rattle.dac_model_node.specs.laws.Writing.{NotesSo, start_gate, no_off, no_on}
-use Rattle.dac_deltas.specs.declared.buffer.TheConstants.{MAX_DELTAS}
 
 -- ---- the delta log
 

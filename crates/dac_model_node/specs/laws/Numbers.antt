@@ -1,32 +1,10 @@
 -- There are numbers for the deltas that an accepted event adds.
 use Rattle.std.proofs.Common.{◌≡◌, ◌≤◌, ℕ, ◌+◌, Bool, true, false, not, ◌&&◌, List, [], ◌∷◌, length, Option, Some, None, refl, arith}
-use Rattle.std.specs.Prelude.{max, cond}
-use Rattle.std.proofs.lemmas.Bool.{ltb-false}
+use Rattle.dac_model_node.specs.laws.Common.{max, ltb-false, MAX_COUNTER, Origin, Operation, StateValue, meaning_of, is_below, Table, app_count, Opening, Shut, Opened, GiveUp, Noted, Sweep, sweep_of, claim_of, numbered, swept_by, sweep_reaches, Command, Message, content_of, Event, Boot, Crash, Tick, Ship, Hear, HearOp, Refusal, DotsUsedUp, first, refusal_of_command, none_is, RunningValue, needed, otherwise, overflows, refusal_on, too_many_deltas, brings, transition_of, meanings, opening_at, ticks_by}
+use Rattle.std.specs.Prelude.{cond}
 use Rattle.std.proofs.lemmas.List.{length-append, length-map}
-use Rattle.dac_base.specs.declared.limits.TheConstants.{MAX_COUNTER}
-use Rattle.dac_origins.specs.declared.dot.Origin.{Origin}
-use Rattle.dac_operations.specs.Operations.{Operation}
-use Rattle.dac_meaning.specs.StateValue.{StateValue}
-use Rattle.dac_meaning.specs.Meaning.{meaning_of}
-use Rattle.dac_meaning.specs.Below.{is_below}
-use Rattle.dac_config.specs.Table.{Table, app_count}
-use Rattle.dac_decide.specs.declared.start_gate.Opening.{Opening}
-use Rattle.dac_decide.specs.declared.start_gate.Opening.TheVariants.{Shut, Opened, GiveUp}
-use Rattle.dac_decide.specs.declared.waits.Noted.{Noted}
-use Rattle.dac_ticks.specs.Ticks.{Sweep, sweep_of, claim_of}
-use Rattle.dac_ticks.specs.laws.Sweeping.{numbered, swept_by, sweep_reaches}
-use Rattle.dac_events.specs.declared.Command.{Command}
-use Rattle.dac_messages.specs.declared.message.Message.{Message}
-use Rattle.dac_messages.specs.Bodies.{content_of}
-use Rattle.dac_messages.specs.declared.event.Event.{Event}
-use Rattle.dac_messages.specs.declared.event.Event.TheVariants.{Boot, Crash, Command as Commanded, Tick, Ship, Hear, HearOp}
-use Rattle.dac_events.specs.declared.refusal.Refusal.{Refusal}
-use Rattle.dac_events.specs.declared.refusal.Refusal.TheVariants.{DotsUsedUp}
-use Rattle.dac_commands.specs.Causes.{first, refusal_of_command}
-use Rattle.dac_commands.specs.laws.Written.{none_is}
-use Rattle.dac_model_node.specs.NodeValue.{RunningValue}
-use Rattle.dac_model_node.specs.EventRefusals.{needed, otherwise, overflows, refusal_on, causes_to_hear, refusal_to_hear, refusal_to_obey, too_many_deltas}
-use Rattle.dac_model_node.specs.Transitions.{brings, transition_of, meanings, opening_at, ticks_by}
+use Rattle.dac_messages.specs.declared.event.Event.TheVariants.{Command as Commanded}
+use Rattle.dac_model_node.specs.EventRefusals.{causes_to_hear, refusal_to_hear, refusal_to_obey}
 use Rattle.dac_model_node.specs.laws.Counters.{leaves_numbers}
 
 -- neither of two causes holds

@@ -1,17 +1,14 @@
 -- The positions from which an interval can begin, in words.
-use Rattle.std.specs.Prelude.{◌≡◌, ◌↔◌, ◌≤◌, ℕ, Bool, true, false, not, ◌&&◌, cond, nat_le, Option, Some, None, refl}
+use Rattle.std.specs.Prelude.{◌≡◌, ◌↔◌, ◌≤◌, ℕ, Bool, true, false, not, ◌&&◌, cond, Option, Some, None, refl}
 use Rattle.std.specs.Option.{option_map, option_and_then}
 use Rattle.std.specs.FinSet as set
 use Rattle.std.specs.FinMap as map
 use Rattle.std.proofs.Common.{ap, subst, ◌∙◌}
-use Rattle.std.proofs.lemmas.Bool.{true≢false, false≢true, and_parts, leb-true, le-leb}
-use Rattle.dac_base.specs.declared.NodeId.{NodeId}
+use Rattle.dac_model_node.specs.laws.Common.{nat_le, false≢true, and_parts, leb-true, le-leb, NodeId, Position, begins, is_up_to_date, RunningValue, IsPosition}
+use Rattle.std.proofs.lemmas.Bool.{true≢false}
 use Rattle.dac_chains.specs.declared.lives.Life.{Life}
-use Rattle.dac_peers.specs.declared.positions.Position.{Position}
-use Rattle.dac_peers.specs.Peers.{acked_by, kept_from, begins, has_all, is_up_to_date}
-use Rattle.dac_model_node.specs.NodeValue.{RunningValue}
+use Rattle.dac_peers.specs.Peers.{acked_by, kept_from, has_all}
 use Rattle.dac_model_node.specs.Refused.{IsUpToDate}
-use Rattle.dac_model_node.specs.Shipping.{IsPosition}
 use Rattle.dac_model_node.specs.laws.Options.{some_same}
 
 module _ (r : RunningValue) (to : NodeId) where

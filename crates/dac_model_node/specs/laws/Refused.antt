@@ -1,43 +1,26 @@
 -- The table of causes refuses for the least cause that holds, because each test is its cause in words, and the causes
 -- are in the order of their numbers.
-use Rattle.std.specs.Prelude.{◌≡◌, ◌↔◌, ◌⊎◌, ℕ, ◌+◌, ◌<◌, ◌≤◌, Bool, true, false, not, ◌&&◌, ◌||◌, cond, nat_eq, nat_le, nat_lt, List, [], ◌∷◌, ◌++◌, length, Option, None, Some, is_some, unwrap_or, IfSome, refl}
-use Rattle.std.specs.Option.{option_map_or}
+use Rattle.std.specs.Prelude.{◌≡◌, ◌↔◌, ◌⊎◌, ℕ, ◌+◌, ◌<◌, ◌≤◌, Bool, true, false, not, ◌&&◌, ◌||◌, cond, List, [], ◌∷◌, ◌++◌, length, Option, None, Some, refl}
 use Rattle.std.proofs.Common.{sym, ap, subst, ◌∙◌, inl, inr, arith}
-use Rattle.std.proofs.lemmas.Bool.{true≢false, false≢true, and_parts, le-leb, leb-true, lt-ltb, ltb-true, eqb-true, eq-eqb}
-use Rattle.dac_base.specs.declared.limits.TheConstants.{MAX_INCARNATION, MAX_COUNTER, MAX_REPLACED}
-use Rattle.dac_base.specs.declared.NodeId.{NodeId}
-use Rattle.dac_origins.specs.declared.dot.Origin.{Origin}
+use Rattle.dac_model_node.specs.laws.Common.{nat_eq, nat_le, nat_lt, is_some, unwrap_or, IfSome, option_map_or, false≢true, and_parts, le-leb, leb-true, lt-ltb, ltb-true, eqb-true, eq-eqb, MAX_INCARNATION, MAX_COUNTER, NodeId, Origin, Table, node_count, app_count, group_of, IsLive, StateValue, IsBelow, meaning_of, is_below, is_below-is, is_up_to_date, content_of, is_up, runner_of, up_is, Command, Down, Permit, Start, Stop, Drain, Takeover, Message, Event, Boot, Crash, Tick, Ship, Hear, HearOp, Refusal, Off, AlreadyOn, DeclaredDown, UnknownApp, UnknownNode, OnSelf, NotInList, MomentBack, NotLive, NotForMe, DotsUsedUp, NoMemory, number_of, first, refusal_of_command, no_node, no_app, unlisted, not_live, used_up, declared_down, runs_earlier, used_up_is, NodeValue, RunningValue, needed, too_few_left, too_many_deltas, overflows, otherwise, is_for, refusal_by, refusal_of, causes_of_event, IsOneOf}
+use Rattle.std.proofs.lemmas.Bool.{true≢false}
+use Rattle.dac_base.specs.declared.limits.TheConstants.{MAX_REPLACED}
 use Rattle.dac_origins.specs.Dots.{IsUsedUp}
-use Rattle.dac_config.specs.Table.{Table, node_count, app_count, group_of}
-use Rattle.dac_chains.specs.Lives.{IsLive, live_at}
+use Rattle.dac_chains.specs.Lives.{live_at}
 use Rattle.dac_chains.specs.laws.Live.{live_is}
 use Rattle.dac_wishes.specs.WishesValue.{is_wished}
 use Rattle.dac_wishes.specs.laws.Wished.{is_wished-some}
-use Rattle.dac_meaning.specs.StateValue.{StateValue, wishes_of, IsBelow}
-use Rattle.dac_meaning.specs.Meaning.{meaning_of}
-use Rattle.dac_meaning.specs.Below.{is_below}
-use Rattle.dac_meaning.specs.laws.Below.{is_below-is}
-use Rattle.dac_peers.specs.Peers.{is_up_to_date}
-use Rattle.dac_messages.specs.Bodies.{content_of}
-use Rattle.dac_decide.specs.Placement.{is_up, is_eligible, runs_at, runner_of}
-use Rattle.dac_decide.specs.laws.Tests.{up_is, eligible_is, runs_is}
-use Rattle.dac_events.specs.declared.Command.{Command}
-use Rattle.dac_events.specs.declared.Command.TheVariants.{Down, Permit, Start, Stop, Drain, Takeover}
-use Rattle.dac_messages.specs.declared.message.Message.{Message}
-use Rattle.dac_messages.specs.declared.event.Event.{Event}
-use Rattle.dac_messages.specs.declared.event.Event.TheVariants.{Boot, Crash, Command as Commanded, Tick, Ship, Hear, HearOp}
-use Rattle.dac_events.specs.declared.refusal.Refusal.{Refusal}
-use Rattle.dac_events.specs.declared.refusal.Refusal.TheVariants.{Off, AlreadyOn, DeclaredDown, UnknownApp, UnknownNode, OnSelf, NotInList, MomentBack, NotLive, NotStarted, NotEligible, NotRunning, AlreadyHolder, LowerPriority, NotForMe, UpToDate, TooManyDots, TermsUsedUp, DotsUsedUp, IncarnationsUsedUp, NoMemory}
-use Rattle.dac_events.specs.Refusals.{number_of}
-use Rattle.dac_commands.specs.Causes.{first, refusal_of_command, no_node, no_app, unlisted, not_live, not_wished, too_many, used_up, declared_down, terms_used_up, runs_earlier}
+use Rattle.dac_meaning.specs.StateValue.{wishes_of}
+use Rattle.dac_decide.specs.Placement.{is_eligible, runs_at}
+use Rattle.dac_decide.specs.laws.Tests.{eligible_is, runs_is}
+use Rattle.dac_messages.specs.declared.event.Event.TheVariants.{Command as Commanded}
+use Rattle.dac_events.specs.declared.refusal.Refusal.TheVariants.{NotStarted, NotEligible, NotRunning, AlreadyHolder, LowerPriority, UpToDate, TooManyDots, TermsUsedUp, IncarnationsUsedUp}
+use Rattle.dac_commands.specs.Causes.{not_wished, too_many, terms_used_up}
 use Rattle.dac_commands.specs.Commands.{live_key, live_origin, standing_starts, standing_permits, standing_drains}
-use Rattle.dac_commands.specs.laws.Counters.{used_up_is}
 use Rattle.dac_commands.specs.laws.Terms.{terms_used_up_is}
-use Rattle.dac_model_node.specs.NodeValue.{NodeValue, RunningValue}
-use Rattle.dac_model_node.specs.EventRefusals.{needed, too_few_left, too_many_deltas, overflows, otherwise, is_for, refusal_by, refusal_of}
 use Rattle.dac_model_node.specs.laws.Positions.{up_to_date_is}
 use Rattle.dac_model_node.specs.laws.Tests.{not_running_is, runs_earlier_is, too_few_is, lacks_for_tick}
-use Rattle.dac_model_node.specs.Refused.{causes_of_event, Holds, LacksNumbers, IsFor, IsOneOf, NoneHolds, IsLeastOf, IsFree, IsRefused, IsAnsweredBy, NeverRefusesForMemory}
+use Rattle.dac_model_node.specs.Refused.{Holds, LacksNumbers, IsFor, NoneHolds, IsLeastOf, IsFree, IsRefused, IsAnsweredBy, NeverRefusesForMemory}
 
 -- ---- the first test that holds is that of the least cause
 

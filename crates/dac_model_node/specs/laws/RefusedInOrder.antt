@@ -1,29 +1,12 @@
 -- Which refusal an event gets, in order. The tests before a refusal fail and its own succeeds, so that the first of them
 -- computes to it. Conversely a refusal is returned only for its cause.
-use Rattle.std.specs.Prelude.{◌≡◌, ◌⊎◌, ◌↔◌, ℕ, ◌+◌, ◌<◌, ◌≤◌, Bool, true, false, not, ◌||◌, nat_eq, nat_le, List, [], ◌∷◌, Option, None, Some, IfSome, refl}
+use Rattle.std.specs.Prelude.{◌≡◌, ◌⊎◌, ◌↔◌, ℕ, ◌+◌, ◌<◌, ◌≤◌, Bool, true, false, not, ◌||◌, List, [], ◌∷◌, Option, None, Some, refl}
 use Rattle.std.proofs.Common.{sym, ap, subst, ◌∙◌, inl, inr, arith}
-use Rattle.std.proofs.lemmas.Bool.{false_from_ne_true, and_right, eq-eqb, false≢true, or_left, or_right}
-use Rattle.dac_base.specs.declared.limits.TheConstants.{MAX_INCARNATION, MAX_COUNTER}
-use Rattle.dac_base.specs.declared.NodeId.{NodeId}
-use Rattle.dac_base.specs.declared.AppId.{AppId}
-use Rattle.dac_origins.specs.declared.dot.Origin.{Origin}
-use Rattle.dac_chains.specs.Lives.{IsLive}
-use Rattle.dac_config.specs.Table.{Table, node_count, app_count, group_of}
-use Rattle.dac_meaning.specs.StateValue.{StateValue}
-use Rattle.dac_meaning.specs.Meaning.{meaning_of}
-use Rattle.dac_meaning.specs.Below.{is_below}
-use Rattle.dac_messages.specs.Bodies.{content_of}
-use Rattle.dac_events.specs.declared.Command.TheVariants.{Down, Permit, Start, Stop, Drain, Takeover}
-use Rattle.dac_messages.specs.declared.message.Message.{Message}
-use Rattle.dac_messages.specs.declared.event.Event.{Event}
-use Rattle.dac_messages.specs.declared.event.Event.TheVariants.{Boot, Crash, Command as Commanded, Tick, Ship, Hear, HearOp}
-use Rattle.dac_events.specs.declared.refusal.Refusal.{Refusal}
-use Rattle.dac_events.specs.declared.refusal.Refusal.TheVariants.{Off, AlreadyOn, DeclaredDown, UnknownApp, UnknownNode, OnSelf, NotInList, MomentBack, NotLive, NotForMe}
-use Rattle.dac_events.specs.Refusals.{number_of}
-use Rattle.dac_commands.specs.Causes.{no_node, no_app, unlisted, not_live, declared_down}
-use Rattle.dac_model_node.specs.NodeValue.{NodeValue, RunningValue}
-use Rattle.dac_model_node.specs.EventRefusals.{too_many_deltas, overflows, is_for, refusal_on, refusal_off, refusal_by, refusal_of}
-use Rattle.dac_model_node.specs.Refused.{causes_of_event, HoldsRunning, IsOneOf}
+use Rattle.dac_model_node.specs.laws.Common.{nat_eq, nat_le, IfSome, false_from_ne_true, eq-eqb, false≢true, MAX_INCARNATION, MAX_COUNTER, NodeId, AppId, Origin, IsLive, Table, node_count, app_count, group_of, StateValue, meaning_of, is_below, content_of, Down, Permit, Start, Stop, Drain, Takeover, Message, Event, Boot, Crash, Tick, Ship, Hear, HearOp, Refusal, Off, AlreadyOn, DeclaredDown, UnknownApp, UnknownNode, OnSelf, NotInList, MomentBack, NotLive, NotForMe, number_of, no_node, no_app, unlisted, not_live, declared_down, NodeValue, RunningValue, too_many_deltas, overflows, is_for, refusal_on, refusal_by, refusal_of, causes_of_event, IsOneOf}
+use Rattle.std.proofs.lemmas.Bool.{and_right, or_left, or_right}
+use Rattle.dac_messages.specs.declared.event.Event.TheVariants.{Command as Commanded}
+use Rattle.dac_model_node.specs.EventRefusals.{refusal_off}
+use Rattle.dac_model_node.specs.Refused.{HoldsRunning}
 use Rattle.dac_model_node.specs.laws.Refused.{at_least, less, same_node, is_for_is, is_missing, not_live_is, declared_down_is, refused_is}
 use Rattle.dac_model_node.specs.RefusedInOrder.{IsBoot, CanIssue, LacksApp, LacksNode, IsUnlisted, IsGone, IsWithSelf, IsMeantFor, Refuses, Accepts, IsStillUp, OfRunning, OffComesFirst, RefusesStrangers, StrangersAreNamed, RefusesItself, OwnIsOnSelf, RefusesMisdirected, OthersAreNotForMe, RefusesEarlierMoments, TimeRuns}
 

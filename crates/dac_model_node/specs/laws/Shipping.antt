@@ -1,27 +1,14 @@
 -- An accepted ship replies with the message that the model node's log determines.
 use Rattle.std.proofs.Common.{◌≡◌, ◌≤◌, ℕ, ◌+◌, ◌-◌, Bool, true, false, cond, drop, length, Option, Some, None, Ok, refl, sym, ap, subst, ◌∙◌, arith, drop-drop}
-use Rattle.std.specs.Prelude.{fold, nat_le}
+use Rattle.dac_model_node.specs.laws.Common.{fold, nat_le, leb-true, NodeId, Table, bottom, join, Position, begins, Event, Boot, Crash, Tick, Ship, Hear, HearOp, Reply, Shipped, Refusal, NodeValue, RunningValue, ModelRunning, joined, running_shown, message_of, AcceptedAs, model_step, step_by, IsPosition}
 use Rattle.std.specs.Option.{option_map}
 use Rattle.std.specs.FinMap as map
-use Rattle.std.proofs.lemmas.Bool.{leb-true, leb-false}
-use Rattle.dac_base.specs.declared.NodeId.{NodeId}
-use Rattle.dac_config.specs.Table.{Table}
-use Rattle.dac_meaning.specs.StateValue.{bottom, join}
-use Rattle.dac_peers.specs.declared.positions.Position.{Position}
-use Rattle.dac_peers.specs.Peers.{begins}
+use Rattle.std.proofs.lemmas.Bool.{leb-false}
 use Rattle.dac_messages.specs.declared.message.Body.TheVariants.{Nothing, Interval}
-use Rattle.dac_messages.specs.declared.event.Event.{Event}
-use Rattle.dac_messages.specs.declared.event.Event.TheVariants.{Boot, Crash, Command as Commanded, Tick, Ship, Hear, HearOp}
-use Rattle.dac_messages.specs.declared.reply.Reply.{Reply}
-use Rattle.dac_messages.specs.declared.reply.Reply.TheVariants.{Shipped}
-use Rattle.dac_events.specs.declared.refusal.Refusal.{Refusal}
-use Rattle.dac_model_node.specs.NodeValue.{NodeValue, RunningValue}
-use Rattle.dac_model_node.specs.ModelNode.{ModelRunning, joined, running_shown}
+use Rattle.dac_messages.specs.declared.event.Event.TheVariants.{Command as Commanded}
 use Rattle.dac_model_node.specs.EventRefusals.{refusal_to_ship}
-use Rattle.dac_model_node.specs.Transitions.{body_from, message_of}
-use Rattle.dac_model_node.specs.Accepted.{AcceptedAs}
-use Rattle.dac_model_node.specs.Step.{model_step, step_by}
-use Rattle.dac_model_node.specs.Shipping.{IsPosition, IsBody, IsAckShipped, IsShipped, ShipsBy, ShipsSo, ShipsInWords}
+use Rattle.dac_model_node.specs.Transitions.{body_from}
+use Rattle.dac_model_node.specs.Shipping.{IsBody, IsAckShipped, IsShipped, ShipsBy, ShipsSo, ShipsInWords}
 use Rattle.dac_model_node.specs.laws.Positions.{begins_is}
 use Rattle.dac_model_node.specs.laws.Steps.{steps}
 

@@ -1,27 +1,9 @@
 -- Results that leave the state and the incarnation of a node unchanged.
 use Rattle.std.proofs.Common.{◌≡◌, ℕ, Bool, true, false, not, cond, ◌==◌, List, [], ◌∷◌, ◌++◌, length, Option, Some, None, refl, ap, ◌∙◌, append-nil, arith}
+use Rattle.dac_model_node.specs.laws.Common.{false≢true, eqb-true, NodeId, Operation, StateValue, meaning_of, is_below, Table, Opening, Shut, Opened, GiveUp, Noted, waits_of, sweep_of, content_of, Event, Boot, Crash, Tick, Ship, Hear, HearOp, Refusal, NodeValue, RunningValue, state_of, ModelNode, ModelRunning, base_after, joined, running_shown, shown, refusal_by, refusal_of, refusal_on, Transition, transition_of, meanings, note_of, opening_at, ticks_by, accepted, transition_on, model_step, step_by}
 use Rattle.std.specs.Option.{option_map}
-use Rattle.std.proofs.lemmas.Bool.{false≢true, eqb-true}
-use Rattle.dac_base.specs.declared.NodeId.{NodeId}
-use Rattle.dac_operations.specs.Operations.{Operation}
-use Rattle.dac_meaning.specs.StateValue.{StateValue}
-use Rattle.dac_meaning.specs.Meaning.{meaning_of}
-use Rattle.dac_meaning.specs.Below.{is_below}
-use Rattle.dac_config.specs.Table.{Table}
-use Rattle.dac_decide.specs.declared.start_gate.Opening.{Opening}
-use Rattle.dac_decide.specs.declared.start_gate.Opening.TheVariants.{Shut, Opened, GiveUp}
-use Rattle.dac_decide.specs.declared.waits.Noted.{Noted}
-use Rattle.dac_decide.specs.FailoverWait.{waits_of}
-use Rattle.dac_ticks.specs.Ticks.{sweep_of}
-use Rattle.dac_messages.specs.Bodies.{content_of}
-use Rattle.dac_messages.specs.declared.event.Event.{Event}
-use Rattle.dac_messages.specs.declared.event.Event.TheVariants.{Boot, Crash, Command as Commanded, Tick, Ship, Hear, HearOp}
-use Rattle.dac_events.specs.declared.refusal.Refusal.{Refusal}
-use Rattle.dac_model_node.specs.NodeValue.{NodeValue, RunningValue, origin_of, state_of}
-use Rattle.dac_model_node.specs.ModelNode.{ModelNode, ModelRunning, base_after, joined, running_shown, shown}
-use Rattle.dac_model_node.specs.EventRefusals.{refusal_by, refusal_of, refusal_on}
-use Rattle.dac_model_node.specs.Transitions.{Transition, transition_of, meanings, note_of, opening_at, ticks_by}
-use Rattle.dac_model_node.specs.Step.{accepted, transition_on, model_step, step_by}
+use Rattle.dac_messages.specs.declared.event.Event.TheVariants.{Command as Commanded}
+use Rattle.dac_model_node.specs.NodeValue.{origin_of}
 use Rattle.dac_model_node.specs.Keeping.{leaves_state, says_it_stays}
 use Rattle.dac_model_node.specs.laws.Writing.{no_on}
 

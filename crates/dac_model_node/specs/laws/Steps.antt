@@ -1,32 +1,15 @@
 -- The model node, and the program's node as which it shows.
 use Rattle.std.proofs.Common.{◌≡◌, ℕ, ◌-◌, Bool, true, false, cond, List, ◌∷◌, ◌++◌, length, Option, Some, None, Ok, Err, refl, sym, ap, subst, ◌∙◌, arith, true≢false}
-use Rattle.std.specs.Prelude.{fold, max, unwrap_or, IfSome}
+use Rattle.dac_model_node.specs.laws.Common.{fold, max, unwrap_or, IfSome, NodeId, Table, StateValue, bottom, join, pushed, trimmed, PeersValue, Opening, Shut, Opened, GiveUp, Noted, Note, waits_of, Event, Boot, Crash, Tick, Ship, Hear, HearOp, Reply, Refusal, NoMemory, NodeValue, RunningValue, ModelNode, ModelRunning, base_after, shown, running_shown, joined, refusal_of, Transition, transition_of, ticks_by, opening_at, note_of, model_step, step_by, accepted, transition_on, goes_on, AcceptedAs, AreNewest, IsNotingBy, running_by, left_by, reply_by, MAX_DELTAS}
 use Rattle.std.specs.Option.{option_map}
 use Rattle.std.proofs.lemmas.List.{length-drop}
 use Rattle.std.proofs.lemmas.List.Sums.{fold-append}
-use Rattle.dac_base.specs.declared.NodeId.{NodeId}
-use Rattle.dac_config.specs.Table.{Table}
-use Rattle.dac_meaning.specs.StateValue.{StateValue, bottom, join}
-use Rattle.dac_deltas.specs.KeptDeltas.{pushed, trimmed}
 use Rattle.dac_deltas.specs.Logs.{kept_of}
 use Rattle.dac_deltas.specs.laws.Logs.{pushes_append_all, trims_move_the_base}
-use Rattle.dac_peers.specs.Peers.{PeersValue}
-use Rattle.dac_decide.specs.declared.start_gate.Opening.{Opening}
-use Rattle.dac_decide.specs.declared.start_gate.Opening.TheVariants.{Shut, Opened, GiveUp}
-use Rattle.dac_decide.specs.declared.waits.Noted.{Noted}
-use Rattle.dac_decide.specs.FailoverWait.{Note, waits_of}
-use Rattle.dac_messages.specs.declared.event.Event.{Event}
-use Rattle.dac_messages.specs.declared.event.Event.TheVariants.{Boot, Crash, Command as Commanded, Tick, Ship, Hear, HearOp}
-use Rattle.dac_messages.specs.declared.reply.Reply.{Reply}
-use Rattle.dac_events.specs.declared.refusal.Refusal.{Refusal}
-use Rattle.dac_events.specs.declared.refusal.Refusal.TheVariants.{NoMemory}
-use Rattle.dac_model_node.specs.NodeValue.{NodeValue, RunningValue, off}
-use Rattle.dac_model_node.specs.ModelNode.{ModelNode, ModelRunning, base_after, shown, running_shown, joined}
-use Rattle.dac_model_node.specs.EventRefusals.{refusal_of}
-use Rattle.dac_model_node.specs.Transitions.{Transition, transition_of, ticks_by, opening_at, note_of}
-use Rattle.dac_model_node.specs.Step.{model_step, step_by, accepted, transition_on, goes_on, Stepped, Steps, IsShown}
-use Rattle.dac_model_node.specs.Accepted.{AcceptedAs, AreNewest, IsNoting, IsNotingBy, running_by, left_by, reply_by}
-use Rattle.dac_deltas.specs.declared.buffer.TheConstants.{MAX_DELTAS}
+use Rattle.dac_messages.specs.declared.event.Event.TheVariants.{Command as Commanded}
+use Rattle.dac_model_node.specs.NodeValue.{off}
+use Rattle.dac_model_node.specs.Step.{Stepped, Steps, IsShown}
+use Rattle.dac_model_node.specs.Accepted.{IsNoting}
 
 -- the join of a longer log
 pub joined-append : (log states : List StateValue) → joined (log ++ states) ≡ fold join (joined log) states

@@ -1,24 +1,13 @@
 -- Tests of causes, in words: where an application runs and in which group, and the counters that are left.
-use Rattle.std.specs.Prelude.{◌≡◌, ◌⊎◌, ◌↔◌, ℕ, ◌+◌, ◌-◌, ◌<◌, ◌≤◌, Bool, true, false, not, max, Option, None, Some, is_some, refl}
-use Rattle.std.specs.Option.{option_map_or}
+use Rattle.std.specs.Prelude.{◌≡◌, ◌⊎◌, ◌↔◌, ℕ, ◌+◌, ◌-◌, ◌<◌, ◌≤◌, Bool, true, false, not, Option, None, Some, refl}
 use Rattle.std.specs.FinSet as set
 use Rattle.std.proofs.Common.{sym, ap, subst, ◌∙◌, inl, inr, arith, zero, suc}
-use Rattle.std.proofs.lemmas.Bool.{false≢true, lt-ltb, ltb-true}
-use Rattle.dac_base.specs.declared.limits.TheConstants.{MAX_COUNTER}
-use Rattle.dac_base.specs.declared.NodeId.{NodeId}
-use Rattle.dac_base.specs.declared.AppId.{AppId}
-use Rattle.dac_origins.specs.declared.dot.Origin.{Origin}
+use Rattle.dac_model_node.specs.laws.Common.{max, is_some, option_map_or, false≢true, lt-ltb, ltb-true, MAX_COUNTER, NodeId, AppId, Origin, StateValue, Table, app_count, runner_of, greatest_counter, runs_earlier, used_up, used_up_is, needed, too_few_left, RunningValue}
 use Rattle.dac_origins.specs.Dots.{dot}
-use Rattle.dac_meaning.specs.StateValue.{StateValue}
-use Rattle.dac_config.specs.Table.{Table, app_count}
-use Rattle.dac_decide.specs.Placement.{RunsAt, runner_of, IsEarlier, is_earlier}
+use Rattle.dac_decide.specs.Placement.{RunsAt, IsEarlier, is_earlier}
 use Rattle.dac_decide.specs.laws.Tests.{runner_is}
 use Rattle.dac_decide.specs.laws.Judged.{earlier_is}
-use Rattle.dac_commands.specs.Commands.{greatest_counter}
-use Rattle.dac_commands.specs.Causes.{runs_earlier, used_up}
-use Rattle.dac_commands.specs.laws.Counters.{counter-greatest, used_up_is, next_of_is}
-use Rattle.dac_model_node.specs.EventRefusals.{needed, too_few_left}
-use Rattle.dac_model_node.specs.NodeValue.{RunningValue}
+use Rattle.dac_commands.specs.laws.Counters.{counter-greatest, next_of_is}
 use Rattle.dac_model_node.specs.Refused.{LeavesFewer, LacksFor}
 
 -- ---- running at a node

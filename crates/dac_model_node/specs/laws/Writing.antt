@@ -1,32 +1,12 @@
 -- The operations and replies of an accepted event.
 use Rattle.std.proofs.Common.{◌≡◌, ◌⊎◌, ◌↔◌, ◌≤◌, ◌+◌, ℕ, ◌-◌, Bool, true, false, not, cond, List, [], ◌∷◌, Option, Some, None, refl, sym, subst, ◌∙◌, inl, inr, true≢false}
-use Rattle.dac_base.specs.declared.limits.TheConstants.{MAX_COUNTER}
-use Rattle.dac_base.specs.declared.NodeId.{NodeId}
-use Rattle.dac_config.specs.Table.{Table, app_count}
-use Rattle.dac_decide.specs.Placement.{apps_of}
-use Rattle.dac_meaning.specs.Meaning.{meaning_of}
-use Rattle.dac_meaning.specs.StateValue.{StateValue, IsBelow}
-use Rattle.dac_meaning.specs.Below.{is_below}
-use Rattle.dac_meaning.specs.laws.Below.{is_below-is}
-use Rattle.dac_decide.specs.declared.start_gate.Opening.{Opening}
-use Rattle.dac_decide.specs.declared.start_gate.Opening.TheVariants.{Shut, Opened, GiveUp}
-use Rattle.dac_decide.specs.declared.waits.Noted.{Noted}
-use Rattle.dac_decide.specs.FailoverWait.{Note, waits_of}
-use Rattle.dac_decide.specs.StartGate.{IsOpening, opening_of}
+use Rattle.dac_model_node.specs.laws.Common.{MAX_COUNTER, NodeId, Table, app_count, apps_of, meaning_of, StateValue, IsBelow, is_below, is_below-is, Opening, Shut, Opened, GiveUp, Noted, Note, waits_of, opening_of, content_of, Event, Boot, Crash, Tick, Ship, Hear, HearOp, Off, AlreadyOn, greatest_counter, sweep_of, RunningValue, refusal_by, message_of, opening_at, ticks_by, IsNotingBy, reply_by}
+use Rattle.dac_decide.specs.StartGate.{IsOpening}
 use Rattle.dac_decide.specs.laws.AllUp.{opening_is}
-use Rattle.dac_messages.specs.Bodies.{content_of}
-use Rattle.dac_messages.specs.declared.event.Event.{Event}
-use Rattle.dac_messages.specs.declared.event.Event.TheVariants.{Boot, Crash, Command as Commanded, Tick, Ship, Hear, HearOp}
-use Rattle.dac_events.specs.declared.refusal.Refusal.TheVariants.{Off, AlreadyOn}
-use Rattle.dac_commands.specs.Commands.{greatest_counter}
+use Rattle.dac_messages.specs.declared.event.Event.TheVariants.{Command as Commanded}
 use Rattle.dac_commands.specs.laws.Written.{writes_what_is_said}
-use Rattle.dac_ticks.specs.Ticks.{sweep_of}
 use Rattle.dac_ticks.specs.InWords.{IsSweep}
 use Rattle.dac_ticks.specs.laws.Words.{sweep_in_words}
-use Rattle.dac_model_node.specs.NodeValue.{RunningValue}
-use Rattle.dac_model_node.specs.EventRefusals.{refusal_by}
-use Rattle.dac_model_node.specs.Transitions.{message_of, opening_at, ticks_by}
-use Rattle.dac_model_node.specs.Accepted.{IsNotingBy, reply_by}
 use Rattle.dac_model_node.specs.Writing.{IsAsked, TicksSo, Writes}
 use Rattle.dac_model_node.specs.laws.Counters.{leaves_room}
 use Rattle.dac_model_node.specs.laws.Numbers.{obeyed}

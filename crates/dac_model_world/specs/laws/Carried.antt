@@ -1,36 +1,15 @@
 -- The peer table of a node, and the messages under way, agree with the nodes' logs and sets.
 use Rattle.std.proofs.Common.{◌≡◌, ℕ, ◌≤◌, ◌-◌, Bool, true, false, cond, ◌&&◌, ◌⊎◌, inl, inr, List, [], ◌∷◌, ◌++◌, max, nat_eq, nat_le, Option, Some, None, Ordering, refl, sym, ap, subst, ◌∙◌, append-nil, true≢false, zero, suc}
-use Rattle.std.specs.Prelude.{nat_lt}
-use Rattle.std.specs.Option.{option_map, option_and_then}
-use Rattle.std.specs.Ordering.{eq_by_cmp}
-use Rattle.std.specs.List.{slice_get}
-use Rattle.std.specs.Cmp.{IsTotalOrder, Equal-is}
+use Rattle.dac_model_world.specs.laws.Common.{nat_lt, option_map, option_and_then, eq_by_cmp, slice_get, Equal-is, exact_unsigned_eq, NodeId, Origin, origin_cmp, origins_total, exact_origins, Operation, StateValue, meaning_of, IsOperationOf, AreOperationsOf, DotsDetermine, is_below, is_below-is, Position, PeersValue, acked_by, acked_at, kept_from, begins, heard_from, ack_for, Body, Nothing, Message, content_of, brings, some_same, Copy}
+use Rattle.std.specs.Cmp.{IsTotalOrder}
 use Rattle.std.specs.FinMap as map
 use Rattle.std.proofs.lemmas.Bool.{leb-true}
 use Rattle.std.proofs.lemmas.Map.Lookups.{CmpEqualImpliesEq}
-use Rattle.std.proofs.lemmas.Map.Views.{exact_unsigned_eq}
-use Rattle.dac_base.specs.declared.NodeId.{NodeId}
 use Rattle.dac_base.specs.Ids.{node_cmp}
 use Rattle.dac_base.specs.laws.Ids.{nodes_total, exact_nodes}
-use Rattle.dac_origins.specs.declared.dot.Origin.{Origin}
-use Rattle.dac_origins.specs.Dots.{origin_cmp}
-use Rattle.dac_origins.specs.laws.Dots.{origins_total, exact_origins}
-use Rattle.dac_operations.specs.Operations.{Operation}
-use Rattle.dac_meaning.specs.StateValue.{StateValue}
-use Rattle.dac_meaning.specs.Meaning.{meaning_of, IsOperationOf, AreOperationsOf, DotsDetermine}
-use Rattle.dac_meaning.specs.Below.{is_below}
-use Rattle.dac_meaning.specs.laws.Below.{is_below-is}
 use Rattle.dac_deltas.specs.Numbers.{Numbers, greater, raised}
-use Rattle.dac_model_node.specs.Position.{Position}
-use Rattle.dac_model_node.specs.Peers.{PeersValue, no_peers, acked_by, acked_at, kept_from, begins, later, got_after, got_by, counts, acked_after, heard_from, ack_for, shipped_to}
-use Rattle.dac_messages.specs.declared.message.Body.{Body}
-use Rattle.dac_messages.specs.declared.message.Body.TheVariants.{Nothing}
-use Rattle.dac_messages.specs.declared.message.Message.{Message}
-use Rattle.dac_messages.specs.Bodies.{content_of}
-use Rattle.dac_model_node.specs.Transitions.{brings}
-use Rattle.dac_model_node.specs.laws.Options.{some_same}
+use Rattle.dac_model_node.specs.Peers.{no_peers, later, got_after, got_by, counts, acked_after, shipped_to}
 use Rattle.dac_model_world.specs.ModelWorld.{counted}
-use Rattle.dac_model_world.specs.SetWorld.{Copy}
 use Rattle.dac_model_world.specs.laws.Gathered.{Entries, gathered, logged}
 use Rattle.dac_model_world.specs.laws.Meanings.{below_in}
 use Rattle.dac_model_world.specs.laws.Covers.{Seen, Later, Has, Has-later, Covered, Covered-later, Covered-max, Sent, Sent-later}

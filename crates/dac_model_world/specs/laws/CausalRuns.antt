@@ -1,43 +1,11 @@
 -- Runs in which no single operation is handed: each set is closed, and each operation was issued as the next after a
 -- closed set.
 use Rattle.std.proofs.Common.{◌≡◌, ℕ, zero, suc, ◌-◌, ◌+◌, true, false, cond, inl, inr, List, [], ◌∷◌, ◌++◌, Option, Some, None, Ok, Err, nat_eq, refl, sym, ap, subst, ◌∙◌}
-use Rattle.std.specs.Prelude.{nat_lt}
-use Rattle.std.specs.List.{slice_get}
-use Rattle.std.specs.Option.{option_map}
-use Rattle.dac_base.specs.declared.NodeId.{NodeId}
-use Rattle.dac_origins.specs.declared.dot.Origin.{Origin}
-use Rattle.dac_operations.specs.Operations.{Operation}
-use Rattle.dac_meaning.specs.Meaning.{AreOperationsOf, DotsDetermine}
-use Rattle.dac_meaning.specs.laws.Members.{Within-append, In-append_left, In-append_right}
-use Rattle.dac_config.specs.Table.{Table}
-use Rattle.dac_decide.specs.declared.start_gate.Opening.{Opening}
-use Rattle.dac_decide.specs.declared.start_gate.Opening.TheVariants.{Shut, Opened, GiveUp}
-use Rattle.dac_decide.specs.declared.waits.Noted.{Noted}
-use Rattle.dac_decide.specs.FailoverWait.{Note, waits_of}
-use Rattle.dac_events.specs.declared.Command.{Command}
-use Rattle.dac_events.specs.declared.WorldEvent.{WorldEvent}
-use Rattle.dac_events.specs.declared.What.{What}
-use Rattle.dac_events.specs.declared.What.TheVariants.{Deliver, Hand}
-use Rattle.dac_messages.specs.declared.message.Message.{Message}
-use Rattle.dac_messages.specs.declared.event.Event.{Event}
-use Rattle.dac_messages.specs.declared.event.Event.TheVariants.{Boot, Crash, Command as Commanded, Tick, Ship, Hear, HearOp}
-use Rattle.dac_messages.specs.declared.reply.Reply.{Reply}
-use Rattle.dac_commands.specs.Commands.{act_of, next_operation}
-use Rattle.dac_events.specs.declared.refusal.Refusal.{Refusal}
-use Rattle.dac_commands.specs.Causes.{refusal_of_command}
-use Rattle.dac_model_node.specs.Ticks.{sweep_of}
-use Rattle.dac_model_node.specs.laws.Claims.{claims_are}
-use Rattle.dac_model_node.specs.ModelNode.{ModelNode, ModelRunning, joined, shown, running_shown}
-use Rattle.dac_model_node.specs.EventRefusals.{refusal_of, refusal_by, refusal_to_tick, otherwise}
-use Rattle.dac_model_node.specs.Transitions.{ticks_by, opening_at, note_of}
-use Rattle.dac_model_node.specs.Step.{step_by, up, goes_on, accepted}
-use Rattle.dac_model_node.specs.laws.Counters.{leaves_room}
-use Rattle.dac_model_node.specs.laws.Options.{some_same}
-use Rattle.dac_events.specs.declared.world_fault.WorldFault.TheVariants.{NoSuchNode}
-use Rattle.dac_model_world.specs.ModelWorld.{ModelWorld, happens, happens_by, answered_by, event_of, counted, Step, Run}
-use Rattle.dac_model_world.specs.SetWorld.{SetWorld, NodeSet, Issue, Copy, with_set, held_by, united, issues_of, is_for, copied_by, copied_to, brought_to, booting, issuing, going_off, set_step, set_run, no_sets}
+use Rattle.dac_model_world.specs.laws.Common.{nat_lt, slice_get, option_map, NodeId, Origin, Operation, AreOperationsOf, DotsDetermine, Within-append, In-append_left, In-append_right, Table, Opening, Shut, Opened, GiveUp, Noted, Note, waits_of, Command, WorldEvent, What, Deliver, Hand, Message, Event, Boot, Crash, Tick, Ship, Hear, HearOp, Reply, act_of, next_operation, Refusal, refusal_of_command, sweep_of, claims_are, ModelNode, ModelRunning, joined, shown, running_shown, refusal_of, refusal_by, refusal_to_tick, ticks_by, opening_at, note_of, step_by, up, goes_on, accepted, leaves_room, some_same, NoSuchNode, ModelWorld, happens, happens_by, answered_by, event_of, Step, Run, SetWorld, NodeSet, Issue, Copy, with_set, held_by, united, issues_of, is_for, copied_by, copied_to, brought_to, booting, issuing, going_off, set_step, set_run, no_sets, DistinctDots}
+use Rattle.dac_messages.specs.declared.event.Event.TheVariants.{Command as Commanded}
+use Rattle.dac_model_node.specs.EventRefusals.{otherwise}
+use Rattle.dac_model_world.specs.ModelWorld.{counted}
 use Rattle.dac_model_world.specs.Causality.{IsNoHanding, HandsNothing}
-use Rattle.dac_model_world.specs.Convergence.{DistinctDots}
 use Rattle.dac_model_world.specs.laws.Operations.{Agree-within, DistinctDots-agree}
 use Rattle.dac_model_world.specs.laws.OneNode.{own_origin}
 use Rattle.dac_model_world.specs.laws.Runs.{run_first}

@@ -1,20 +1,9 @@
 -- Causal order at each controller after a run in which no single operation is handed.
 use Rattle.std.proofs.Common.{◌≡◌, Option, Some, None, refl, sym, ap, subst, ◌∙◌}
-use Rattle.std.specs.Prelude.{◌↔◌, ℕ}
-use Rattle.std.specs.Option.{option_map}
-use Rattle.dac_origins.specs.declared.dot.Dot.{Dot}
-use Rattle.dac_origins.specs.declared.dot.Origin.{Origin}
-use Rattle.dac_origins.specs.Dots.{IsVector}
-use Rattle.dac_wishes.specs.declared.key.Key.{Key}
-use Rattle.dac_meaning.specs.StateValue.{StateValue}
-use Rattle.dac_meaning.specs.Meaning.{IsOperationOf, DotsDetermine}
-use Rattle.dac_commands.specs.Written.{PermitStands, StartStands, DrainStands}
-use Rattle.dac_model_node.specs.laws.Options.{some_same}
-use Rattle.dac_model_world.specs.WorldValue.{WorldValue}
-use Rattle.dac_model_world.specs.ModelWorld.{ModelWorld, numbered}
-use Rattle.dac_model_world.specs.SetWorld.{SetWorld, NodeSet, held_by, operations_of}
-use Rattle.dac_model_world.specs.Convergence.{RunsWith, HoldsSets, state_by, DistinctDots}
-use Rattle.dac_model_world.specs.Causality.{IsPermitOf, IsStartOf, IsDrainOf, EndsStart, IsMaximalPermit, IsMaximalStart, IsMaximalDrain, IsDotOfOne, RunsHolding, IsCausal}
+use Rattle.dac_model_world.specs.laws.Common.{◌↔◌, option_map, Dot, Origin, IsVector, Key, StateValue, IsOperationOf, DotsDetermine, PermitStands, StartStands, DrainStands, some_same, WorldValue, ModelWorld, numbered, SetWorld, NodeSet, held_by, operations_of, HoldsSets, state_by, DistinctDots, IsPermitOf, IsStartOf, IsDrainOf, EndsStart, IsDotOfOne}
+use Rattle.std.specs.Prelude.{ℕ}
+use Rattle.dac_model_world.specs.Convergence.{RunsWith}
+use Rattle.dac_model_world.specs.Causality.{IsMaximalPermit, IsMaximalStart, IsMaximalDrain, RunsHolding, IsCausal}
 use Rattle.dac_model_world.specs.laws.Operations.{DistinctDots-agree}
 use Rattle.dac_model_world.specs.laws.Sound.{Sound}
 use Rattle.dac_model_world.specs.laws.ClosedSets.{ClosedSet}

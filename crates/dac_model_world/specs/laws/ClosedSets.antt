@@ -1,12 +1,7 @@
 -- Closed sets contain, with each operation, all that its issuer held. Each issuer's set was closed, and its operation
 -- was the next one after it.
 use Rattle.std.proofs.Common.{◌≡◌, ◌⊎◌, inl, inr, List, [], ◌∷◌, ◌++◌, refl, sym, ap, subst, append_assoc, append-nil}
-use Rattle.std.proofs.lemmas.List.{map-append}
-use Rattle.dac_operations.specs.Operations.{Operation}
-use Rattle.dac_meaning.specs.Meaning.{IsOperationOf, AreOperationsOf}
-use Rattle.dac_meaning.specs.laws.Members.{In-append_left, In-append_right, In-append_cases, Within-append}
-use Rattle.dac_model_world.specs.SetWorld.{Issue, issues_of, operations_of}
-use Rattle.dac_model_world.specs.Convergence.{DistinctDots}
+use Rattle.dac_model_world.specs.laws.Common.{map-append, Operation, IsOperationOf, AreOperationsOf, In-append_left, In-append_right, In-append_cases, Within-append, Issue, issues_of, operations_of, DistinctDots}
 use Rattle.dac_model_world.specs.Causality.{IsAmong}
 use Rattle.dac_model_world.specs.laws.Operations.{one_in, DistinctDots-left, DistinctDots-apart}
 use Rattle.dac_model_world.specs.laws.Replacing.{IsNextAfter, AreNext}

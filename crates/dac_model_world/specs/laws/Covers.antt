@@ -1,11 +1,8 @@
 -- The part of a node's log that another node has. A node is seen with its last incarnation, its set if it runs, and the
 -- sets that the states of its log mean, oldest first.
 use Rattle.std.proofs.Common.{◌≡◌, ℕ, ◌<◌, ◌≤◌, ◌⊎◌, true, false, inl, inr, List, [], ◌++◌, length, take, max, Option, Some, refl, sym, ap, subst, ◌∙◌, append-nil, le_trans, le_refl, arith, leb, leb-true, leb-false}
-use Rattle.std.proofs.lemmas.List.{take-append-le, length-append}
-use Rattle.dac_operations.specs.Operations.{Operation}
-use Rattle.dac_meaning.specs.Meaning.{IsOperationOf, AreOperationsOf}
-use Rattle.dac_model_node.specs.laws.Options.{some_same}
-use Rattle.dac_model_world.specs.SetWorld.{NodeSet}
+use Rattle.dac_model_world.specs.laws.Common.{length-append, Operation, IsOperationOf, AreOperationsOf, some_same, NodeSet}
+use Rattle.std.proofs.lemmas.List.{take-append-le}
 use Rattle.dac_model_world.specs.laws.Gathered.{Entries, gathered}
 
 pub record Seen : Type 0 where

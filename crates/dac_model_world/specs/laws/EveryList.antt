@@ -1,14 +1,9 @@
 -- The model's run of a list is a run, and has the properties of every run.
 use Rattle.std.proofs.Common.{◌≡◌, ℕ, ◌<◌, ◌≤◌, true, false, cond, List, [], ◌∷◌, map, Some, None, inl, refl, sym, ap, subst, ◌∙◌, arith, ltb-true, ltb-false}
-use Rattle.std.specs.Prelude.{nat_lt}
-use Rattle.std.specs.List.{slice_get, range_with_len}
+use Rattle.dac_model_world.specs.laws.Common.{nat_lt, slice_get, Table, WorldEvent, shown, ModelWorld, Run, RanAs, happens, start, numbered, Converges}
+use Rattle.std.specs.List.{range_with_len}
 use Rattle.std.proofs.lemmas.Option.{slice_get-get_or, slice_get_past}
 use Rattle.std.proofs.lemmas.List.FromFn.{length-map-range_with_len, get_or-map-range_with_len}
-use Rattle.dac_config.specs.Table.{Table}
-use Rattle.dac_events.specs.declared.WorldEvent.{WorldEvent}
-use Rattle.dac_model_node.specs.ModelNode.{shown}
-use Rattle.dac_model_world.specs.ModelWorld.{ModelWorld, Run, RanAs, happens, start, numbered}
-use Rattle.dac_model_world.specs.Converges.{Converges}
 use Rattle.dac_model_world.specs.EveryList.{answers_of, run_from, model_run, shown_world, IsEnough, OfEachList, RunsEachList, IsShownWorld}
 use Rattle.dac_model_world.specs.laws.Memory.{enough_memory}
 use Rattle.dac_model_world.specs.laws.Runs.{run_from_first}

@@ -1,36 +1,8 @@
 -- A running node has no more deltas than its results account for.
 use Rattle.std.proofs.Common.{◌≡◌, ℕ, ◌≤◌, ◌+◌, Bool, true, false, not, cond, List, [], ◌∷◌, ◌++◌, length, Option, Some, None, Result, Ok, Err, inl, inr, nat_eq, refl, sym, ap, subst, ◌∙◌, le_refl, arith}
-use Rattle.std.specs.Prelude.{nat_lt}
-use Rattle.std.proofs.lemmas.Map.Views.{exact_unsigned_eq}
-use Rattle.std.proofs.lemmas.List.{length-append, length-map}
-use Rattle.dac_base.specs.declared.NodeId.{NodeId}
-use Rattle.dac_operations.specs.Operations.{Operation}
-use Rattle.dac_meaning.specs.StateValue.{StateValue}
-use Rattle.dac_meaning.specs.Meaning.{meaning_of}
-use Rattle.dac_meaning.specs.Below.{is_below}
-use Rattle.dac_config.specs.Table.{Table}
-use Rattle.dac_decide.specs.declared.start_gate.Opening.{Opening}
-use Rattle.dac_decide.specs.declared.start_gate.Opening.TheVariants.{Shut, Opened, GiveUp}
-use Rattle.dac_decide.specs.declared.waits.Noted.{Noted}
-use Rattle.dac_decide.specs.FailoverWait.{Note, waits_of}
-use Rattle.dac_events.specs.declared.WorldEvent.{WorldEvent}
-use Rattle.dac_messages.specs.Bodies.{content_of}
-use Rattle.dac_messages.specs.declared.event.Event.{Event}
-use Rattle.dac_messages.specs.declared.event.Event.TheVariants.{Boot, Crash, Command as Commanded, Tick, Ship, Hear, HearOp}
-use Rattle.dac_messages.specs.declared.reply.Reply.{Reply}
-use Rattle.dac_messages.specs.declared.reply.Reply.TheVariants.{Booted, Heard}
-use Rattle.dac_events.specs.declared.refusal.Refusal.TheVariants.{NoMemory}
-use Rattle.dac_model_node.specs.Ticks.{sweep_of}
-use Rattle.dac_model_node.specs.NodeValue.{RunningValue}
-use Rattle.dac_model_node.specs.ModelNode.{ModelNode, ModelRunning, joined, shown, running_shown}
-use Rattle.dac_model_node.specs.EventRefusals.{refusal_of}
-use Rattle.dac_model_node.specs.Transitions.{Transition, brings, transition_of, ticks_by, opening_at, moment_of, note_of}
-use Rattle.dac_model_node.specs.Step.{step_by, up, comes_up, goes_on, transition_on, accepted}
-use Rattle.dac_model_node.specs.laws.Options.{some_same}
-use Rattle.dac_events.specs.declared.world_fault.WorldFault.{WorldFault}
-use Rattle.dac_events.specs.declared.world_fault.WorldFault.TheVariants.{NoSuchNode, Refused}
-use Rattle.dac_model_world.specs.ModelWorld.{ModelWorld, happens, happens_by, answered_by, event_of, with_node, Step}
-use Rattle.dac_model_world.specs.Fits.{deltas_after, deltas_with}
+use Rattle.dac_model_world.specs.laws.Common.{nat_lt, exact_unsigned_eq, length-append, length-map, NodeId, Operation, StateValue, meaning_of, is_below, Table, Opening, Shut, Opened, GiveUp, Noted, Note, waits_of, WorldEvent, content_of, Event, Boot, Crash, Tick, Ship, Hear, HearOp, Reply, Booted, Heard, NoMemory, sweep_of, RunningValue, ModelNode, ModelRunning, joined, shown, running_shown, refusal_of, Transition, brings, transition_of, ticks_by, opening_at, moment_of, note_of, step_by, up, comes_up, goes_on, transition_on, accepted, some_same, WorldFault, NoSuchNode, Refused, ModelWorld, happens, happens_by, answered_by, event_of, with_node, Step, deltas_with}
+use Rattle.dac_messages.specs.declared.event.Event.TheVariants.{Command as Commanded}
+use Rattle.dac_model_world.specs.Fits.{deltas_after}
 use Rattle.dac_model_world.specs.laws.OneNode.{own_origin, runs_as}
 use Rattle.dac_model_world.specs.laws.Carried.{none_some}
 

@@ -1,40 +1,14 @@
 -- The program's world follows the model worlds that show as it.
 use Rattle.std.proofs.Common.{◌≡◌, ℕ, ◌<◌, Bool, true, false, cond, inl, inr, List, ◌∷◌, ◌++◌, Option, Some, None, Result, Ok, Err, length, nat_eq, refl, sym, ap, subst, ◌∙◌, lt-ltb, eq-eqb, get_or, true≢false}
-use Rattle.std.specs.Prelude.{nat_lt, unwrap_or, IsOk, IfOk, IfErr, IfSome, OnErr}
-use Rattle.std.specs.Option.{option_map}
-use Rattle.std.specs.List.{slice_get}
+use Rattle.dac_model_world.specs.laws.Common.{nat_lt, IfSome, option_map, slice_get, exact_unsigned_eq, false_from_ne_true, NodeId, Table, Opening, Shut, Opened, GiveUp, Noted, waits_of, WorldEvent, Event, Crash, Tick, Reply, Crashed, Refusal, Off, NoMemory, WorldFault, NoSuchNode, Refused, NodeValue, RunningValue, ModelNode, ModelRunning, joined, shown, running_shown, refusal_of, refusal_by, ticks_by, opening_at, note_of, model_step, step_by, accepted, Stepped, AcceptedAs, left_by, reply_by, WorldValue, ModelWorld, Shows, happens, happens_by, answered_by, event_of, numbered, with_node, issued_by, shipped_by, out_of_memory, Step, Follows, Goes, step_accepted, some_same}
+use Rattle.std.specs.Prelude.{unwrap_or, IsOk, IfOk, IfErr, OnErr}
 use Rattle.std.proofs.lemmas.Option.{slice_get_read}
-use Rattle.std.proofs.lemmas.Map.Views.{exact_unsigned_eq}
-use Rattle.std.proofs.lemmas.Bool.{false_from_ne_true}
-use Rattle.dac_base.specs.declared.NodeId.{NodeId}
-use Rattle.dac_config.specs.Table.{Table}
-use Rattle.dac_decide.specs.declared.start_gate.Opening.{Opening}
-use Rattle.dac_decide.specs.declared.start_gate.Opening.TheVariants.{Shut, Opened, GiveUp}
-use Rattle.dac_decide.specs.declared.waits.Noted.{Noted}
-use Rattle.dac_decide.specs.FailoverWait.{waits_of}
-use Rattle.dac_events.specs.declared.WorldEvent.{WorldEvent}
-use Rattle.dac_messages.specs.declared.event.Event.{Event}
-use Rattle.dac_messages.specs.declared.event.Event.TheVariants.{Crash, Tick}
-use Rattle.dac_messages.specs.declared.reply.Reply.{Reply}
-use Rattle.dac_messages.specs.declared.reply.Reply.TheVariants.{Crashed}
-use Rattle.dac_events.specs.declared.refusal.Refusal.{Refusal}
-use Rattle.dac_events.specs.declared.refusal.Refusal.TheVariants.{Off, NoMemory}
-use Rattle.dac_events.specs.declared.world_fault.WorldFault.{WorldFault}
-use Rattle.dac_events.specs.declared.world_fault.WorldFault.TheVariants.{NoSuchNode, Refused}
-use Rattle.dac_model_node.specs.NodeValue.{NodeValue, RunningValue}
-use Rattle.dac_model_node.specs.ModelNode.{ModelNode, ModelRunning, joined, shown, running_shown}
-use Rattle.dac_model_node.specs.EventRefusals.{refusal_of, refusal_by}
-use Rattle.dac_model_node.specs.Transitions.{ticks_by, opening_at, note_of}
-use Rattle.dac_model_node.specs.Step.{model_step, step_by, accepted, Stepped}
 use Rattle.dac_model_node.specs.Hearing.{HearsExactly}
-use Rattle.dac_model_node.specs.Accepted.{AcceptedAs, AreNewest, IsNotingBy, left_by, reply_by}
-use Rattle.dac_model_world.specs.WorldValue.{WorldValue}
-use Rattle.dac_model_world.specs.ModelWorld.{ModelWorld, Shows, WorldStepped, happens, happens_by, answered_by, event_of, numbered, with_node, issued_by, shipped_by, out_of_memory, Step, Follows}
-use Rattle.dac_model_world.specs.WorldChanges.{Goes}
+use Rattle.dac_model_node.specs.Accepted.{AreNewest, IsNotingBy}
+use Rattle.dac_model_world.specs.ModelWorld.{WorldStepped}
 use Rattle.dac_model_world.specs.AtNode.{HearsAt, HearsIn, HappensAt}
 use Rattle.dac_model_node.specs.laws.Heard.{hears_exactly}
-use Rattle.dac_model_node.specs.laws.Steps.{shown_accepted, answer_accepted, step_accepted}
-use Rattle.dac_model_node.specs.laws.Options.{some_same}
+use Rattle.dac_model_node.specs.laws.Steps.{shown_accepted, answer_accepted}
 
 -- the node of a world that shows as v
 node_shown : (t : Table) (w : ModelWorld) (v : WorldValue) → Shows t w v → (me : NodeId) (old : NodeValue) → me.0 < length v.nodes → slice_get v.nodes me.0 ≡ Some old → shown t (w.node me) ≡ old

@@ -1,24 +1,17 @@
 -- Logs of states as lists of sets of operations, each state the meaning of a set.
 use Rattle.std.proofs.Common.{◌≡◌, ℕ, ◌⊎◌, inl, inr, List, [], ◌∷◌, ◌++◌, length, take, drop, fold, map as list_map, refl, sym, ap, subst, ◌∙◌, append-nil, append_assoc, take-append-drop}
-use Rattle.std.proofs.lemmas.List.{map-append, length-map, drop-map}
+use Rattle.dac_model_world.specs.laws.Common.{map-append, length-map, dot_cmp, origin_cmp, dots_total, exact_dots, Operation, StateValue, bottom, join, meaning_of, IsOperationOf, AreOperationsOf, DotsDetermine, heard-meaning, known-meaning, starts-meaning, permits-meaning, lives-meaning, drains-meaning, In-append_left, In-append_right, In-append_cases, join-meaning, meaning-same, joined, meanings}
+use Rattle.std.proofs.lemmas.List.{drop-map}
 use Rattle.std.specs.FinSet as set
 use Rattle.std.specs.FinMap as map
-use Rattle.dac_origins.specs.Dots.{dot_cmp, origin_cmp}
-use Rattle.dac_origins.specs.laws.Dots.{dots_total, exact_dots}
 use Rattle.dac_wishes.specs.KeyedWrites.{keyed_write_cmp}
 use Rattle.dac_wishes.specs.laws.DrainsValue.{same_drains}
 use Rattle.dac_wishes.specs.Writes.{write_cmp}
 use Rattle.dac_wishes.specs.laws.WishesValue.{same_wishes}
 use Rattle.dac_wishes.specs.laws.PermissionsValue.{same_permissions}
-use Rattle.dac_operations.specs.Operations.{Operation}
-use Rattle.dac_meaning.specs.StateValue.{StateValue, bottom, join, permissions_of, wishes_of, drains_of}
+use Rattle.dac_meaning.specs.StateValue.{permissions_of, wishes_of, drains_of}
 use Rattle.dac_meaning.specs.laws.StateLaws.{same_state}
-use Rattle.dac_meaning.specs.Meaning.{meaning_of, IsOperationOf, AreOperationsOf, DotsDetermine}
-use Rattle.dac_meaning.specs.laws.Readers.{heard-meaning, known-meaning, starts-meaning, permits-meaning, lives-meaning, claims-meaning, drains-meaning}
-use Rattle.dac_meaning.specs.laws.Members.{In-append_left, In-append_right, In-append_cases}
-use Rattle.dac_meaning.specs.laws.Joins.{join-meaning, meaning-same}
-use Rattle.dac_model_node.specs.ModelNode.{joined}
-use Rattle.dac_model_node.specs.Transitions.{meanings}
+use Rattle.dac_meaning.specs.laws.Readers.{claims-meaning}
 use Rattle.dac_model_world.specs.laws.Operations.{Agree-within}
 
 -- sets of operations, one after another

@@ -1,26 +1,10 @@
 -- The properties of every run, from the induction over runs.
 use Rattle.std.proofs.Common.{◌≡◌, suc, List, [], ◌∷◌, length, Option, Some, None, refl, sym, ap, subst, ◌∙◌}
-use Rattle.std.specs.Option.{option_map}
-use Rattle.std.specs.List.{slice_get}
-use Rattle.dac_base.specs.declared.NodeId.{NodeId}
-use Rattle.dac_origins.specs.declared.dot.Origin.{Origin}
-use Rattle.dac_operations.specs.Operations.{Operation}
-use Rattle.dac_config.specs.Table.{Table}
-use Rattle.dac_meaning.specs.StateValue.{StateValue}
-use Rattle.dac_meaning.specs.Meaning.{meaning_of, IsOperationOf}
-use Rattle.dac_meaning.specs.laws.StateLaws.{state_laws}
-use Rattle.dac_events.specs.declared.WorldEvent.{WorldEvent}
+use Rattle.dac_model_world.specs.laws.Common.{option_map, slice_get, NodeId, Origin, Operation, Table, StateValue, meaning_of, IsOperationOf, state_laws, WorldEvent, verdict_of, RunningValue, state_of, Message, WorldValue, ModelNode, ModelRunning, running_shown, some_same, ModelWorld, Shows, RanAs, start, numbered, SetWorld, NodeSet, Copy, set_run, no_sets, DistinctDots, HoldsSets, heard_among, state_by, Converges}
 use Rattle.dac_messages.specs.StateSpelling.{spelling_of}
-use Rattle.dac_decide.specs.Placement.{holder_of, verdict_of, candidate_of}
-use Rattle.dac_model_node.specs.NodeValue.{RunningValue, origin_of, state_of}
-use Rattle.dac_messages.specs.declared.message.Message.{Message}
-use Rattle.dac_model_world.specs.WorldValue.{WorldValue}
-use Rattle.dac_model_node.specs.ModelNode.{ModelNode, ModelRunning, running_shown}
-use Rattle.dac_model_node.specs.laws.Options.{some_same}
-use Rattle.dac_model_world.specs.ModelWorld.{ModelWorld, Shows, RanAs, start, numbered}
-use Rattle.dac_model_world.specs.SetWorld.{SetWorld, NodeSet, Copy, set_run, no_sets}
-use Rattle.dac_model_world.specs.Convergence.{EachIsMeaning, Alike, Agrees, DistinctDots, HoldsSets, ListsAll, CarryMeanings, heard_among, state_by, origin_by}
-use Rattle.dac_model_world.specs.Converges.{Converges}
+use Rattle.dac_decide.specs.Placement.{holder_of, candidate_of}
+use Rattle.dac_model_node.specs.NodeValue.{origin_of}
+use Rattle.dac_model_world.specs.Convergence.{EachIsMeaning, Alike, Agrees, ListsAll, CarryMeanings, origin_by}
 use Rattle.dac_model_world.specs.laws.Operations.{DistinctDots-agree}
 use Rattle.dac_model_world.specs.laws.Meanings.{meaning-heard_among}
 use Rattle.dac_model_world.specs.laws.OneNode.{NodeOk, state_in, own_origin}

@@ -1,13 +1,8 @@
 -- Heard dots decide the order of the meanings of issued operations.
 use Rattle.std.proofs.Common.{◌≡◌, true, List, [], ◌∷◌, inl, refl, sym, subst}
-use Rattle.std.specs.Prelude.{◌↔◌, IsTrue}
+use Rattle.dac_model_world.specs.laws.Common.{◌↔◌, IsTrue, Operation, StateValue, meaning_of, IsOperationOf, AreOperationsOf, DotsDetermine, is_below, is_below-is}
 use Rattle.std.specs.FinSet as set
 use Rattle.dac_origins.specs.Dots.{IsSubset}
-use Rattle.dac_operations.specs.Operations.{Operation}
-use Rattle.dac_meaning.specs.StateValue.{StateValue}
-use Rattle.dac_meaning.specs.Meaning.{meaning_of, IsOperationOf, AreOperationsOf, DotsDetermine}
-use Rattle.dac_meaning.specs.Below.{is_below}
-use Rattle.dac_meaning.specs.laws.Below.{is_below-is}
 use Rattle.dac_model_world.specs.Made.{HeardDotsAreOrder, OneDotIsOrder}
 use Rattle.dac_model_world.specs.laws.Operations.{one_in, DistinctDots-agree}
 use Rattle.dac_model_world.specs.laws.Meanings.{heard_in, below_where_heard}

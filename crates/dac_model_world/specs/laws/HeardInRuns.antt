@@ -1,40 +1,10 @@
 -- A running node hears what fits it, unless an allocation fails or its delta numbers are used up.
 use Rattle.std.proofs.Common.{◌≡◌, ◌⊎◌, ◌<◌, ◌≤◌, ℕ, zero, suc, ◌+◌, ◌-◌, Bool, true, false, not, cond, ◌&&◌, List, [], ◌∷◌, length, Option, Some, None, Result, Ok, Err, inl, inr, nat_eq, refl, sym, ap, subst, ◌∙◌, true≢false, ltb-true, arith}
-use Rattle.std.specs.Prelude.{nat_lt}
-use Rattle.std.specs.Option.{option_map, option_map_or}
-use Rattle.std.specs.List.{slice_get}
-use Rattle.std.proofs.lemmas.Map.Views.{exact_unsigned_eq}
-use Rattle.std.proofs.lemmas.Bool.{and_parts}
-use Rattle.dac_base.specs.declared.limits.TheConstants.{MAX_COUNTER}
-use Rattle.dac_base.specs.declared.NodeId.{NodeId}
-use Rattle.dac_origins.specs.declared.dot.Origin.{Origin}
-use Rattle.dac_operations.specs.Operations.{Operation}
-use Rattle.dac_meaning.specs.Meaning.{meaning_of}
-use Rattle.dac_meaning.specs.Below.{is_below}
-use Rattle.dac_config.specs.Table.{Table}
-use Rattle.dac_events.specs.declared.WorldEvent.{WorldEvent}
-use Rattle.dac_events.specs.declared.What.{What}
-use Rattle.dac_events.specs.declared.What.TheVariants.{Deliver, Hand}
-use Rattle.dac_messages.specs.declared.message.Message.{Message}
-use Rattle.dac_messages.specs.Bodies.{content_of}
-use Rattle.dac_messages.specs.declared.event.Event.{Event}
-use Rattle.dac_messages.specs.declared.event.Event.TheVariants.{Hear, HearOp}
-use Rattle.dac_messages.specs.declared.reply.Reply.{Reply}
-use Rattle.dac_messages.specs.declared.reply.Reply.TheVariants.{Booted, Crashed, Issued, Ticked, Held, GaveUp, Shipped, Heard}
-use Rattle.dac_commands.specs.Causes.{first}
-use Rattle.dac_events.specs.declared.refusal.Refusal.{Refusal}
-use Rattle.dac_events.specs.declared.refusal.Refusal.TheVariants.{OnSelf, NotForMe, DotsUsedUp}
-use Rattle.dac_events.specs.declared.world_fault.WorldFault.{WorldFault}
-use Rattle.dac_events.specs.declared.world_fault.WorldFault.TheVariants.{NoSuchNode}
-use Rattle.dac_model_node.specs.ModelNode.{ModelNode, ModelRunning, joined, shown, running_shown}
-use Rattle.dac_model_node.specs.EventRefusals.{refusal_of, refusal_by, overflows, too_many_deltas}
-use Rattle.dac_model_node.specs.Step.{Stepped, model_step, step_by, accepted, transition_on}
-use Rattle.dac_model_node.specs.laws.Steps.{step_accepted}
-use Rattle.dac_model_node.specs.laws.Options.{some_same}
-use Rattle.dac_model_world.specs.ModelWorld.{ModelWorld, happens, happens_by, answered_by, event_of, heard_by, handed_by, counted, Step, Run, start}
-use Rattle.dac_model_world.specs.SetWorld.{SetWorld, NodeSet, Issue, Copy, with_set, united, booting, issuing, brought_to, set_step, no_sets}
-use Rattle.dac_model_world.specs.Convergence.{state_by}
-use Rattle.dac_model_world.specs.Fits.{RunsIn, IsCopyFor, Fits, IsHeard, IsFull, deltas_with, no_deltas, HearsWhatFits, HearsAllThatFits}
+use Rattle.dac_model_world.specs.laws.Common.{nat_lt, option_map, option_map_or, slice_get, exact_unsigned_eq, and_parts, MAX_COUNTER, NodeId, Origin, Operation, meaning_of, is_below, Table, WorldEvent, What, Deliver, Hand, Message, content_of, Event, Hear, HearOp, Reply, Booted, Crashed, GaveUp, Shipped, Heard, first, Refusal, OnSelf, NotForMe, DotsUsedUp, WorldFault, NoSuchNode, ModelNode, ModelRunning, joined, shown, running_shown, refusal_of, refusal_by, overflows, Stepped, model_step, step_by, accepted, transition_on, step_accepted, some_same, ModelWorld, happens, happens_by, answered_by, event_of, handed_by, Step, Run, start, SetWorld, NodeSet, Issue, Copy, with_set, united, booting, issuing, brought_to, set_step, no_sets, state_by, deltas_with}
+use Rattle.dac_messages.specs.declared.reply.Reply.TheVariants.{Issued, Ticked, Held}
+use Rattle.dac_model_node.specs.EventRefusals.{too_many_deltas}
+use Rattle.dac_model_world.specs.ModelWorld.{heard_by, counted}
+use Rattle.dac_model_world.specs.Fits.{RunsIn, IsCopyFor, Fits, IsHeard, IsFull, no_deltas, HearsWhatFits, HearsAllThatFits}
 use Rattle.dac_model_world.specs.laws.OneNode.{state_in}
 use Rattle.dac_model_world.specs.laws.Runs.{run_first}
 use Rattle.dac_model_world.specs.laws.Covers.{Seen}

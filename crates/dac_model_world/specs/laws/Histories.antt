@@ -1,14 +1,6 @@
 -- Histories of one node.
 use Rattle.std.proofs.Common.{◌≡◌, List, [], ◌∷◌, ◌++◌, Option, Some, None, Result, Ok, Err, refl, sym, ap, ◌∙◌}
-use Rattle.dac_base.specs.declared.NodeId.{NodeId}
-use Rattle.dac_config.specs.Table.{Table}
-use Rattle.dac_messages.specs.declared.event.Event.{Event}
-use Rattle.dac_messages.specs.declared.reply.Reply.{Reply}
-use Rattle.dac_events.specs.declared.refusal.Refusal.{Refusal}
-use Rattle.dac_model_node.specs.ModelNode.{ModelNode, ModelRunning, shown}
-use Rattle.dac_model_node.specs.EventRefusals.{refusal_of}
-use Rattle.dac_model_node.specs.Step.{model_step, step_by, accepted}
-use Rattle.dac_model_world.specs.Histories.{Entry, IsHistory}
+use Rattle.dac_model_world.specs.laws.Common.{NodeId, Table, Event, Reply, Refusal, ModelNode, ModelRunning, shown, refusal_of, model_step, step_by, accepted, Entry, IsHistory}
 
 ok_err : {P : Type 0} (reply : Reply) (why : Refusal) → ◌≡◌ {A = Result Reply Refusal} (Ok reply) (Err why) → P
 ok_err reply why e = cc

@@ -1,37 +1,8 @@
 -- A node issues its own operations, with consecutive counters of its incarnation.
 use Rattle.std.proofs.Common.{◌≡◌, ℕ, ◌<◌, ◌≤◌, ◌+◌, true, false, cond, List, [], ◌∷◌, ◌++◌, Option, Some, None, Ok, Err, inl, inr, nat_eq, refl, sym, ap, subst, ◌∙◌, eq-eqb, le_refl, arith}
-use Rattle.std.specs.Prelude.{nat_lt}
-use Rattle.std.specs.Option.{option_map}
-use Rattle.std.proofs.lemmas.Map.Views.{exact_unsigned_eq}
-use Rattle.dac_base.specs.declared.NodeId.{NodeId}
-use Rattle.dac_origins.specs.declared.dot.Origin.{Origin}
-use Rattle.dac_operations.specs.Operations.{Operation}
-use Rattle.dac_meaning.specs.StateValue.{StateValue, join}
-use Rattle.dac_meaning.specs.Meaning.{meaning_of, IsOperationOf, AreOperationsOf, DotsDetermine}
-use Rattle.dac_meaning.specs.laws.Members.{Within-append, In-append_left, In-append_right}
-use Rattle.dac_config.specs.Table.{Table}
-use Rattle.dac_decide.specs.declared.start_gate.Opening.{Opening}
-use Rattle.dac_decide.specs.declared.start_gate.Opening.TheVariants.{Shut, Opened, GiveUp}
-use Rattle.dac_decide.specs.declared.waits.Noted.{Noted}
-use Rattle.dac_decide.specs.FailoverWait.{Note, waits_of}
-use Rattle.dac_events.specs.declared.WorldEvent.{WorldEvent}
-use Rattle.dac_messages.specs.declared.message.Message.{Message}
-use Rattle.dac_messages.specs.declared.event.Event.{Event}
-use Rattle.dac_messages.specs.declared.event.Event.TheVariants.{Boot, Crash, Command as Commanded, Tick, Ship, Hear, HearOp}
-use Rattle.dac_commands.specs.Commands.{act_of, next_operation}
-use Rattle.dac_commands.specs.Causes.{refusal_of_command}
-use Rattle.dac_events.specs.declared.world_fault.WorldFault.TheVariants.{NoSuchNode}
-use Rattle.dac_model_node.specs.Ticks.{sweep_of}
-use Rattle.dac_model_node.specs.Issued.{AreIssued}
-use Rattle.dac_model_node.specs.ModelNode.{ModelNode, ModelRunning, joined, shown, running_shown}
-use Rattle.dac_model_node.specs.EventRefusals.{refusal_of, refusal_by, refusal_to_tick}
-use Rattle.dac_model_node.specs.Transitions.{ticks_by, opening_at, moment_of, note_of}
-use Rattle.dac_model_node.specs.Step.{step_by, accepted, up, comes_up, goes_on}
-use Rattle.dac_model_node.specs.laws.Claims.{claims_are, claims_issued}
-use Rattle.dac_model_node.specs.laws.Counters.{leaves_room}
-use Rattle.dac_model_world.specs.ModelWorld.{ModelWorld, happens, happens_by, answered_by, event_of, with_node, start, Step, Run}
-use Rattle.dac_model_world.specs.SetWorld.{SetWorld, operations_of, set_step}
-use Rattle.dac_model_world.specs.Issuing.{IsBoot, AreOwn, AreIssuedAt, TellsIssued, TellIssued}
+use Rattle.dac_model_world.specs.laws.Common.{nat_lt, option_map, exact_unsigned_eq, NodeId, Origin, Operation, StateValue, join, meaning_of, IsOperationOf, AreOperationsOf, DotsDetermine, Within-append, In-append_left, In-append_right, Table, Opening, Shut, Opened, GiveUp, Noted, Note, waits_of, WorldEvent, Message, Event, Boot, Crash, Tick, Ship, Hear, HearOp, act_of, next_operation, refusal_of_command, NoSuchNode, sweep_of, AreIssued, ModelNode, ModelRunning, joined, shown, running_shown, refusal_of, refusal_by, refusal_to_tick, ticks_by, opening_at, moment_of, note_of, step_by, accepted, up, comes_up, goes_on, claims_are, claims_issued, leaves_room, ModelWorld, happens, happens_by, answered_by, event_of, with_node, start, Step, Run, SetWorld, operations_of, set_step, AreOwn}
+use Rattle.dac_messages.specs.declared.event.Event.TheVariants.{Command as Commanded}
+use Rattle.dac_model_world.specs.Issuing.{IsBoot, AreIssuedAt, TellsIssued, TellIssued}
 use Rattle.dac_model_world.specs.laws.Operations.{Agree-within, DistinctDots-agree}
 use Rattle.dac_model_world.specs.laws.OneNode.{own_origin, runs_as}
 use Rattle.dac_model_world.specs.laws.Runs.{run_first}

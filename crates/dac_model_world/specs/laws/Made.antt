@@ -1,49 +1,16 @@
 -- Every event keeps a world made of issued operations: a node issues operations with new dots, and is brought only
 -- meanings of issued operations.
 use Rattle.std.proofs.Common.{◌≡◌, ℕ, zero, suc, ◌+◌, ◌-◌, Bool, true, false, cond, inl, inr, List, [], ◌∷◌, ◌++◌, Option, Some, None, Ok, nat_eq, fold, refl, sym, ap, subst, ◌∙◌, append-nil, eq-eqb, true≢false}
-use Rattle.std.specs.Prelude.{nat_lt, IfSome}
-use Rattle.std.specs.Option.{option_map}
-use Rattle.std.specs.List.{All, slice_get}
+use Rattle.dac_model_world.specs.laws.Common.{nat_lt, IfSome, option_map, slice_get, exact_unsigned_eq, NodeId, Table, Origin, Operation, StateValue, bottom, join, meaning_of, IsOperationOf, AreOperationsOf, DotsDetermine, is_below, Within-append, In-append_left, In-append_right, In-append_cases, join-meaning, Opening, Shut, Opened, GiveUp, Noted, What, act_of, next_operation, Interval, Nothing, Message, content_of, Event, Boot, Crash, Tick, Ship, Hear, HearOp, Reply, Crashed, GaveUp, Heard, Position, begins, has_all, sweep_of, AreIssued, NodeValue, RunningValue, state_of, shown, Transition, transition_of, ticks_by, opening_at, meanings, brings, body_from, message_of, up, AcceptedAs, reply_by, left_by, claims_issued, some_same, WorldValue, Goes, Shows, start, event_of, numbered, issued_by, shipped_by, DistinctDots}
+use Rattle.std.specs.List.{All}
 use Rattle.std.proofs.lemmas.List.Elements.{All-nil, All-cons, All-head, All-tail, All-append, All-push, All-drop, All-weaker}
-use Rattle.std.proofs.lemmas.Map.Views.{exact_unsigned_eq}
-use Rattle.dac_base.specs.declared.NodeId.{NodeId}
-use Rattle.dac_config.specs.Table.{Table, node_count}
-use Rattle.dac_origins.specs.declared.dot.Origin.{Origin}
-use Rattle.dac_operations.specs.Operations.{Operation}
-use Rattle.dac_meaning.specs.StateValue.{StateValue, bottom, join}
-use Rattle.dac_meaning.specs.Meaning.{meaning_of, IsOperationOf, AreOperationsOf, DotsDetermine}
-use Rattle.dac_meaning.specs.Below.{is_below}
-use Rattle.dac_meaning.specs.laws.Members.{Within-append, In-append_left, In-append_right, In-append_cases}
-use Rattle.dac_meaning.specs.laws.Joins.{join-meaning}
+use Rattle.dac_config.specs.Table.{node_count}
 use Rattle.dac_deltas.specs.KeptDeltas.{KeptDeltas, empty, pushed, trimmed, numbered_from}
-use Rattle.dac_decide.specs.declared.start_gate.Opening.{Opening}
-use Rattle.dac_decide.specs.declared.start_gate.Opening.TheVariants.{Shut, Opened, GiveUp}
-use Rattle.dac_decide.specs.declared.waits.Noted.{Noted}
-use Rattle.dac_events.specs.declared.What.{What}
-use Rattle.dac_commands.specs.Commands.{act_of, next_operation}
-use Rattle.dac_messages.specs.declared.message.Body.TheVariants.{Interval, Nothing}
-use Rattle.dac_messages.specs.declared.message.Message.{Message}
-use Rattle.dac_messages.specs.Bodies.{content_of}
-use Rattle.dac_messages.specs.declared.event.Event.{Event}
-use Rattle.dac_messages.specs.declared.event.Event.TheVariants.{Boot, Crash, Command as Commanded, Tick, Ship, Hear, HearOp}
-use Rattle.dac_messages.specs.declared.reply.Reply.{Reply}
-use Rattle.dac_messages.specs.declared.reply.Reply.TheVariants.{Crashed, GaveUp, Heard}
-use Rattle.dac_model_node.specs.Position.{Position}
-use Rattle.dac_model_node.specs.Peers.{begins, has_all}
-use Rattle.dac_model_node.specs.Ticks.{sweep_of}
-use Rattle.dac_model_node.specs.Issued.{AreIssued}
-use Rattle.dac_model_node.specs.NodeValue.{NodeValue, RunningValue, state_of}
-use Rattle.dac_model_node.specs.ModelNode.{shown}
-use Rattle.dac_model_node.specs.Transitions.{Transition, transition_of, ticks_by, opening_at, meanings, brings, body_from, message_of, keeps, goes_down, holds_back, looks_after, ships, hears as hears_state, hears_message, issues}
-use Rattle.dac_model_node.specs.Step.{up}
-use Rattle.dac_model_node.specs.Accepted.{AcceptedAs, running_by, reply_by, left_by}
-use Rattle.dac_model_node.specs.laws.Claims.{claims_issued}
-use Rattle.dac_model_node.specs.laws.Options.{some_same}
-use Rattle.dac_model_world.specs.WorldValue.{WorldValue}
+use Rattle.dac_messages.specs.declared.event.Event.TheVariants.{Command as Commanded}
+use Rattle.dac_model_node.specs.Transitions.{keeps, goes_down, holds_back, looks_after, ships, hears as hears_state, hears_message, issues}
+use Rattle.dac_model_node.specs.Accepted.{running_by}
 use Rattle.dac_model_world.specs.Histories.{off_after}
-use Rattle.dac_model_world.specs.WorldChanges.{Goes}
-use Rattle.dac_model_world.specs.ModelWorld.{Shows, start, event_of, counted, numbered, issued_by, shipped_by}
-use Rattle.dac_model_world.specs.Convergence.{DistinctDots}
+use Rattle.dac_model_world.specs.ModelWorld.{counted}
 use Rattle.dac_model_world.specs.Made.{Means, own_origin, NoneLater, SetOk, RunsMade, NodeMade, BodiesMean, IsMade}
 use Rattle.dac_model_world.specs.laws.Operations.{one_in, Agree-within, DistinctDots-agree, DistinctDots-push}
 use Rattle.dac_model_world.specs.laws.Meanings.{join-bottom}

@@ -1,25 +1,12 @@
 -- The writes that stand in a closed set's meaning are its maximal ones. It knows no dot that it hasn't heard, and has
 -- heard the dots of each origin from 1 without gaps.
 use Rattle.std.proofs.Common.{◌≡◌, ◌⊎◌, ℕ, zero, suc, ◌-◌, ◌<◌, ◌≤◌, Bool, true, false, ◌||◌, inl, inr, List, nat_eq, eq-eqb, refl, sym, ap, subst, ◌∙◌, arith, true≢false}
-use Rattle.std.specs.Prelude.{◌↔◌}
-use Rattle.std.specs.List.{list_any}
+use Rattle.dac_model_world.specs.laws.Common.{◌↔◌, list_any, false_from_ne_true, exact_unsigned_eq, Origin, Dot, dot, IsNext, IsVector, dots_total, exact_dots, same_dot, same_dot_is, same_dot_itself, Act, Operation, meaning_of, IsOperationOf, AreOperationsOf, DotsDetermine, has_dot, is_replaced, found, finds, heard-meaning, known-meaning, SetWorld, Issue, operations_of, IsDotOfOne}
 use Rattle.std.specs.FinSet as set
-use Rattle.std.proofs.lemmas.Bool.{false_from_ne_true}
-use Rattle.std.proofs.lemmas.Map.Views.{exact_unsigned_eq}
-use Rattle.dac_origins.specs.declared.dot.Origin.{Origin}
-use Rattle.dac_origins.specs.declared.dot.Dot.{Dot}
-use Rattle.dac_origins.specs.Dots.{Dots, dot, IsNext, IsVector}
-use Rattle.dac_origins.specs.laws.Dots.{dots_total, exact_dots}
-use Rattle.dac_wishes.specs.Writes.{same_dot}
-use Rattle.dac_wishes.specs.laws.KeyedWrites.{same_dot_is, same_dot_itself}
-use Rattle.dac_operations.specs.declared.act.Act.{Act}
-use Rattle.dac_operations.specs.Operations.{Operation}
-use Rattle.dac_meaning.specs.Meaning.{meaning_of, IsOperationOf, AreOperationsOf, DotsDetermine, has_dot, replaces, is_replaced}
-use Rattle.dac_meaning.specs.laws.Members.{found, finds}
-use Rattle.dac_meaning.specs.laws.Readers.{heard-meaning, known-meaning}
+use Rattle.dac_origins.specs.Dots.{Dots}
+use Rattle.dac_meaning.specs.Meaning.{replaces}
 use Rattle.dac_meaning.specs.laws.Joins.{names-or}
-use Rattle.dac_model_world.specs.SetWorld.{SetWorld, Issue, operations_of}
-use Rattle.dac_model_world.specs.Causality.{IsCausallyBefore, IsMaximal, IsDotOfOne}
+use Rattle.dac_model_world.specs.Causality.{IsCausallyBefore, IsMaximal}
 use Rattle.dac_model_world.specs.laws.Replacing.{Replaces}
 use Rattle.dac_model_world.specs.laws.ClosedSets.{ClosedSet, IssuesOk, issue_of}
 use Rattle.dac_model_world.specs.laws.Standing.{StandsAs, IsReplacedBy, replaced_there}

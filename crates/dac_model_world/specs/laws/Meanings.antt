@@ -1,16 +1,11 @@
 -- Laws of meanings for runs.
 use Rattle.std.proofs.Common.{◌≡◌, Bool, true, false, inl, inr, List, [], ◌∷◌, ◌++◌, cond, refl, sym, ap, subst, ◌∙◌}
+use Rattle.dac_model_world.specs.laws.Common.{same_dot_is, same_dot_itself, Operation, bottom, join, state_laws, meaning_of, IsOperationOf, AreOperationsOf, DotsDetermine, has_dot, heard-meaning, In-append_left, Within-append, found, finds, meaning-same, join-meaning, heard_among}
 use Rattle.std.specs.List.{filter}
 use Rattle.std.specs.FinSet as set
-use Rattle.dac_wishes.specs.laws.KeyedWrites.{same_dot_is, same_dot_itself}
-use Rattle.dac_operations.specs.Operations.{Operation}
-use Rattle.dac_meaning.specs.StateValue.{IsBelow, bottom, join}
-use Rattle.dac_meaning.specs.laws.StateLaws.{state_laws, bottom_value, bottom_least}
-use Rattle.dac_meaning.specs.Meaning.{meaning_of, IsOperationOf, AreOperationsOf, DotsDetermine, has_dot}
-use Rattle.dac_meaning.specs.laws.Readers.{heard-meaning}
-use Rattle.dac_meaning.specs.laws.Members.{In-append_left, Within-append, found, finds}
-use Rattle.dac_meaning.specs.laws.Joins.{meaning-same, meaning-state, join-meaning}
-use Rattle.dac_model_world.specs.Convergence.{heard_among}
+use Rattle.dac_meaning.specs.StateValue.{IsBelow}
+use Rattle.dac_meaning.specs.laws.StateLaws.{bottom_value, bottom_least}
+use Rattle.dac_meaning.specs.laws.Joins.{meaning-state}
 use Rattle.dac_model_world.specs.laws.Operations.{Agree-within}
 
 -- the join of a state with bottom is the state

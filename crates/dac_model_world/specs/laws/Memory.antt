@@ -1,24 +1,9 @@
 -- The model world never returns `NoMemory`.
 use Rattle.std.proofs.Common.{◌≡◌, true, false, cond, List, Option, Some, None, Result, Ok, Err, refl, ap, ◌∙◌}
-use Rattle.std.specs.Prelude.{nat_lt}
-use Rattle.dac_base.specs.declared.NodeId.{NodeId}
-use Rattle.dac_operations.specs.Operations.{Operation}
-use Rattle.dac_config.specs.Table.{Table}
-use Rattle.dac_events.specs.declared.WorldEvent.{WorldEvent}
-use Rattle.dac_events.specs.declared.What.{What}
-use Rattle.dac_events.specs.declared.What.TheVariants.{Deliver, Hand}
-use Rattle.dac_messages.specs.declared.message.Message.{Message}
-use Rattle.dac_messages.specs.declared.event.Event.{Event}
-use Rattle.dac_messages.specs.declared.reply.Reply.{Reply}
-use Rattle.dac_events.specs.declared.refusal.Refusal.{Refusal}
-use Rattle.dac_events.specs.declared.refusal.Refusal.TheVariants.{NoMemory}
-use Rattle.dac_events.specs.declared.world_fault.WorldFault.{WorldFault}
-use Rattle.dac_events.specs.declared.world_fault.WorldFault.TheVariants.{NoSuchNode, NoSuchMessage, NoSuchOperation, Refused}
-use Rattle.dac_model_node.specs.ModelNode.{ModelRunning, shown}
-use Rattle.dac_model_node.specs.EventRefusals.{refusal_of}
-use Rattle.dac_model_node.specs.Step.{step_by, accepted}
+use Rattle.dac_model_world.specs.laws.Common.{nat_lt, NodeId, Operation, Table, WorldEvent, What, Deliver, Hand, Message, Event, Reply, Refusal, NoMemory, WorldFault, NoSuchNode, Refused, ModelRunning, shown, refusal_of, step_by, accepted, ModelWorld, happens, happens_by, answered_by, event_of, handed_by, out_of_memory}
+use Rattle.dac_events.specs.declared.world_fault.WorldFault.TheVariants.{NoSuchMessage, NoSuchOperation}
 use Rattle.dac_model_node.specs.laws.Refused.{never_memory}
-use Rattle.dac_model_world.specs.ModelWorld.{ModelWorld, happens, happens_by, answered_by, event_of, heard_by, handed_by, counted, out_of_memory}
+use Rattle.dac_model_world.specs.ModelWorld.{heard_by, counted}
 
 abbrev Answer : Type 0
 Answer = Result Reply WorldFault

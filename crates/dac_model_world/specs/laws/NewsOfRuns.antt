@@ -1,39 +1,9 @@
 -- A hear reports whether it brought a dot that the node hadn't heard.
 use Rattle.std.proofs.Common.{◌≡◌, ℕ, Bool, true, false, not, cond, List, [], ◌∷◌, Option, Some, None, ◌⊎◌, Ok, Err, inl, inr, refl, sym, ap, subst, ◌∙◌, true≢false}
-use Rattle.std.specs.Prelude.{◌↔◌, IsTrue, nat_lt}
-use Rattle.std.specs.Option.{option_map}
-use Rattle.std.specs.List.{list_any}
+use Rattle.dac_model_world.specs.laws.Common.{◌↔◌, IsTrue, nat_lt, option_map, list_any, false_from_ne_true, NodeId, same_dot_is, Operation, StateValue, meaning_of, IsOperationOf, AreOperationsOf, DotsDetermine, has_dot, heard-meaning, found, finds, Table, Opening, Shut, Opened, GiveUp, Noted, waits_of, WorldEvent, What, content_of, Event, Boot, Tick, Hear, HearOp, NoSuchNode, is_below, is_below-is, RunningValue, ModelRunning, joined, shown, running_shown, refusal_of, refusal_by, ticks_by, opening_at, note_of, step_by, accepted, ModelWorld, happens, happens_by, answered_by, event_of, Step, Run, SetWorld, NodeSet, held_by, brought_to, set_step, HasDot}
 use Rattle.std.specs.FinSet as set
-use Rattle.std.proofs.lemmas.Bool.{false_from_ne_true}
-use Rattle.dac_base.specs.declared.NodeId.{NodeId}
-use Rattle.dac_wishes.specs.laws.KeyedWrites.{same_dot_is}
-use Rattle.dac_operations.specs.Operations.{Operation}
-use Rattle.dac_meaning.specs.StateValue.{StateValue}
-use Rattle.dac_meaning.specs.Meaning.{meaning_of, IsOperationOf, AreOperationsOf, DotsDetermine, has_dot}
-use Rattle.dac_meaning.specs.laws.Readers.{heard-meaning}
-use Rattle.dac_meaning.specs.laws.Members.{found, finds}
-use Rattle.dac_config.specs.Table.{Table}
-use Rattle.dac_decide.specs.declared.start_gate.Opening.{Opening}
-use Rattle.dac_decide.specs.declared.start_gate.Opening.TheVariants.{Shut, Opened, GiveUp}
-use Rattle.dac_decide.specs.declared.waits.Noted.{Noted}
-use Rattle.dac_decide.specs.FailoverWait.{waits_of}
-use Rattle.dac_events.specs.declared.WorldEvent.{WorldEvent}
-use Rattle.dac_events.specs.declared.What.{What}
-use Rattle.dac_messages.specs.Bodies.{content_of}
-use Rattle.dac_messages.specs.declared.event.Event.{Event}
-use Rattle.dac_messages.specs.declared.event.Event.TheVariants.{Boot, Tick, Hear, HearOp}
 use Rattle.dac_events.specs.declared.refusal.Refusal.TheVariants.{AlreadyOn}
-use Rattle.dac_events.specs.declared.world_fault.WorldFault.TheVariants.{NoSuchNode}
-use Rattle.dac_meaning.specs.Below.{is_below}
-use Rattle.dac_meaning.specs.laws.Below.{is_below-is}
-use Rattle.dac_model_node.specs.NodeValue.{RunningValue}
-use Rattle.dac_model_node.specs.ModelNode.{ModelRunning, joined, shown, running_shown}
-use Rattle.dac_model_node.specs.EventRefusals.{refusal_of, refusal_by}
-use Rattle.dac_model_node.specs.Transitions.{ticks_by, opening_at, note_of}
-use Rattle.dac_model_node.specs.Step.{step_by, accepted}
-use Rattle.dac_model_world.specs.ModelWorld.{ModelWorld, happens, happens_by, answered_by, event_of, Step, Run}
-use Rattle.dac_model_world.specs.SetWorld.{SetWorld, NodeSet, held_by, brought_to, set_step}
-use Rattle.dac_model_world.specs.News.{HasDot, HasNews, TellsNews, AnswersNews}
+use Rattle.dac_model_world.specs.News.{HasNews, TellsNews, AnswersNews}
 use Rattle.dac_model_world.specs.laws.Operations.{DistinctDots-agree}
 use Rattle.dac_model_world.specs.laws.Meanings.{heard_in, below_where_heard}
 use Rattle.dac_model_world.specs.laws.Runs.{run_first}

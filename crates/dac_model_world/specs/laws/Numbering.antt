@@ -1,32 +1,16 @@
 -- Issued operations are in order: those of an incarnation have the counters 1, 2, 3 and so on. An operation replaces
 -- only dots that were issued, and names no incarnation of a node later than its last.
 use Rattle.std.proofs.Common.{◌≡◌, ◌⊎◌, ℕ, suc, ◌<◌, ◌≤◌, ◌+◌, ◌-◌, Bool, true, false, cond, ◌||◌, List, [], ◌∷◌, ◌++◌, length, Option, Some, None, inl, inr, refl, sym, ap, subst, ◌∙◌, append-nil, append_assoc, le_trans, arith}
+use Rattle.dac_model_world.specs.laws.Common.{eq_by_cmp, is_eq, Equal-is, tied_itself, NodeId, Dot, Origin, dot, origin_cmp, exact_origins, origins_total, Life, IsGreatest, IsSaid, life_cmp, same_dot_is, same_dot_itself, Act, Down, Permit, Start, Stop, Drain, Operation, meaning_of, IsOperationOf, AreOperationsOf, has_dot, names, pairs, life_said, of_said, Within-append, In-append_left, In-append_right, In-append_cases, found, finds, known-meaning, lives-meaning, lives_are, HasDot, AreOwn}
 use Rattle.std.specs.Prelude.{filter}
 use Rattle.std.specs.FinMap as map
 use Rattle.std.specs.FinSet as set
-use Rattle.std.specs.Ordering.{eq_by_cmp, is_eq}
-use Rattle.std.specs.Cmp.{Equal-is, tied_itself}
 use Rattle.std.proofs.lemmas.Bool.{or_cases}
-use Rattle.dac_base.specs.declared.NodeId.{NodeId}
-use Rattle.dac_origins.specs.declared.dot.Dot.{Dot}
-use Rattle.dac_origins.specs.declared.dot.Origin.{Origin}
-use Rattle.dac_origins.specs.Dots.{dot, origin_cmp}
-use Rattle.dac_origins.specs.laws.Dots.{exact_origins, origins_total}
 use Rattle.dac_lattice.specs.declared.flags.Flag.TheVariants.{Up as IsUp}
-use Rattle.dac_chains.specs.declared.lives.Life.{Life}
-use Rattle.dac_chains.specs.Greatest.{IsGreatest, IsSaid}
-use Rattle.dac_chains.specs.Lives.{life_cmp}
-use Rattle.dac_wishes.specs.laws.KeyedWrites.{same_dot_is, same_dot_itself}
-use Rattle.dac_operations.specs.declared.act.Act.{Act}
-use Rattle.dac_operations.specs.declared.act.Act.TheVariants.{Up, Down, Permit, Start, Stop, Drain, Claim}
-use Rattle.dac_operations.specs.Operations.{Operation}
-use Rattle.dac_meaning.specs.Meaning.{meaning_of, IsOperationOf, AreOperationsOf, has_dot, replaces, names, pairs, life_said}
+use Rattle.dac_operations.specs.declared.act.Act.TheVariants.{Up, Claim}
+use Rattle.dac_meaning.specs.Meaning.{replaces}
 use Rattle.dac_meaning.specs.Chained.{SaysFor}
-use Rattle.dac_meaning.specs.laws.Chained.{of_said}
-use Rattle.dac_meaning.specs.laws.Members.{Within-append, In-append_left, In-append_right, In-append_cases, found, finds}
-use Rattle.dac_meaning.specs.laws.Readers.{known-meaning, lives-meaning, lives_are}
-use Rattle.dac_model_world.specs.News.{HasDot}
-use Rattle.dac_model_world.specs.Issuing.{is_of, count_of, AreOwn}
+use Rattle.dac_model_world.specs.Issuing.{is_of, count_of}
 use Rattle.dac_model_world.specs.laws.Operations.{one_in}
 use Rattle.dac_model_world.specs.laws.Replacing.{EndsLive, IsNextAfter, AreNext}
 use Rattle.dac_model_world.specs.laws.Standing.{replaced_there}

@@ -1,31 +1,13 @@
 -- The invariant of one node of the model world and its set. A running node's state is the meaning of its set. The set
 -- contains all operations of its present incarnation, and no operation is of a later one, so that its next dot is new.
 use Rattle.std.proofs.Common.{◌≡◌, ℕ, ◌≤◌, ◌+◌, true, false, ◌||◌, inl, inr, List, [], ◌∷◌, ◌++◌, Option, Some, None, refl, sym, ap, subst, ◌∙◌, append_assoc, append-nil, arith}
+use Rattle.dac_model_world.specs.laws.Common.{option_map, list_any, false_from_ne_true, NodeId, Origin, Dot, same_dot_is, same_dot_itself, Act, Operation, StateValue, join, meaning_of, IsOperationOf, AreOperationsOf, DotsDetermine, has_dot, names, known-meaning, Within-append, In-append_left, In-append_right, In-append_cases, found, finds, join-meaning, next_operation, AreIssued, ModelNode, ModelRunning, joined, meanings, up, some_same, NodeSet, DistinctDots, state_by}
 use Rattle.std.specs.Prelude.{fold}
-use Rattle.std.specs.Option.{option_map}
-use Rattle.std.specs.List.{list_any}
 use Rattle.std.specs.FinSet as set
-use Rattle.std.proofs.lemmas.Bool.{false_from_ne_true}
-use Rattle.dac_base.specs.declared.NodeId.{NodeId}
-use Rattle.dac_origins.specs.declared.dot.Origin.{Origin}
-use Rattle.dac_origins.specs.declared.dot.Dot.{Dot}
-use Rattle.dac_wishes.specs.laws.KeyedWrites.{same_dot_is, same_dot_itself}
-use Rattle.dac_operations.specs.declared.act.Act.{Act}
-use Rattle.dac_operations.specs.Operations.{Operation}
-use Rattle.dac_meaning.specs.StateValue.{StateValue, join}
-use Rattle.dac_meaning.specs.Meaning.{meaning_of, IsOperationOf, AreOperationsOf, DotsDetermine, has_dot, replaces, names}
-use Rattle.dac_meaning.specs.laws.Readers.{known-meaning}
-use Rattle.dac_meaning.specs.laws.Members.{Within-append, In-append_left, In-append_right, In-append_cases, found, finds}
-use Rattle.dac_meaning.specs.laws.Joins.{join-meaning}
-use Rattle.dac_commands.specs.Commands.{next_operation, greatest_counter}
+use Rattle.dac_meaning.specs.Meaning.{replaces}
+use Rattle.dac_commands.specs.Commands.{greatest_counter}
 use Rattle.dac_commands.specs.laws.Counters.{counter-greatest}
-use Rattle.dac_model_node.specs.Issued.{IsNextOf, AreIssued}
-use Rattle.dac_model_node.specs.ModelNode.{ModelNode, ModelRunning, joined}
-use Rattle.dac_model_node.specs.Transitions.{meanings}
-use Rattle.dac_model_node.specs.Step.{up}
-use Rattle.dac_model_node.specs.laws.Options.{some_same}
-use Rattle.dac_model_world.specs.SetWorld.{NodeSet}
-use Rattle.dac_model_world.specs.Convergence.{DistinctDots, state_by}
+use Rattle.dac_model_node.specs.Issued.{IsNextOf}
 pub use Rattle.dac_model_world.specs.Made.{own_origin, NoneLater, SetOk}
 use Rattle.dac_model_world.specs.laws.Operations.{one_in, Agree-within, DistinctDots-agree, DistinctDots-push}
 use Rattle.dac_model_world.specs.laws.Gathered.{Entries, IsLogOf, log_means}

@@ -1,15 +1,7 @@
 -- Sets of issued operations: their dots are distinct, and a new operation's is new.
 use Rattle.std.proofs.Common.{◌≡◌, Bool, true, false, ◌||◌, inl, inr, List, [], ◌∷◌, ◌++◌, refl, sym, ap, subst, ◌∙◌, true≢false}
-use Rattle.std.specs.List.{list_any}
+use Rattle.dac_model_world.specs.laws.Common.{list_any, false_from_ne_true, Dot, same_dot, same_dot_is, same_dot_itself, Operation, IsOperationOf, AreOperationsOf, DotsDetermine, has_dot, finds, In-append_right, DistinctDots}
 use Rattle.std.proofs.lemmas.List.Folds.{list_any-append}
-use Rattle.std.proofs.lemmas.Bool.{false_from_ne_true}
-use Rattle.dac_origins.specs.declared.dot.Dot.{Dot}
-use Rattle.dac_wishes.specs.Writes.{same_dot}
-use Rattle.dac_wishes.specs.laws.KeyedWrites.{same_dot_is, same_dot_itself}
-use Rattle.dac_operations.specs.Operations.{Operation}
-use Rattle.dac_meaning.specs.Meaning.{IsOperationOf, AreOperationsOf, DotsDetermine, has_dot}
-use Rattle.dac_meaning.specs.laws.Members.{finds, In-append_right}
-use Rattle.dac_model_world.specs.Convergence.{DistinctDots}
 
 pub one_in : (o x : Operation) → IsOperationOf o (x ∷ []) → o ≡ x
 one_in o x (inl e) = e

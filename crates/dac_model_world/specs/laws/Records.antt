@@ -1,22 +1,7 @@
 -- The records of each node in a run are a history of it.
 use Rattle.std.proofs.Common.{◌≡◌, Bool, true, false, cond, List, [], ◌∷◌, ◌++◌, Option, Some, None, Result, Ok, Err, inl, inr, nat_eq, refl, sym, ap, subst, ◌∙◌, eq-eqb}
-use Rattle.std.specs.Prelude.{nat_lt}
-use Rattle.std.proofs.lemmas.Map.Views.{exact_unsigned_eq}
-use Rattle.dac_base.specs.declared.NodeId.{NodeId}
-use Rattle.dac_config.specs.Table.{Table}
-use Rattle.dac_events.specs.declared.WorldEvent.{WorldEvent}
-use Rattle.dac_messages.specs.declared.event.Event.{Event}
-use Rattle.dac_messages.specs.declared.reply.Reply.{Reply}
-use Rattle.dac_events.specs.declared.refusal.Refusal.{Refusal}
-use Rattle.dac_events.specs.declared.refusal.Refusal.TheVariants.{NoMemory}
-use Rattle.dac_events.specs.declared.world_fault.WorldFault.{WorldFault}
-use Rattle.dac_events.specs.declared.world_fault.WorldFault.TheVariants.{NoSuchNode, Refused}
-use Rattle.dac_model_node.specs.ModelNode.{ModelNode}
-use Rattle.dac_model_node.specs.Step.{model_step}
-use Rattle.dac_model_world.specs.WorldValue.{WorldValue}
-use Rattle.dac_model_world.specs.Histories.{Entry, IsHistory}
-use Rattle.dac_model_world.specs.ModelWorld.{ModelWorld, happens, happens_by, answered_by, event_of, start, went, world_after, AnsweredAs, IsAnswer, RanAs, numbered}
-use Rattle.dac_model_world.specs.Records.{own_answer, recorded, records_of, records_at, RecordsAreHistories, HaveHistories}
+use Rattle.dac_model_world.specs.laws.Common.{nat_lt, exact_unsigned_eq, NodeId, Table, WorldEvent, Event, Reply, Refusal, NoMemory, WorldFault, NoSuchNode, Refused, ModelNode, model_step, WorldValue, Entry, IsHistory, ModelWorld, happens, happens_by, answered_by, event_of, start, went, world_after, AnsweredAs, IsAnswer, RanAs, numbered, own_answer, recorded, records_of}
+use Rattle.dac_model_world.specs.Records.{records_at, RecordsAreHistories, HaveHistories}
 use Rattle.dac_model_world.specs.laws.Histories.{refused_stays}
 use Rattle.dac_model_world.specs.laws.Runs.{went_as_answered, node_there}
 

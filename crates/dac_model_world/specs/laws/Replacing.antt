@@ -1,40 +1,23 @@
 -- An operation replaces exactly the writes of its kind that stand at its key in its issuer's state. A life that it
 -- declares down is live in that state.
 use Rattle.std.proofs.Common.{◌≡◌, inl, inr, None, List, [], ◌∷◌, ◌++◌, refl, sym, ap, subst, ◌∙◌, append_assoc, true≢false}
+use Rattle.dac_model_world.specs.laws.Common.{MAX_COUNTER, Origin, dot, IsNext, dots_total, exact_dots, Key, Act, Down, Permit, Start, Stop, Drain, Operation, StateValue, join, meaning_of, AreOperationsOf, DotsDetermine, Within-append, In-append_left, In-append_right, join-meaning, known-meaning, Table, verdict_of, Command, next_operation, act_of, refusal_of_command, PermitStands, StartStands, DrainStands, up}
 use Rattle.std.proofs.lemmas.Bool.{leb-true}
-use Rattle.dac_base.specs.declared.limits.TheConstants.{MAX_COUNTER}
-use Rattle.dac_origins.specs.declared.dot.Origin.{Origin}
-use Rattle.dac_origins.specs.Dots.{dot, IsNext}
-use Rattle.dac_origins.specs.laws.Dots.{dots_total, exact_dots}
 use Rattle.dac_origins.specs.laws.InOrder.{has_key-in_order}
 use Rattle.dac_chains.specs.Lives.{IsLive}
 use Rattle.dac_wishes.specs.DrainsValue.{origin}
-use Rattle.dac_wishes.specs.declared.key.Key.{Key}
 use Rattle.dac_wishes.specs.Writes.{dots_at}
 use Rattle.dac_wishes.specs.laws.Writes.{contains-dots_at}
-use Rattle.dac_operations.specs.declared.act.Act.{Act}
-use Rattle.dac_operations.specs.declared.act.Act.TheVariants.{Down, Permit, Start, Stop, Drain}
-use Rattle.dac_operations.specs.Operations.{Operation}
-use Rattle.dac_meaning.specs.StateValue.{StateValue, join}
-use Rattle.dac_meaning.specs.Meaning.{meaning_of, AreOperationsOf, DotsDetermine}
-use Rattle.dac_meaning.specs.laws.Members.{Within-append, In-append_left, In-append_right}
-use Rattle.dac_meaning.specs.laws.Joins.{join-meaning}
-use Rattle.dac_meaning.specs.laws.Readers.{known-meaning}
 use Rattle.dac_base.specs.declared.AppId.{AppId}
-use Rattle.dac_config.specs.Table.{Table}
 use Rattle.dac_decide.specs.Verdict.{Verdict}
 use Rattle.dac_decide.specs.Verdict.TheVariants.{Failover, Takeover}
-use Rattle.dac_decide.specs.Placement.{verdict_of}
-use Rattle.dac_events.specs.declared.Command.{Command}
 use Rattle.dac_events.specs.declared.Command.TheVariants.{Down as Downs, Permit as Permits, Start as Starts, Stop as Stops, Drain as Drains, Takeover as Takes}
-use Rattle.dac_commands.specs.Commands.{live_key, live_origin, next_operation, standing_permits, standing_starts, standing_drains, act_of}
-use Rattle.dac_commands.specs.Causes.{refusal_of_command}
-use Rattle.dac_commands.specs.Written.{PermitStands, StartStands, DrainStands, AreThose}
+use Rattle.dac_commands.specs.Commands.{live_key, live_origin, standing_permits, standing_starts, standing_drains}
+use Rattle.dac_commands.specs.Written.{AreThose}
 use Rattle.dac_commands.specs.laws.Counters.{next_of_is}
 use Rattle.dac_commands.specs.laws.Standing.{permits_at-has, drains_at-has}
 use Rattle.dac_commands.specs.laws.Written.{writes_what_is_said}
 use Rattle.dac_model_node.specs.Ticks.{claimed_by}
-use Rattle.dac_model_node.specs.Step.{up}
 use Rattle.dac_model_node.specs.laws.Claims.{AreNextClaims}
 use Rattle.dac_model_world.specs.laws.Operations.{Agree-within}
 

@@ -1,19 +1,8 @@
 -- Runs by their steps: the first event and the rest, and one more event at the end.
 use Rattle.std.proofs.Common.{◌≡◌, ℕ, zero, suc, ◌<◌, ◌+◌, Bool, true, false, Some, None, List, [], ◌∷◌, ◌++◌, length, get_or, take, drop, Result, Err, inl, inr, refl, ap, sym, subst, ◌∙◌}
-use Rattle.std.specs.Prelude.{nat_lt, cond}
-use Rattle.std.specs.List.{slice_get}
+use Rattle.dac_model_world.specs.laws.Common.{nat_lt, slice_get, Table, WorldEvent, Reply, NoMemory, WorldFault, Refused, NodeValue, shown, some_same, WorldValue, ModelWorld, Step, IsAnswer, AnsweredAs, Run, RanAs, Follows, Shows, happens, start, went, world_after, numbered, out_of_memory}
+use Rattle.std.specs.Prelude.{cond}
 use Rattle.std.proofs.lemmas.List.{take_more}
-use Rattle.dac_config.specs.Table.{Table}
-use Rattle.dac_events.specs.declared.WorldEvent.{WorldEvent}
-use Rattle.dac_messages.specs.declared.reply.Reply.{Reply}
-use Rattle.dac_events.specs.declared.refusal.Refusal.TheVariants.{NoMemory}
-use Rattle.dac_events.specs.declared.world_fault.WorldFault.{WorldFault}
-use Rattle.dac_events.specs.declared.world_fault.WorldFault.TheVariants.{Refused}
-use Rattle.dac_model_node.specs.NodeValue.{NodeValue}
-use Rattle.dac_model_node.specs.ModelNode.{shown}
-use Rattle.dac_model_node.specs.laws.Options.{some_same}
-use Rattle.dac_model_world.specs.WorldValue.{WorldValue}
-use Rattle.dac_model_world.specs.ModelWorld.{ModelWorld, Step, IsAnswer, AnsweredAs, Run, RanAs, Follows, Shows, happens, start, went, world_after, numbered, out_of_memory}
 use Rattle.dac_model_world.specs.laws.Memory.{enough_memory}
 
 -- ---- one event

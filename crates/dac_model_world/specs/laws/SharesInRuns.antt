@@ -1,33 +1,15 @@
 -- Shares in runs: a running node always knows its own present incarnation, so a share leaves the union if the others
 -- know it too, or nothing of its life.
 use Rattle.std.proofs.Common.{◌≡◌, ◌<◌, ◌≤◌, ℕ, true, false, List, Option, Some, None, take, drop, nat_eq, refl, sym, ap, subst, ◌∙◌, true≢false, eq-eqb, arith}
-use Rattle.std.specs.Option.{option_map}
+use Rattle.dac_model_world.specs.laws.Common.{option_map, IsTrue, false≢true, exact_unsigned_eq, NodeId, flag_cmp, Life, IsGreatest, IsSaid, life_cmp, meaning_of, IsOperationOf, pairs, life_said, lives-meaning, lives_are, Table, WorldEvent, ModelRunning, up, some_same, ModelWorld, Run, start, world_after, SetWorld, NodeSet, set_run, no_sets, state_by}
 use Rattle.std.specs.FinMap as map
 use Rattle.std.specs.declared.cmp.Ordering.{Ordering}
 use Rattle.std.specs.declared.cmp.Ordering.TheVariants.{Less, Equal, Greater}
 use Rattle.std.specs.Ordering.{nat_cmp, ordering_then, is_le}
-use Rattle.std.specs.Prelude.{IsTrue}
-use Rattle.std.proofs.lemmas.Bool.{false≢true}
 use Rattle.std.proofs.lemmas.Cmp.{ranked}
-use Rattle.std.proofs.lemmas.Map.Views.{exact_unsigned_eq}
-use Rattle.dac_base.specs.declared.NodeId.{NodeId}
 use Rattle.dac_lattice.specs.Chains.{IsAtMost}
-use Rattle.dac_lattice.specs.Flags.{flag_cmp}
 use Rattle.dac_lattice.specs.declared.flags.Flag.TheVariants.{Up as IsUp}
-use Rattle.dac_chains.specs.declared.lives.Life.{Life}
-use Rattle.dac_chains.specs.Greatest.{IsGreatest, IsSaid}
-use Rattle.dac_chains.specs.Lives.{life_cmp}
-use Rattle.dac_meaning.specs.Meaning.{meaning_of, IsOperationOf, pairs, life_said}
 use Rattle.dac_meaning.specs.laws.Chained.{is_said}
-use Rattle.dac_meaning.specs.laws.Readers.{lives-meaning, lives_are}
-use Rattle.dac_config.specs.Table.{Table}
-use Rattle.dac_events.specs.declared.WorldEvent.{WorldEvent}
-use Rattle.dac_model_node.specs.ModelNode.{ModelRunning}
-use Rattle.dac_model_node.specs.Step.{up}
-use Rattle.dac_model_node.specs.laws.Options.{some_same}
-use Rattle.dac_model_world.specs.ModelWorld.{ModelWorld, Run, start, world_after}
-use Rattle.dac_model_world.specs.SetWorld.{SetWorld, NodeSet, set_run, no_sets}
-use Rattle.dac_model_world.specs.Convergence.{state_by}
 use Rattle.dac_model_world.specs.Shares.{KnowPresent, SharesUnite}
 use Rattle.dac_model_world.specs.laws.OneNode.{own_origin, state_in}
 use Rattle.dac_model_world.specs.laws.Runs.{answered_take, answered_drop}

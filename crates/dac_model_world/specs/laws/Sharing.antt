@@ -1,35 +1,17 @@
 -- A share leaves the union of their sets to all running nodes: an accepted ship carries the sender's whole set, and a
 -- ship refused as up to date is to a node that has it. Each set only ever contains whole sets of running nodes.
 use Rattle.std.proofs.Common.{◌≡◌, ◌⊎◌, ◌<◌, ℕ, zero, suc, ◌+◌, ◌-◌, Bool, true, false, cond, List, [], ◌∷◌, ◌++◌, length, Option, Some, None, Ok, Err, inl, inr, nat_eq, refl, sym, ap, subst, ◌∙◌, arith, true≢false, eq-eqb}
+use Rattle.dac_model_world.specs.laws.Common.{slice_get, false_from_ne_true, exact_unsigned_eq, NodeId, flag_cmp, Life, IsGreatest, IsSaid, life_cmp, Operation, meaning_of, IsOperationOf, AreOperationsOf, pairs, life_said, of_said, In-append_left, In-append_right, In-append_cases, lives-meaning, lives_are, WorldEvent, What, Deliver, Message, Reply, Shipped, Heard, SetWorld, NodeSet, Copy, united, and_more, brought_to, set_step, set_run, IsPut, Unites, AllUnite, HasAll, TellsUpToDate, TellUpToDate, some_same}
 use Rattle.std.specs.FinMap as map
-use Rattle.std.specs.List.{slice_get}
-use Rattle.std.proofs.lemmas.Bool.{false_from_ne_true}
-use Rattle.std.proofs.lemmas.Map.Views.{exact_unsigned_eq}
-use Rattle.dac_base.specs.declared.NodeId.{NodeId}
 use Rattle.dac_lattice.specs.laws.Chains.{chain_laws}
-use Rattle.dac_lattice.specs.Flags.{flag_cmp}
 use Rattle.dac_lattice.specs.laws.Flags.{flags_exact}
-use Rattle.dac_chains.specs.declared.lives.Life.{Life}
-use Rattle.dac_chains.specs.Greatest.{IsGreatest, IsSaid}
-use Rattle.dac_chains.specs.Lives.{life_cmp}
 use Rattle.dac_chains.specs.laws.Lives.{lives_total, exact_lives}
-use Rattle.dac_operations.specs.Operations.{Operation}
-use Rattle.dac_meaning.specs.Meaning.{meaning_of, IsOperationOf, AreOperationsOf, pairs, life_said, lives_of}
-use Rattle.dac_meaning.specs.laws.Chained.{of_said, is_said}
-use Rattle.dac_meaning.specs.laws.Members.{In-append_left, In-append_right, In-append_cases}
-use Rattle.dac_meaning.specs.laws.Readers.{lives-meaning, lives_are}
-use Rattle.dac_events.specs.declared.WorldEvent.{WorldEvent}
-use Rattle.dac_events.specs.declared.What.{What}
-use Rattle.dac_events.specs.declared.What.TheVariants.{Ship as Ships, Deliver}
-use Rattle.dac_messages.specs.declared.message.Message.{Message}
-use Rattle.dac_messages.specs.declared.reply.Reply.{Reply}
-use Rattle.dac_messages.specs.declared.reply.Reply.TheVariants.{Shipped, Heard}
+use Rattle.dac_meaning.specs.Meaning.{lives_of}
+use Rattle.dac_meaning.specs.laws.Chained.{is_said}
+use Rattle.dac_events.specs.declared.What.TheVariants.{Ship as Ships}
 use Rattle.dac_model_world.specs.ModelWorld.{counted}
-use Rattle.dac_model_world.specs.SetWorld.{SetWorld, NodeSet, Copy, united, and_more, brought_to, set_step, set_run}
-use Rattle.dac_model_world.specs.Uniting.{IsPut, IsUnited, Unites, AllUnite}
-use Rattle.dac_model_world.specs.UpToDate.{HasAll, TellsUpToDate, TellUpToDate}
+use Rattle.dac_model_world.specs.Uniting.{IsUnited}
 use Rattle.dac_model_world.specs.Shares.{IsHeardAt, Reaches, TellsAll, IsSince, InShare, AreInShare, IsShare, HaveUnion}
-use Rattle.dac_model_node.specs.laws.Options.{some_same}
 use Rattle.dac_model_world.specs.laws.Carried.{none_some}
 use Rattle.dac_model_world.specs.laws.Numbering.{life_says}
 use Rattle.dac_model_world.specs.laws.Sound.{Answer, put_elsewhere}

@@ -2,57 +2,15 @@
 -- (see OneNode), and each message with its copy. The peer tables agree with the nodes' logs (see Carried), and dots are
 -- distinct.
 use Rattle.std.proofs.Common.{◌≡◌, ℕ, zero, suc, ◌≤◌, ◌+◌, ◌-◌, Bool, true, false, not, cond, ◌&&◌, ◌⊎◌, inl, inr, List, [], ◌∷◌, ◌++◌, length, drop, drop-drop, Option, Some, None, Result, Ok, Err, nat_eq, nat_le, refl, sym, ap, subst, ◌∙◌, append-nil, true≢false, eq-eqb, le_refl, arith}
-use Rattle.std.specs.Prelude.{nat_lt}
-use Rattle.std.specs.Option.{option_map, option_map_or}
-use Rattle.std.specs.List.{slice_get}
-use Rattle.std.proofs.lemmas.Bool.{leb-true, false_from_ne_true}
-use Rattle.std.proofs.lemmas.List.{map-append}
-use Rattle.std.proofs.Math.ListN.{drop_of_length-le}
-use Rattle.std.proofs.lemmas.Map.Views.{exact_unsigned_eq}
-use Rattle.dac_base.specs.declared.NodeId.{NodeId}
-use Rattle.dac_origins.specs.declared.dot.Origin.{Origin}
-use Rattle.dac_operations.specs.Operations.{Operation}
-use Rattle.dac_meaning.specs.StateValue.{StateValue}
-use Rattle.dac_meaning.specs.Meaning.{meaning_of, IsOperationOf, AreOperationsOf, DotsDetermine}
-use Rattle.dac_meaning.specs.laws.Members.{In-append_left, In-append_right}
-use Rattle.dac_config.specs.Table.{Table}
-use Rattle.dac_decide.specs.declared.start_gate.Opening.{Opening}
-use Rattle.dac_decide.specs.declared.start_gate.Opening.TheVariants.{Shut, Opened, GiveUp}
-use Rattle.dac_decide.specs.declared.waits.Noted.{Noted}
-use Rattle.dac_decide.specs.FailoverWait.{Note, waits_of}
-use Rattle.dac_events.specs.declared.WorldEvent.{WorldEvent}
-use Rattle.dac_events.specs.declared.What.{What}
-use Rattle.dac_events.specs.declared.What.TheVariants.{Deliver, Hand}
-use Rattle.dac_model_node.specs.Position.{Position}
-use Rattle.dac_model_node.specs.Peers.{begins, ack_for, heard_from}
-use Rattle.dac_messages.specs.declared.message.Body.{Body}
-use Rattle.dac_messages.specs.declared.message.Body.TheVariants.{Interval, Nothing}
-use Rattle.dac_messages.specs.declared.message.Message.{Message}
-use Rattle.dac_messages.specs.Bodies.{content_of}
-use Rattle.dac_messages.specs.declared.event.Event.{Event}
-use Rattle.dac_messages.specs.declared.event.Event.TheVariants.{Boot, Crash, Command as Commanded, Tick, Ship, Hear, HearOp}
-use Rattle.dac_messages.specs.declared.reply.Reply.{Reply}
-use Rattle.dac_events.specs.declared.refusal.Refusal.TheVariants.{OnSelf, NotForMe, DotsUsedUp}
-use Rattle.dac_commands.specs.Causes.{first}
-use Rattle.dac_commands.specs.Commands.{act_of, next_operation}
-use Rattle.dac_model_node.specs.Ticks.{sweep_of}
-use Rattle.dac_model_node.specs.Issued.{AreIssued}
-use Rattle.dac_model_node.specs.NodeValue.{RunningValue}
-use Rattle.dac_model_node.specs.ModelNode.{ModelNode, ModelRunning, joined, shown, running_shown}
-use Rattle.dac_model_node.specs.EventRefusals.{refusal_of, refusal_by, refusal_to_hear, overflows}
-use Rattle.dac_model_node.specs.Transitions.{meanings, brings, body_from, message_of, ticks_by, opening_at, moment_of, note_of}
-use Rattle.dac_model_node.specs.Step.{step_by, up, comes_up, goes_on, accepted}
-use Rattle.dac_model_node.specs.laws.Options.{some_same}
-use Rattle.dac_events.specs.declared.world_fault.WorldFault.{WorldFault}
-use Rattle.dac_events.specs.declared.world_fault.WorldFault.TheVariants.{NoSuchNode}
-use Rattle.dac_model_world.specs.ModelWorld.{ModelWorld, happens, happens_by, answered_by, event_of, heard_by, handed_by, counted, with_node, Step, Run, start}
-use Rattle.dac_model_world.specs.SetWorld.{SetWorld, NodeSet, Issue, Copy, with_set, and_more, united, held_by, issues_of, operations_of, copied_by, copied_to, is_for, alone, brought_to, booting, issuing, going_off, set_step, set_run, no_sets}
-use Rattle.dac_model_world.specs.Convergence.{DistinctDots}
+use Rattle.dac_model_world.specs.laws.Common.{nat_lt, option_map, option_map_or, slice_get, false_from_ne_true, map-append, drop_of_length-le, exact_unsigned_eq, NodeId, Origin, Operation, StateValue, meaning_of, IsOperationOf, AreOperationsOf, DotsDetermine, In-append_left, In-append_right, Table, Opening, Shut, Opened, GiveUp, Noted, Note, waits_of, WorldEvent, What, Deliver, Hand, Position, begins, ack_for, heard_from, Body, Interval, Nothing, Message, content_of, Event, Boot, Crash, Tick, Ship, Hear, HearOp, Reply, OnSelf, NotForMe, DotsUsedUp, first, act_of, next_operation, sweep_of, AreIssued, RunningValue, ModelNode, ModelRunning, joined, shown, running_shown, refusal_of, refusal_by, overflows, meanings, brings, body_from, message_of, ticks_by, opening_at, moment_of, note_of, step_by, up, comes_up, goes_on, accepted, some_same, WorldFault, NoSuchNode, ModelWorld, happens, happens_by, answered_by, event_of, handed_by, with_node, Step, Run, start, SetWorld, NodeSet, Issue, Copy, with_set, and_more, united, held_by, issues_of, operations_of, copied_by, copied_to, is_for, alone, brought_to, booting, issuing, going_off, set_step, set_run, no_sets, DistinctDots, claims_issued}
+use Rattle.std.proofs.lemmas.Bool.{leb-true}
+use Rattle.dac_messages.specs.declared.event.Event.TheVariants.{Command as Commanded}
+use Rattle.dac_model_node.specs.EventRefusals.{refusal_to_hear}
+use Rattle.dac_model_world.specs.ModelWorld.{heard_by, counted}
 use Rattle.dac_model_world.specs.laws.Operations.{one_in, DistinctDots-agree, DistinctDots-push}
 use Rattle.dac_model_world.specs.laws.Gathered.{Entries, gathered, gathered-append, gathered_cases, gathered_take, gathered_drop, each_alone, IsLogOf, log_means, log_length, log_more, log_issued, rest_means}
 use Rattle.dac_model_world.specs.laws.Covers.{Seen, Later, Later-self, later_more, Has, Covered, Sent, Sent-covers}
 use Rattle.dac_model_world.specs.laws.Carried.{none_some, PeersOk, PeersOk-later, no_peers_ok, shipped_ok, Acknowledges, heard_ok, ack_ok, begins_is, Bound, CopyOk, CopyOk-later, CopiesOk, CopiesOk-later, CopiesOk-push, message_copy, brought}
-use Rattle.dac_model_node.specs.laws.Claims.{claims_issued}
 use Rattle.dac_model_world.specs.laws.Runs.{run_first}
 use Rattle.dac_model_world.specs.laws.OneNode.{own_origin, runs_as, stays_off, NodeOk, HeldBy, held_of, run_ok, off_ok, SetOk, NodeOk-more, boot_set, boot_log, boot_fresh, Grown, grow, hear_set}
 

@@ -1,32 +1,19 @@
 -- A dot stands in the meaning of a set if one of the operations has it, and none replaces it.
 use Rattle.std.proofs.Common.{◌≡◌, ◌⊎◌, Bool, true, false, not, cond, inl, inr, List, Option, None, refl, sym, ap, subst, ◌∙◌}
-use Rattle.std.specs.Prelude.{◌↔◌, is_some}
-use Rattle.std.specs.List.{list_any}
+use Rattle.dac_model_world.specs.laws.Common.{◌↔◌, list_any, eq_by_cmp, is_eq, tied_itself, false≢true, and_parts, Dot, Origin, dot_cmp, origin_cmp, origins_total, exact_origins, Key, same_dot_is, same_dot_itself, same_dot, Act, Permit, Start, Stop, Drain, Operation, meaning_of, IsOperationOf, has_dot, is_replaced, found, finds, starts-meaning, permits-meaning, drains-meaning, PermitStands, StartStands, DrainStands, IsPermitOf, IsStartOf, IsDrainOf, EndsStart}
+use Rattle.std.specs.Prelude.{is_some}
 use Rattle.std.specs.declared.cmp.Ordering.{Ordering}
-use Rattle.std.specs.Ordering.{eq_by_cmp, is_eq}
-use Rattle.std.specs.Cmp.{tied_itself}
-use Rattle.std.proofs.lemmas.Bool.{false≢true, and_parts, and_from}
-use Rattle.dac_origins.specs.declared.dot.Dot.{Dot}
-use Rattle.dac_origins.specs.declared.dot.Origin.{Origin}
-use Rattle.dac_origins.specs.Dots.{dot_cmp, origin_cmp}
-use Rattle.dac_origins.specs.laws.Dots.{origins_total, exact_origins}
+use Rattle.std.proofs.lemmas.Bool.{and_from}
 use Rattle.dac_origins.specs.Keys.{has_key}
 use Rattle.dac_lattice.specs.declared.flags.Flag.{Flag}
-use Rattle.dac_wishes.specs.declared.key.Key.{Key}
 use Rattle.dac_wishes.specs.Keys.{key_cmp, same_key}
 use Rattle.dac_wishes.specs.laws.Keys.{same_key_is, same_key_itself}
 use Rattle.dac_wishes.specs.KeyedWrites.{keyed_write}
-use Rattle.dac_wishes.specs.laws.KeyedWrites.{tied_is, same_dot_is, same_dot_itself}
+use Rattle.dac_wishes.specs.laws.KeyedWrites.{tied_is}
 use Rattle.dac_wishes.specs.DrainsValue.{origin}
-use Rattle.dac_wishes.specs.Writes.{Write, write, same_dot}
-use Rattle.dac_operations.specs.declared.act.Act.{Act}
-use Rattle.dac_operations.specs.declared.act.Act.TheVariants.{Permit, Start, Stop, Drain}
-use Rattle.dac_operations.specs.Operations.{Operation, over_list}
-use Rattle.dac_meaning.specs.Meaning.{meaning_of, IsOperationOf, has_dot, is_replaced, is_same, vote_says, is_vote, vote_flag, vote_at, permit_vote, drain_vote, says, flag_written, wishes, is_start}
-use Rattle.dac_meaning.specs.laws.Members.{found, finds}
-use Rattle.dac_meaning.specs.laws.Readers.{starts-meaning, permits-meaning, drains-meaning}
-use Rattle.dac_commands.specs.Written.{PermitStands, StartStands, DrainStands}
-use Rattle.dac_model_world.specs.Causality.{IsPermitOf, IsStartOf, IsDrainOf, EndsStart}
+use Rattle.dac_wishes.specs.Writes.{Write, write}
+use Rattle.dac_operations.specs.Operations.{over_list}
+use Rattle.dac_meaning.specs.Meaning.{is_same, vote_says, is_vote, vote_flag, vote_at, permit_vote, drain_vote, says, flag_written, wishes, is_start}
 use Rattle.dac_model_world.specs.laws.Replacing.{Replaces}
 
 -- one of the operations is such a write and has the dot, and none replaces the dot

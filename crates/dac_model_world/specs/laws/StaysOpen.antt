@@ -1,24 +1,9 @@
 -- A start gate that has opened stays open.
 use Rattle.std.proofs.Common.{◌≡◌, true, false, cond, nat_eq, List, [], ◌∷◌, Result, Ok, Err, inl, inr, refl, sym, ap, subst, append-nil, eq-eqb}
-use Rattle.std.specs.Prelude.{nat_lt}
-use Rattle.std.proofs.lemmas.Map.Views.{exact_unsigned_eq}
-use Rattle.dac_base.specs.declared.NodeId.{NodeId}
-use Rattle.dac_config.specs.Table.{Table}
-use Rattle.dac_messages.specs.declared.event.Event.{Event}
-use Rattle.dac_messages.specs.declared.reply.Reply.{Reply}
-use Rattle.dac_events.specs.declared.WorldEvent.{WorldEvent}
-use Rattle.dac_events.specs.declared.refusal.Refusal.{Refusal}
-use Rattle.dac_events.specs.declared.refusal.Refusal.TheVariants.{NoMemory}
-use Rattle.dac_events.specs.declared.world_fault.WorldFault.{WorldFault}
-use Rattle.dac_events.specs.declared.world_fault.WorldFault.TheVariants.{NoSuchNode, Refused}
-use Rattle.dac_model_node.specs.ModelNode.{ModelNode}
-use Rattle.dac_model_node.specs.Step.{model_step}
+use Rattle.dac_model_world.specs.laws.Common.{nat_lt, exact_unsigned_eq, NodeId, Table, Event, Reply, WorldEvent, NoMemory, WorldFault, NoSuchNode, Refused, ModelNode, model_step, Entry, IsHistory, ModelWorld, happens, happens_by, answered_by, event_of, went, AnsweredAs, IsAnswer, own_answer, recorded, records_of}
 use Rattle.dac_model_node.specs.Gates.{SaysOpen, SaysShut, SaysOff, Answers, RunsOpen}
 use Rattle.dac_model_node.specs.laws.Gates.{ticks_open, open_stays, open_is_open}
-use Rattle.dac_model_world.specs.Histories.{Entry, IsHistory}
 use Rattle.dac_model_world.specs.Gates.{NoneGoesOff, GatesStayOpen, IsOpenUntilOff, StayOpen}
-use Rattle.dac_model_world.specs.ModelWorld.{ModelWorld, happens, happens_by, answered_by, event_of, went, AnsweredAs, IsAnswer}
-use Rattle.dac_model_world.specs.Records.{own_answer, recorded, records_of}
 use Rattle.dac_model_world.specs.laws.Records.{answered_first}
 use Rattle.dac_model_world.specs.laws.Runs.{went_as_answered}
 

@@ -1,28 +1,9 @@
 -- Ships send the sender's whole set, and hearing unites the receiver's set with it.
 use Rattle.std.proofs.Common.{◌≡◌, ℕ, true, false, cond, inl, inr, List, [], ◌∷◌, ◌++◌, Option, Some, None, Ok, Err, refl, sym, ap, subst, ◌∙◌}
-use Rattle.std.specs.Prelude.{nat_lt}
-use Rattle.std.specs.Option.{option_map}
-use Rattle.dac_base.specs.declared.NodeId.{NodeId}
-use Rattle.dac_operations.specs.Operations.{Operation}
-use Rattle.dac_config.specs.Table.{Table}
-use Rattle.dac_decide.specs.declared.start_gate.Opening.{Opening}
-use Rattle.dac_decide.specs.declared.start_gate.Opening.TheVariants.{Shut, Opened, GiveUp}
-use Rattle.dac_decide.specs.declared.waits.Noted.{Noted}
-use Rattle.dac_decide.specs.FailoverWait.{waits_of}
-use Rattle.dac_events.specs.declared.WorldEvent.{WorldEvent}
-use Rattle.dac_events.specs.declared.What.{What}
-use Rattle.dac_messages.specs.declared.message.Message.{Message}
-use Rattle.dac_messages.specs.declared.event.Event.{Event}
-use Rattle.dac_messages.specs.declared.event.Event.TheVariants.{Boot, Crash, Command as Commanded, Tick, Ship, Hear, HearOp}
-use Rattle.dac_events.specs.declared.world_fault.WorldFault.TheVariants.{NoSuchNode}
-use Rattle.dac_model_node.specs.NodeValue.{RunningValue}
-use Rattle.dac_model_node.specs.ModelNode.{ModelRunning, joined, shown, running_shown}
-use Rattle.dac_model_node.specs.EventRefusals.{refusal_of, refusal_by}
-use Rattle.dac_model_node.specs.Transitions.{message_of, ticks_by, opening_at, note_of}
-use Rattle.dac_model_node.specs.Step.{step_by, accepted}
-use Rattle.dac_model_world.specs.ModelWorld.{ModelWorld, happens, happens_by, answered_by, event_of, counted, Step, Run}
-use Rattle.dac_model_world.specs.SetWorld.{SetWorld, NodeSet, with_set, united, copied_by, copied_to, brought_to, operations_of, alone, set_step}
-use Rattle.dac_model_world.specs.Uniting.{IsPut, HearsSo, Unites, AllUnite}
+use Rattle.dac_model_world.specs.laws.Common.{nat_lt, option_map, NodeId, Operation, Table, Opening, Shut, Opened, GiveUp, Noted, waits_of, WorldEvent, What, Message, Event, Boot, Crash, Tick, Ship, Hear, HearOp, NoSuchNode, RunningValue, ModelRunning, joined, shown, running_shown, refusal_of, refusal_by, message_of, ticks_by, opening_at, note_of, step_by, accepted, ModelWorld, happens, happens_by, answered_by, event_of, Step, Run, SetWorld, NodeSet, with_set, united, copied_by, copied_to, brought_to, operations_of, alone, set_step, IsPut, Unites, AllUnite}
+use Rattle.dac_messages.specs.declared.event.Event.TheVariants.{Command as Commanded}
+use Rattle.dac_model_world.specs.ModelWorld.{counted}
+use Rattle.dac_model_world.specs.Uniting.{HearsSo}
 use Rattle.dac_model_world.specs.laws.Runs.{run_first}
 use Rattle.dac_model_world.specs.laws.Carried.{none_some, message_copy}
 use Rattle.dac_model_world.specs.laws.Sound.{Answer, Sound, Accepts, seen, put_at, hears, hears_op, held_at, heard_accepts, goes_in, sound_step}

@@ -1,33 +1,12 @@
 -- A node to which a ship is refused as up to date has all of the sender's set.
 use Rattle.std.proofs.Common.{◌≡◌, ℕ, ◌≤◌, Bool, true, false, not, cond, ◌&&◌, List, [], ◌∷◌, length, Option, Some, None, Ok, Err, nat_eq, nat_le, inl, inr, refl, sym, ap, subst, ◌∙◌, true≢false}
-use Rattle.std.specs.Prelude.{nat_lt}
-use Rattle.std.specs.Option.{option_map, option_and_then}
+use Rattle.dac_model_world.specs.laws.Common.{nat_lt, option_map, option_and_then, drop_of_length-le, NodeId, Life, StateValue, IsOperationOf, Table, WorldEvent, What, Ship, Reply, Refusal, Off, OnSelf, first, Position, PeersValue, begins, has_all, acked_by, acked_at, kept_from, ModelRunning, joined, shown, running_shown, refusal_of, refusal_by, step_by, accepted, some_same, NoSuchNode, Refused, ModelWorld, happens, happens_by, answered_by, event_of, out_of_memory, Step, Run, SetWorld, set_step, HasAll, TellsUpToDate, TellUpToDate}
 use Rattle.std.specs.FinMap as map
 use Rattle.std.specs.FinSet as set
 use Rattle.std.proofs.lemmas.Bool.{leb-true}
-use Rattle.std.proofs.Math.ListN.{drop_of_length-le}
-use Rattle.dac_base.specs.declared.NodeId.{NodeId}
-use Rattle.dac_chains.specs.declared.lives.Life.{Life}
-use Rattle.dac_meaning.specs.StateValue.{StateValue}
-use Rattle.dac_meaning.specs.Meaning.{IsOperationOf}
-use Rattle.dac_config.specs.Table.{Table}
-use Rattle.dac_events.specs.declared.WorldEvent.{WorldEvent}
-use Rattle.dac_events.specs.declared.What.{What}
-use Rattle.dac_messages.specs.declared.event.Event.TheVariants.{Ship}
-use Rattle.dac_messages.specs.declared.reply.Reply.{Reply}
-use Rattle.dac_events.specs.declared.refusal.Refusal.{Refusal}
-use Rattle.dac_events.specs.declared.refusal.Refusal.TheVariants.{Off, UnknownNode, OnSelf, UpToDate}
-use Rattle.dac_commands.specs.Causes.{first, no_node}
-use Rattle.dac_model_node.specs.Position.{Position}
-use Rattle.dac_model_node.specs.Peers.{PeersValue, begins, has_all, acked_by, acked_at, kept_from, is_up_to_date}
-use Rattle.dac_model_node.specs.ModelNode.{ModelRunning, joined, shown, running_shown}
-use Rattle.dac_model_node.specs.EventRefusals.{refusal_of, refusal_by}
-use Rattle.dac_model_node.specs.Step.{step_by, accepted}
-use Rattle.dac_model_node.specs.laws.Options.{some_same}
-use Rattle.dac_events.specs.declared.world_fault.WorldFault.TheVariants.{NoSuchNode, Refused}
-use Rattle.dac_model_world.specs.ModelWorld.{ModelWorld, happens, happens_by, answered_by, event_of, out_of_memory, Step, Run}
-use Rattle.dac_model_world.specs.SetWorld.{SetWorld, set_step}
-use Rattle.dac_model_world.specs.UpToDate.{HasAll, TellsUpToDate, TellUpToDate}
+use Rattle.dac_events.specs.declared.refusal.Refusal.TheVariants.{UnknownNode, UpToDate}
+use Rattle.dac_commands.specs.Causes.{no_node}
+use Rattle.dac_model_node.specs.Peers.{is_up_to_date}
 use Rattle.dac_model_world.specs.laws.Gathered.{Entries, gathered, gathered_cases, log_length}
 use Rattle.dac_model_world.specs.laws.Covers.{Covered}
 use Rattle.dac_model_world.specs.laws.Carried.{none_some, begins_is}

@@ -1,18 +1,15 @@
 -- The greatest number that each origin acknowledged is recorded.
-use Rattle.std.specs.Prelude.{◌≡◌, ◌≢◌, ◌⊎◌, ◌≤◌, ◌&&◌, ℕ, Bool, true, false, cond, nat_eq, nat_le, max, Option, None, Some, refl}
+use Rattle.std.specs.Prelude.{◌≡◌, ◌≢◌, ◌≤◌, ◌&&◌, ℕ, Bool, true, false, cond, nat_eq, nat_le, max, Option, None, Some, refl}
 use Rattle.std.proofs.Common.{inl, inr, arith, leb, ap, sym, subst, ◌∙◌}
-use Rattle.std.proofs.lemmas.Bool.{eqb-true, eq-eqb, leb-true, leb-false, le-leb, true≢false}
-use Rattle.std.proofs.lemmas.Option.{none-some, same_Some}
-use Rattle.std.specs.Ordering.{eq_by_cmp, is_eq}
+use Rattle.dac_peers.specs.laws.Common.{◌⊎◌, eqb-true, leb-true, leb-false, true≢false, none-some, same_Some, eq_by_cmp, Origin, origin_cmp, origins_total, Numbers, greater, raised, Message, PeersValue}
+use Rattle.std.proofs.lemmas.Bool.{eq-eqb, le-leb}
+use Rattle.std.specs.Ordering.{is_eq}
 use Rattle.std.specs.Cmp.{Equal-is}
 use Rattle.std.proofs.lemmas.Cmp.{tied_itself}
 use Rattle.std.specs.FinMap as map
-use Rattle.dac_origins.specs.declared.dot.Origin.{Origin}
-use Rattle.dac_origins.specs.Dots.{origin_cmp}
-use Rattle.dac_origins.specs.laws.Dots.{origins_total, exact_origins}
-use Rattle.dac_deltas.specs.Numbers.{Numbers, IsGreatest, greater, raised}
-use Rattle.dac_messages.specs.declared.message.Message.{Message}
-use Rattle.dac_peers.specs.Peers.{PeersValue, counts, acked_after}
+use Rattle.dac_origins.specs.laws.Dots.{exact_origins}
+use Rattle.dac_deltas.specs.Numbers.{IsGreatest}
+use Rattle.dac_peers.specs.Peers.{counts, acked_after}
 use Rattle.dac_peers.specs.InWords.{Acknowledges, AckedIsGreatest}
 
 -- ---- the greatest of a number and others

@@ -2,17 +2,15 @@
 use Rattle.std.specs.Prelude.{◌≡◌, ◌≢◌, ◌≤◌, ℕ, zero, suc, true, false, cond, nat_eq, min, [], ◌∷◌, ◌++◌, map as list_map, fold, Option, None, Some, unwrap_or, refl}
 use Rattle.std.specs.Option.{option_map, option_and_then}
 use Rattle.std.proofs.Common.{inl, inr, arith, leb, ap, sym, subst, ◌∙◌}
-use Rattle.std.proofs.lemmas.Bool.{eqb-true, eqb-false, leb-true, leb-false}
+use Rattle.dac_peers.specs.laws.Common.{eqb-true, leb-true, leb-false, none-some, same_Some, NodeId, Position, PeersValue, number_acked}
+use Rattle.std.proofs.lemmas.Bool.{eqb-false}
 use Rattle.std.proofs.lemmas.Bool.Decides.{eqb_tells}
-use Rattle.std.proofs.lemmas.Option.{none-some, same_Some}
 use Rattle.std.proofs.lemmas.List.{map-append, append-nil}
 use Rattle.std.proofs.lemmas.List.Sums.{fold_push}
 use Rattle.std.specs.FinMap as map
-use Rattle.dac_base.specs.declared.NodeId.{NodeId}
 use Rattle.dac_chains.specs.declared.lives.Life.{Life}
 use Rattle.dac_messages.specs.StateValue.{StateValue}
-use Rattle.dac_peers.specs.declared.positions.Position.{Position}
-use Rattle.dac_peers.specs.Peers.{PeersValue, acked_by, number_acked, others, lesser}
+use Rattle.dac_peers.specs.Peers.{acked_by, others, lesser}
 use Rattle.dac_peers.specs.InWords.{IsNumberOf, IsOther, IsLeastOfAll, AllHaveTheLeast}
 
 -- ---- the number of a node

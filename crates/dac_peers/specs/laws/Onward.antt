@@ -1,21 +1,14 @@
 -- Positions got never go back.
-use Rattle.std.specs.Prelude.{◌≡◌, ◌≢◌, ◌⊎◌, ℕ, true, false, cond, nat_eq, nat_lt, max, Option, None, Some, refl}
+use Rattle.std.specs.Prelude.{◌≡◌, ◌≢◌, ℕ, true, false, cond, nat_eq, nat_lt, max, Option, None, Some, refl}
 use Rattle.std.proofs.Common.{inl, inr, arith, leb, ap, sym, subst, ◌∙◌}
-use Rattle.std.proofs.lemmas.Bool.{eqb-true, eqb-false, leb-true, leb-false, ltb-true, ltb-false, true≢false}
-use Rattle.std.proofs.lemmas.Option.{none-some, same_Some}
-use Rattle.std.specs.Ordering.{eq_by_cmp, is_eq}
+use Rattle.dac_peers.specs.laws.Common.{◌⊎◌, eqb-true, leb-true, leb-false, true≢false, none-some, same_Some, eq_by_cmp, NodeId, node_cmp, nodes_total, exact_nodes, Origin, Body, Message, Position, PeersValue, got_after, heard_from}
+use Rattle.std.proofs.lemmas.Bool.{eqb-false, ltb-true, ltb-false}
+use Rattle.std.specs.Ordering.{is_eq}
 use Rattle.std.specs.Cmp.{Equal-is}
 use Rattle.std.proofs.lemmas.Cmp.{tied_itself}
 use Rattle.std.specs.FinMap as map
-use Rattle.dac_base.specs.declared.NodeId.{NodeId}
-use Rattle.dac_base.specs.Ids.{node_cmp}
-use Rattle.dac_base.specs.laws.Ids.{nodes_total, exact_nodes}
-use Rattle.dac_origins.specs.declared.dot.Origin.{Origin}
-use Rattle.dac_messages.specs.declared.message.Body.{Body}
 use Rattle.dac_messages.specs.declared.message.Body.TheVariants.{Whole, Interval, Nothing}
-use Rattle.dac_messages.specs.declared.message.Message.{Message}
-use Rattle.dac_peers.specs.declared.positions.Position.{Position}
-use Rattle.dac_peers.specs.Peers.{PeersValue, later, got_after, heard_from}
+use Rattle.dac_peers.specs.Peers.{later}
 use Rattle.dac_peers.specs.InWords.{IsUpTo, position_of, IsOnward, GotGoesOnward}
 
 -- nodes are equal or not, as the test says

@@ -1,17 +1,9 @@
 -- Replies that are due.
-use Rattle.std.specs.Prelude.{◌≡◌, ◌≢◌, ◌⊎◌, ◌↔◌, ◌||◌, ◌&&◌, not, ℕ, true, refl}
+use Rattle.std.specs.Prelude.{◌≡◌, ◌≢◌, ◌↔◌, ◌||◌, ◌&&◌, not, ℕ, true, refl}
 use Rattle.std.proofs.Common.{inl, inr, ap, sym, ◌∙◌}
-use Rattle.std.proofs.lemmas.Bool.{true≢false}
-use Rattle.std.specs.Ordering.{eq_by_cmp}
+use Rattle.dac_peers.specs.laws.Common.{◌⊎◌, true≢false, eq_by_cmp, NodeId, node_cmp, nodes_total, Origin, Body, Message, PeersValue, heard_from}
 use Rattle.std.specs.FinSet as set
-use Rattle.dac_base.specs.declared.NodeId.{NodeId}
-use Rattle.dac_base.specs.Ids.{node_cmp}
-use Rattle.dac_base.specs.laws.Ids.{nodes_total}
-use Rattle.dac_origins.specs.declared.dot.Origin.{Origin}
-use Rattle.dac_messages.specs.declared.message.Body.{Body}
 use Rattle.dac_messages.specs.declared.message.Body.TheVariants.{Whole, Interval, Nothing}
-use Rattle.dac_messages.specs.declared.message.Message.{Message}
-use Rattle.dac_peers.specs.Peers.{PeersValue, heard_from}
 use Rattle.dac_peers.specs.InWords.{IsOwed, HeardAreOwed, ShippedAreNotOwed}
 use Rattle.dac_peers.specs.laws.Onward.{same_or_not}
 

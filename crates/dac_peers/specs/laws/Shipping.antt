@@ -2,18 +2,14 @@
 use Rattle.std.specs.Prelude.{◌≡◌, ◌≤◌, ◌&&◌, not, ℕ, Bool, true, false, cond, nat_le, Option, None, Some, refl}
 use Rattle.std.specs.Option.{option_map, option_and_then}
 use Rattle.std.proofs.Common.{ap, sym, subst, ◌∙◌}
-use Rattle.std.proofs.lemmas.Bool.{leb-true, le-leb, true≢false}
-use Rattle.std.proofs.lemmas.Option.{none-some, same_Some, cond_some, option_and_then_some}
+use Rattle.dac_peers.specs.laws.Common.{leb-true, true≢false, none-some, same_Some, NodeId, node_cmp, Origin, origin_cmp, Position, PeersValue}
+use Rattle.std.proofs.lemmas.Bool.{le-leb}
+use Rattle.std.proofs.lemmas.Option.{cond_some, option_and_then_some}
 use Rattle.std.specs.FinSet as set
 use Rattle.std.specs.FinMap as map
-use Rattle.dac_base.specs.declared.NodeId.{NodeId}
-use Rattle.dac_base.specs.Ids.{node_cmp}
-use Rattle.dac_origins.specs.declared.dot.Origin.{Origin}
-use Rattle.dac_origins.specs.Dots.{origin_cmp}
 use Rattle.dac_chains.specs.declared.lives.Life.{Life}
 use Rattle.dac_messages.specs.StateValue.{StateValue}
-use Rattle.dac_peers.specs.declared.positions.Position.{Position}
-use Rattle.dac_peers.specs.Peers.{PeersValue, acked_by, acked_at, kept_from, begins, has_all}
+use Rattle.dac_peers.specs.Peers.{acked_by, acked_at, kept_from, begins, has_all}
 use Rattle.dac_peers.specs.InWords.{HasAcked, IsBegin, NothingIsKept, BeginsWhereAcked, AcksAreGot, UpToDateHaveAll}
 use Rattle.dac_peers.specs.laws.Acked.{and_parts}
 

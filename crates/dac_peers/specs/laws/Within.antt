@@ -1,12 +1,9 @@
 -- No incarnation acknowledged more deltas than there are.
-use Rattle.std.specs.Prelude.{◌≡◌, ◌⊎◌, ℕ, Some}
+use Rattle.std.specs.Prelude.{◌≡◌, ℕ, Some}
 use Rattle.std.proofs.Common.{inl, inr, sym, subst, ◌∙◌}
-use Rattle.std.proofs.lemmas.Option.{none-some}
+use Rattle.dac_peers.specs.laws.Common.{◌⊎◌, none-some, Origin, Message, PeersValue, heard_from}
 use Rattle.std.specs.FinMap as map
-use Rattle.dac_origins.specs.declared.dot.Origin.{Origin}
 use Rattle.dac_deltas.specs.Numbers.{IsGreatest}
-use Rattle.dac_messages.specs.declared.message.Message.{Message}
-use Rattle.dac_peers.specs.Peers.{PeersValue, heard_from}
 use Rattle.dac_peers.specs.InWords.{Acknowledges, AcknowledgesAtMost, AcksAreWithin}
 use Rattle.dac_peers.specs.laws.Acked.{acked_is_greatest}
 use Rattle.dac_peers.specs.laws.Shipping.{nothing_is_kept, begins_is}

@@ -1,18 +1,17 @@
 -- Consequences for the configuration file: its permission decides if no permit stands, no eligible node of an earlier
 -- group is passed over, a takeover comes from a later group, and within a group the node with the fewest wins.
-use Rattle.std.proofs.Common.{◌≡◌, ◌⊎◌, ℕ, ◌<◌, ◌≤◌, true, false, List, length, Option, Some, None, refl, sym, ap, subst, ◌∙◌, arith, inl, inr}
-use Rattle.std.specs.Prelude.{nat_lt, IsSome}
+use Rattle.std.proofs.Common.{◌≡◌, ◌⊎◌, ℕ, ◌<◌, ◌≤◌, true, false, length, Option, Some, None, refl, sym, ap, subst, ◌∙◌, arith, inl, inr}
+use Rattle.std.specs.Prelude.{nat_lt}
 use Rattle.std.proofs.lemmas.Bool.{true≢false, ltb-true, ltb-false}
 use Rattle.dac_base.specs.declared.NodeId.{NodeId}
 use Rattle.dac_base.specs.declared.AppId.{AppId}
 use Rattle.dac_lattice.specs.declared.flags.Flag.{Flag}
 use Rattle.dac_config.specs.Table.{Table, group_of, default_permission}
-use Rattle.dac_chains.specs.Lives.{IsLive, live_at}
+use Rattle.dac_chains.specs.Lives.{IsLive}
 use Rattle.dac_chains.specs.laws.Live.{live_is}
 use Rattle.dac_state.specs.StateValue.{StateValue, permissions_of}
-use Rattle.dac_state.specs.PermissionsValue.{IsPermitted, NoneStands, SomePermitStands, AllSayTrue}
+use Rattle.dac_state.specs.PermissionsValue.{IsPermitted, NoneStands}
 use Rattle.dac_origins.specs.declared.dot.Origin.{Origin}
-use Rattle.dac_placement.specs.declared.verdicts.Verdict.TheVariants.{Takeover}
 use Rattle.dac_placement.specs.Placement.{key_at, IsAllowedAt, IsEligible, IsVerdict, verdict_of}
 use Rattle.dac_placement.specs.InWords.{FileCounts, NoneBefore, FromLater, FewestRun, LesserNameWins}
 use Rattle.dac_placement.specs.laws.Judged.{verdict_in_words}

@@ -4,9 +4,9 @@ use Rattle.std.specs.Prelude.{MatchOption, is_some}
 use Rattle.std.proofs.lemmas.Bool.{false≢true}
 use Rattle.dac_base.specs.declared.NodeId.{NodeId}
 use Rattle.dac_base.specs.declared.AppId.{AppId}
-use Rattle.dac_config.specs.Table.{Table, node_count, group_of}
+use Rattle.dac_config.specs.Table.{Table, group_of}
 use Rattle.dac_state.specs.StateValue.{StateValue}
-use Rattle.dac_placement.specs.Placement.{IsEligible, EachEligible, IsEarlier, load_of, IsPreferred, IsFirst, first_choice}
+use Rattle.dac_placement.specs.Placement.{EachEligible, IsEarlier, load_of, IsPreferred, IsFirst, first_choice}
 use Rattle.dac_placement.specs.laws.Loads.{preferred_is}
 use Rattle.dac_placement.specs.laws.FirstChoice.{first_is}
 
@@ -58,11 +58,3 @@ module _ (t : Table) (app : AppId) where
 
     pub first_to : (n : NodeId) → IsFirst t s app n → first_choice t s app ≡ Some n
     first_to n a = first_by n a (first_choice t s app) (first_is t s app)
-
-    none_by : ((m : NodeId) → m.0 < node_count t → ¬ IsEligible t s app m) → (o : Option NodeId) → MatchOption o (EachEligible t s app (λ _. ⊥)) (λ m. IsFirst t s app m) → o ≡ None
-    none_by nobody None none = refl
-    none_by nobody (Some m) is = absurd (nobody m is.node is.eligible)
-
-    -- if no node is eligible, the computed first choice is none
-    pub none_first : ((m : NodeId) → m.0 < node_count t → ¬ IsEligible t s app m) → first_choice t s app ≡ None
-    none_first nobody = none_by nobody (first_choice t s app) (first_is t s app)

@@ -3,15 +3,11 @@
 -- unsettled application runs and ticks. By its tick it knows such a claim or makes one, because otherwise its set is
 -- the common one.
 use Rattle.std.proofs.Common.{◌≡◌, ◌⊎◌, ℕ, ◌+◌, ◌<◌, ◌≤◌, Bool, true, false, cond, List, [], ◌∷◌, ◌++◌, length, Option, Some, None, zero, suc, refl, sym, ap, subst, ◌∙◌, arith, inl, inr, append_assoc, append-nil}
-use Rattle.std.specs.Prelude.{IsSome, nat_eq}
+use Rattle.dac_settle.specs.laws.Common.{IsSome, true≢false, false≢true, eqb-true, NodeId, AppId, Operation, IsOperationOf, AreOperationsOf, In-append_left, In-append_right, In-append_cases, Held, IsApp, IsGrown, IsPlacement, SetsEvent, Sets, InCopies, with_held}
+use Rattle.std.specs.Prelude.{nat_eq}
 use Rattle.std.specs.Option.{is_some}
-use Rattle.std.proofs.lemmas.Bool.{true≢false, false≢true, eqb-true, eq-eqb}
-use Rattle.dac_base.specs.declared.NodeId.{NodeId}
-use Rattle.dac_base.specs.declared.AppId.{AppId}
-use Rattle.dac_operations.specs.Operations.{Operation}
-use Rattle.dac_meaning.specs.Meaning.{IsOperationOf, AreOperationsOf}
-use Rattle.dac_meaning.specs.laws.Members.{In-append_left, In-append_right, In-append_cases}
-use Rattle.dac_settle.specs.Rounds.{Held, IsApp, Placement, IsWellMade, IsGrown, IsPlacement, Claims, SetsEvent, Sets, InCopies, with_held, Happens, Run, Ticks, IsReady, IsRound, Rounds}
+use Rattle.std.proofs.lemmas.Bool.{eq-eqb}
+use Rattle.dac_settle.specs.Rounds.{Placement, IsWellMade, Claims, Happens, Run, Ticks, IsReady, IsRound, Rounds}
 use Rattle.dac_settle.specs.Rounds.SetsEvent.{Tick, Ship, Deliver}
 use Rattle.dac_settle.specs.laws.Counting.{count, count_few, count_none, none_count, some_or_none, count_le, count_lt}
 

@@ -1,29 +1,10 @@
 -- Where all is settled, a tick claims nothing.
 use Rattle.std.proofs.Common.{◌≡◌, ℕ, ◌<◌, List, [], ◌∷◌, true, Option, Some, None, Result, Ok, refl, sym, ap, ◌∙◌}
-use Rattle.std.proofs.lemmas.Bool.{and_parts}
-use Rattle.dac_base.specs.declared.NodeId.{NodeId}
-use Rattle.dac_base.specs.declared.AppId.{AppId}
-use Rattle.dac_origins.specs.declared.dot.Origin.{Origin}
-use Rattle.dac_operations.specs.Operations.{Operation}
-use Rattle.dac_meaning.specs.StateValue.{StateValue}
-use Rattle.dac_config.specs.Table.{Table, app_count}
-use Rattle.dac_placement.specs.Placement.{verdict_of, candidate_of}
-use Rattle.dac_decide.specs.FailoverWait.{waits_of}
-use Rattle.dac_decide.specs.declared.start_gate.Opening.{Opening}
-use Rattle.dac_decide.specs.declared.start_gate.Opening.TheVariants.{Shut, Opened, GiveUp}
-use Rattle.dac_decide.specs.declared.waits.Noted.{Noted}
+use Rattle.dac_settle.specs.laws.Common.{and_parts, NodeId, AppId, Origin, Operation, StateValue, Table, app_count, verdict_of, candidate_of, waits_of, Opening, Shut, Opened, GiveUp, Noted, Reply, Refusal, Sweep, sweep_of, is_mine, swept_by, own_if, ModelNode, ModelRunning, joined, shown, running_shown, refusal_of, opening_at, note_of, ticks_by, step_by, IsSettled}
 use Rattle.dac_messages.specs.declared.event.Event.TheVariants.{Tick}
-use Rattle.dac_messages.specs.declared.reply.Reply.{Reply}
 use Rattle.dac_messages.specs.declared.reply.Reply.TheVariants.{Ticked}
-use Rattle.dac_events.specs.declared.refusal.Refusal.{Refusal}
-use Rattle.dac_ticks.specs.Ticks.{Sweep, sweep_of, is_mine}
-use Rattle.dac_ticks.specs.laws.Sweeping.{numbered, swept_by, sweep_reaches}
-use Rattle.dac_ticks.specs.laws.Words.{own_if}
-use Rattle.dac_model_world.specs.ModelNode.{ModelNode, ModelRunning, joined, shown, running_shown}
-use Rattle.dac_model_world.specs.EventRefusals.{refusal_of}
-use Rattle.dac_model_world.specs.Transitions.{opening_at, note_of, ticks_by}
-use Rattle.dac_model_world.specs.Step.{model_step, step_by}
-use Rattle.dac_settle.specs.Settling.{IsSettled}
+use Rattle.dac_ticks.specs.laws.Sweeping.{numbered, sweep_reaches}
+use Rattle.dac_model_world.specs.Step.{model_step}
 use Rattle.dac_settle.specs.Rules.{judged}
 use Rattle.dac_settle.specs.AtRest.{SettledClaimNothing}
 use Rattle.dac_settle.specs.laws.WorkedRound.{nobody_claims}

@@ -1,20 +1,11 @@
 -- The round of the worked cases: two nodes with the same set tick, ship all to each other, and hold the same set again.
 use Rattle.std.proofs.Common.{◌≡◌, ◌⊎◌, Bool, true, false, cond, List, [], ◌∷◌, ◌++◌, Option, Some, None, refl, sym, ap, subst, ◌∙◌, inl, inr}
-use Rattle.std.specs.Prelude.{nat_eq, IsSome}
+use Rattle.dac_settle.specs.laws.Common.{IsSome, true≢false, NodeId, Operation, IsOperationOf, AreOperationsOf, DotsDetermine, meaning_of, In-append_left, In-append_right, In-append_cases, Note, waits_of, terms_used_up, sweep_from, swept_by, Member, with_member, own_of, ticked, IsTick, MemberEvent, AllSame, first_node, second_node, IsEither, the_app, worked_table, member_with, both_hold}
+use Rattle.std.specs.Prelude.{nat_eq}
 use Rattle.std.specs.Option.{is_some}
-use Rattle.std.proofs.lemmas.Bool.{true≢false}
-use Rattle.dac_base.specs.declared.NodeId.{NodeId}
-use Rattle.dac_operations.specs.Operations.{Operation}
-use Rattle.dac_meaning.specs.Meaning.{IsOperationOf, AreOperationsOf, DotsDetermine, meaning_of}
-use Rattle.dac_meaning.specs.laws.Members.{In-append_left, In-append_right, In-append_cases}
-use Rattle.dac_decide.specs.FailoverWait.{Note, waits_of}
-use Rattle.dac_commands.specs.Causes.{terms_used_up}
-use Rattle.dac_ticks.specs.Ticks.{sweep_from}
-use Rattle.dac_ticks.specs.laws.Sweeping.{swept_by}
 use Rattle.dac_ticks.specs.Again.{noting}
-use Rattle.dac_settle.specs.Settling.{Member, with_member, own_of, sweep_at, holding, ticked, IsTick, MemberEvent, Run, AllSame, IsRound}
+use Rattle.dac_settle.specs.Settling.{sweep_at, holding, Run, IsRound}
 use Rattle.dac_settle.specs.Settling.MemberEvent.{Tick, Ship, Deliver}
-use Rattle.dac_settle.specs.Worked.{first_node, second_node, IsEither, the_app, worked_table, member_with, both_hold}
 use Rattle.dac_settle.specs.laws.AnyPlacement.{same_node, one, some_is}
 
 none_some : {X : Type 0} {v : X} {Y : Type 0} → ◌≡◌ {A = Option X} None (Some v) → Y

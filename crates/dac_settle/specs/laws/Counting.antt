@@ -1,7 +1,6 @@
 -- The number of applications that pass a test.
 use Rattle.std.proofs.Common.{◌≡◌, ◌⊎◌, ℕ, ◌+◌, ◌<◌, ◌≤◌, Bool, true, false, cond, List, [], ◌∷◌, suc, length, refl, sym, ap, subst, ◌∙◌, arith, inl, inr}
-use Rattle.dac_base.specs.declared.AppId.{AppId}
-use Rattle.dac_settle.specs.Rounds.{IsApp}
+use Rattle.dac_settle.specs.laws.Common.{AppId, IsApp}
 
 abbrev pub count : (AppId → Bool) → List AppId → ℕ
 count p [] = 0

@@ -1,23 +1,15 @@
 -- In a ready world each candidate's verdict is due: its lost claim was noted, and has waited.
 use Rattle.std.proofs.Common.{◌≡◌, ℕ, true, ◌∷◌, ◌++◌, [], List, Option, Some, None, option_map, refl, sym, ap, subst, inr}
+use Rattle.dac_settle.specs.laws.Common.{false≢true, NodeId, AppId, Origin, StateValue, Table, Verdict, Failover, Halted, Move, Takeover, Kept, Nobody, holder_of, IsVerdict, verdict_of, candidate_of, verdict_in_words, Note, IsLost, IsLostByNewest, IsLate}
 use Rattle.std.specs.Option.{is_some}
 use Rattle.std.specs.FinMap as map
-use Rattle.std.proofs.lemmas.Bool.{false≢true}
 use Rattle.std.proofs.lemmas.List.Elements.{All-cons}
-use Rattle.dac_base.specs.declared.NodeId.{NodeId}
-use Rattle.dac_base.specs.declared.AppId.{AppId}
-use Rattle.dac_origins.specs.declared.dot.Origin.{Origin}
 use Rattle.dac_chains.specs.declared.claims.Claim.{Claim}
-use Rattle.dac_meaning.specs.StateValue.{StateValue}
-use Rattle.dac_config.specs.Table.{Table}
-use Rattle.dac_placement.specs.declared.verdicts.Verdict.{Verdict}
-use Rattle.dac_placement.specs.declared.verdicts.Verdict.TheVariants.{Start, Failover, Halted, Move, Takeover, Kept, Nobody}
-use Rattle.dac_placement.specs.Placement.{IsUp, holder_of, IsVerdict, verdict_of, candidate_of}
-use Rattle.dac_placement.specs.laws.Judged.{verdict_in_words}
-use Rattle.dac_decide.specs.FailoverWait.{Note, IsLost, IsLostByNewest, IsNotedSince, IsWaitOver, IsDueBy, is_due}
+use Rattle.dac_placement.specs.declared.verdicts.Verdict.TheVariants.{Start}
+use Rattle.dac_placement.specs.Placement.{IsUp}
+use Rattle.dac_decide.specs.FailoverWait.{IsNotedSince, IsWaitOver, IsDueBy, is_due}
 use Rattle.dac_decide.specs.laws.Rows.{lost_newest, noted_to}
 use Rattle.dac_decide.specs.laws.Due.{due_to_words}
-use Rattle.dac_settle.specs.Settling.{IsLate}
 use Rattle.dac_settle.specs.laws.AnyPlacement.{one}
 
 none_some : {X : Type 0} {v : X} {Y : Type 0} → ◌≡◌ {A = Option X} None (Some v) → Y

@@ -1,25 +1,16 @@
 -- The conditions under which an application has no candidate, in terms without loads, so that claims of other
 -- applications don't change them.
 use Rattle.std.proofs.Common.{◌≡◌, ◌⊎◌, Option, Some, None, refl, sym, ap, subst, ◌∙◌, inl, inr}
+use Rattle.dac_settle.specs.laws.Common.{false≢true, NodeId, AppId, Origin, Lives, IsLive, StateValue, Table, Verdict, Failover, Halted, Move, Takeover, Kept, Nobody, IsEligible, is_eligible, IsEarlier, IsStartedAt, IsAllowedAt, HeldBy, holder_of, IsVerdict, verdict_of, candidate_of, verdict_in_words, MayRunAlike, alike_back}
 use Rattle.std.specs.Prelude.{is_some}
 use Rattle.std.specs.FinSet as set
 use Rattle.std.specs.FinMap as map
-use Rattle.std.proofs.lemmas.Bool.{false≢true}
-use Rattle.dac_base.specs.declared.NodeId.{NodeId}
-use Rattle.dac_base.specs.declared.AppId.{AppId}
-use Rattle.dac_origins.specs.declared.dot.Origin.{Origin}
-use Rattle.dac_chains.specs.Lives.{Lives, IsLive}
 use Rattle.dac_wishes.specs.PermissionsValue.{Permits}
 use Rattle.dac_wishes.specs.DrainsValue.{Drains}
 use Rattle.dac_wishes.specs.Writes.{Writes}
-use Rattle.dac_meaning.specs.StateValue.{StateValue}
-use Rattle.dac_config.specs.Table.{Table}
-use Rattle.dac_placement.specs.declared.verdicts.Verdict.{Verdict}
-use Rattle.dac_placement.specs.declared.verdicts.Verdict.TheVariants.{Start, Failover, Halted, Move, Takeover, Kept, Nobody}
-use Rattle.dac_placement.specs.Placement.{EachEligible, IsEligible, is_eligible, IsEarlier, IsUp, IsStartedAt, is_started_at, IsAllowedAt, is_allowed_at, HeldBy, holder_of, key_of, IsVerdict, verdict_of, candidate_of}
+use Rattle.dac_placement.specs.declared.verdicts.Verdict.TheVariants.{Start}
+use Rattle.dac_placement.specs.Placement.{EachEligible, IsUp, is_started_at, is_allowed_at, key_of}
 use Rattle.dac_placement.specs.laws.Tests.{eligible_is, started_is, allowed_is}
-use Rattle.dac_placement.specs.laws.Judged.{verdict_in_words}
-use Rattle.dac_ticks.specs.laws.Claimed.{MayRunAlike, alike_back}
 use Rattle.dac_settle.specs.Placed.{IsFit}
 
 -- at this incarnation the application is started and permitted, and no eligible node is of an earlier group

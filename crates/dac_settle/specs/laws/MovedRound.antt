@@ -1,36 +1,13 @@
 -- The worked case of a drain: its nodes are ready, the verdict is to move the application, and a round moves it.
 use Rattle.std.proofs.Common.{◌≡◌, ℕ, ◌+◌, false, List, [], ◌∷◌, Option, Some, None, option_map, refl, sym, ap, subst, ◌∙◌, arith, inl, inr}
-use Rattle.std.specs.Prelude.{nat_lt}
-use Rattle.std.specs.Option.{option_map_or}
+use Rattle.dac_settle.specs.laws.Common.{nat_lt, option_map_or, NodeId, AppId, MAX_COUNTER, Origin, dot, IsGreatest, claim_cmp, IsLive, keyed_write, write, Operation, StateValue, IsOperationOf, DotsDetermine, meaning_of, life_said, claim_said, SaysFor, starts-meaning, permits-meaning, drains-meaning, app_count, Verdict, Failover, Halted, Move, Takeover, Kept, Nobody, IsStartedAt, IsAllowedAt, IsDrainedAt, IsEligible, IsVerdict, HeldBy, holder_of, key_at, verdict_of, verdict_in_words, IsLost, terms_used_up, DistinctDots-agree, Member, first_node, second_node, IsEither, the_app, worked_table, first_of, start_of, member_with, both_hold, first_claim, draining, drained_set}
 use Rattle.std.specs.FinMap as map
-use Rattle.dac_base.specs.declared.NodeId.{NodeId}
-use Rattle.dac_base.specs.declared.AppId.{AppId}
-use Rattle.dac_base.specs.declared.limits.TheConstants.{MAX_COUNTER}
-use Rattle.dac_origins.specs.declared.dot.Origin.{Origin}
-use Rattle.dac_origins.specs.Dots.{dot}
 use Rattle.dac_chains.specs.declared.claims.Claim.{Claim}
-use Rattle.dac_chains.specs.Greatest.{IsGreatest}
-use Rattle.dac_chains.specs.Claims.{claim_cmp}
-use Rattle.dac_chains.specs.Lives.{IsLive}
-use Rattle.dac_wishes.specs.KeyedWrites.{keyed_write}
 use Rattle.dac_wishes.specs.DrainsValue.{origin}
-use Rattle.dac_wishes.specs.Writes.{write}
-use Rattle.dac_operations.specs.Operations.{Operation}
-use Rattle.dac_meaning.specs.StateValue.{StateValue}
-use Rattle.dac_meaning.specs.Meaning.{IsOperationOf, DotsDetermine, meaning_of, life_said, claim_said}
-use Rattle.dac_meaning.specs.Chained.{SaysFor}
-use Rattle.dac_meaning.specs.laws.Readers.{starts-meaning, permits-meaning, drains-meaning}
-use Rattle.dac_config.specs.Table.{app_count}
-use Rattle.dac_placement.specs.declared.verdicts.Verdict.{Verdict}
-use Rattle.dac_placement.specs.declared.verdicts.Verdict.TheVariants.{Start as ToStart, Failover, Halted, Move, Takeover, Kept, Nobody}
-use Rattle.dac_placement.specs.Placement.{IsUp, IsStartedAt, IsAllowedAt, IsDrainedAt, IsEligible, IsVerdict, HeldBy, holder_of, key_at, key_of, verdict_of}
-use Rattle.dac_placement.specs.laws.Judged.{verdict_in_words}
-use Rattle.dac_decide.specs.FailoverWait.{IsLost}
-use Rattle.dac_commands.specs.Causes.{terms_used_up}
-use Rattle.dac_model_world.specs.laws.Operations.{DistinctDots-agree}
-use Rattle.dac_settle.specs.Settling.{Member, IsReady, Rounds}
-use Rattle.dac_settle.specs.Worked.{first_node, second_node, IsEither, the_app, worked_table, first_of, start_of, member_with, both_hold}
-use Rattle.dac_settle.specs.WorkedMove.{first_claim, claiming, draining, drained_set, RoundsCanMove}
+use Rattle.dac_placement.specs.declared.verdicts.Verdict.TheVariants.{Start as ToStart}
+use Rattle.dac_placement.specs.Placement.{IsUp, key_of}
+use Rattle.dac_settle.specs.Settling.{IsReady, Rounds}
+use Rattle.dac_settle.specs.WorkedMove.{claiming, RoundsCanMove}
 use Rattle.dac_settle.specs.laws.AnyPlacement.{one}
 use Rattle.dac_settle.specs.laws.BothTick.{is_member, runs, after_all, the_round, both_run}
 use Rattle.dac_settle.specs.laws.OnlyClaims.{claim_greatest}

@@ -1,44 +1,28 @@
 -- The effect of one event of the model world on its members: a tick, a ship or a delivery, or none.
 use Rattle.std.proofs.Common.{◌≡◌, ℕ, ◌-◌, ◌<◌, ◌≤◌, Bool, true, false, not, cond, List, [], ◌∷◌, ◌++◌, length, drop, map as list_map, Option, Some, None, Ok, Err, nat_eq, zero, suc, refl, sym, ap, subst, ◌∙◌, arith, inl, inr}
-use Rattle.std.specs.Prelude.{nat_lt}
+use Rattle.dac_settle.specs.laws.Common.{nat_lt, NodeId, Origin, Operation, meaning_of, is_below, Table, Opening, Shut, Opened, GiveUp, waits_of, WorldEvent, What, Hand, Message, Boot, Crash, Hear, HearOp, Heard, Sweep, ModelNode, ModelRunning, joined, shown, running_shown, refusal_of, message_of, ticks_by, opening_at, note_of, step_by, WorldFault, NoSuchNode, ModelWorld, WorldStepped, happens, happens_by, answered_by, event_of, SetWorld, NodeSet, copied_by, set_step, DistinctDots-agree, Sound, held_at, InCopies, Member, Members, with_member, own_of, ticked, IsTick, MemberEvent, member_by, members_of, InRound}
 use Rattle.std.specs.Option.{option_map}
 use Rattle.std.specs.List.{slice_get}
-use Rattle.dac_base.specs.declared.NodeId.{NodeId}
-use Rattle.dac_origins.specs.declared.dot.Origin.{Origin}
-use Rattle.dac_operations.specs.Operations.{Operation}
-use Rattle.dac_meaning.specs.Meaning.{meaning_of}
-use Rattle.dac_meaning.specs.Below.{is_below}
-use Rattle.dac_config.specs.Table.{Table}
-use Rattle.dac_decide.specs.declared.start_gate.Opening.{Opening}
-use Rattle.dac_decide.specs.declared.start_gate.Opening.TheVariants.{Shut, Opened, GiveUp}
-use Rattle.dac_decide.specs.FailoverWait.{waits_of}
-use Rattle.dac_events.specs.declared.WorldEvent.{WorldEvent}
-use Rattle.dac_events.specs.declared.What.{What}
-use Rattle.dac_events.specs.declared.What.TheVariants.{Boot as Boots, Crash as Crashes, Command as Tells, Tick as Ticking, Ship as Ships, Deliver as Delivering, Hand}
-use Rattle.dac_messages.specs.declared.message.Message.{Message}
+use Rattle.dac_events.specs.declared.What.TheVariants.{Boot as Boots, Crash as Crashes, Command as Tells, Tick as Ticking, Ship as Ships, Deliver as Delivering}
 use Rattle.dac_messages.specs.Bodies.{content_of}
 use Rattle.dac_messages.specs.declared.event.Event.{Event as NodeEvent}
-use Rattle.dac_messages.specs.declared.event.Event.TheVariants.{Boot, Crash, Command as Commanded, Tick as Ticks, Ship as ShipsTo, Hear, HearOp}
-use Rattle.dac_messages.specs.declared.reply.Reply.TheVariants.{Ticked, Shipped, Heard}
+use Rattle.dac_messages.specs.declared.event.Event.TheVariants.{Command as Commanded, Tick as Ticks, Ship as ShipsTo}
+use Rattle.dac_messages.specs.declared.reply.Reply.TheVariants.{Ticked, Shipped}
 use Rattle.dac_events.specs.declared.refusal.Refusal.TheVariants.{NoMemory}
-use Rattle.dac_ticks.specs.Ticks.{Sweep}
 use Rattle.dac_ticks.specs.Again.{tick_of}
-use Rattle.dac_model_world.specs.ModelNode.{ModelNode, ModelRunning, joined, shown, running_shown}
-use Rattle.dac_model_world.specs.EventRefusals.{refusal_of, refusal_by}
-use Rattle.dac_model_world.specs.Transitions.{message_of, hears, hears_message, ships, looks_after, ticks_by, opening_at, note_of}
-use Rattle.dac_model_world.specs.Step.{step_by, goes_on, accepted}
-use Rattle.dac_events.specs.declared.world_fault.WorldFault.{WorldFault}
-use Rattle.dac_events.specs.declared.world_fault.WorldFault.TheVariants.{NoSuchNode, Refused}
-use Rattle.dac_model_world.specs.ModelWorld.{ModelWorld, WorldStepped, happens, happens_by, answered_by, event_of, counted, with_node, Step}
-use Rattle.dac_model_world.specs.SetWorld.{SetWorld, NodeSet, Copy, with_set, united, copied_by, copied_to, brought_to, issuing, set_step}
+use Rattle.dac_model_world.specs.EventRefusals.{refusal_by}
+use Rattle.dac_model_world.specs.Transitions.{hears, hears_message, ships, looks_after}
+use Rattle.dac_model_world.specs.Step.{goes_on, accepted}
+use Rattle.dac_events.specs.declared.world_fault.WorldFault.TheVariants.{Refused}
+use Rattle.dac_model_world.specs.ModelWorld.{counted, with_node, Step}
+use Rattle.dac_model_world.specs.SetWorld.{Copy, with_set, united, copied_to, brought_to, issuing}
 use Rattle.dac_model_world.specs.Uniting.{Unites}
-use Rattle.dac_model_world.specs.laws.Operations.{Agree-within, DistinctDots-agree}
+use Rattle.dac_model_world.specs.laws.Operations.{Agree-within}
 use Rattle.dac_model_world.specs.laws.Carried.{none_some}
-use Rattle.dac_model_world.specs.laws.Sound.{Answer, Sound, held_at, no_message, no_operation}
-use Rattle.dac_settle.specs.Rounds.{InCopies}
-use Rattle.dac_settle.specs.Settling.{Member, Members, with_member, own_of, sweep_at, holding, ticked, IsTick, MemberEvent, Run, Ticks as TicksIn}
+use Rattle.dac_model_world.specs.laws.Sound.{Answer, no_message, no_operation}
+use Rattle.dac_settle.specs.Settling.{sweep_at, holding, Run, Ticks as TicksIn}
 use Rattle.dac_settle.specs.Settling.MemberEvent.{Tick, Ship, Deliver}
-use Rattle.dac_settle.specs.WorldRounds.{member_by, members_of, IsLateBy, InRound, IsTicked}
+use Rattle.dac_settle.specs.WorldRounds.{IsLateBy, IsTicked}
 use Rattle.dac_settle.specs.laws.AnyPlacement.{one, same_node}
 
 -- ---- the copies of a round

@@ -1,26 +1,18 @@
 -- Claims change only the claims of a meaning, and its heard and known dots.
 use Rattle.std.proofs.Common.{◌≡◌, ◌⊎◌, ℕ, Bool, true, false, not, cond, ◌&&◌, List, Option, Some, None, refl, sym, ap, subst, ◌∙◌, inl, inr}
-use Rattle.std.specs.declared.cmp.Ordering.{Ordering}
+use Rattle.dac_settle.specs.laws.Common.{Ordering, false≢true, true≢false, NodeId, AppId, Dot, chain_laws, IsGreatest, IsSaid, claim_cmp, origin_cmp, Operation, operation, IsOperationOf, AreOperationsOf, meaning_of, replaces, pairs, life_said, claim_said, found, finds, starts-meaning, permits-meaning, drains-meaning, lives-meaning, lives_are, claims-meaning, claims_are, SaysFor, of_said, is_said, MayRunAlike}
 use Rattle.std.specs.Cmp.{IsTotalOrder}
 use Rattle.std.specs.List.{list_any}
 use Rattle.std.specs.FinSet as set
 use Rattle.std.specs.FinMap as map
-use Rattle.std.proofs.lemmas.Bool.{false≢true, true≢false}
 use Rattle.std.proofs.lemmas.Map.Lookups.{CmpEqualImpliesEq}
-use Rattle.dac_base.specs.declared.NodeId.{NodeId}
-use Rattle.dac_base.specs.declared.AppId.{AppId}
 use Rattle.dac_base.specs.laws.Ids.{nodes_total, exact_nodes}
-use Rattle.dac_origins.specs.declared.dot.Dot.{Dot}
-use Rattle.dac_lattice.specs.laws.Chains.{chain_laws}
 use Rattle.dac_lattice.specs.Flags.{flag_cmp}
 use Rattle.dac_lattice.specs.laws.Flags.{flags_exact}
 use Rattle.dac_store.specs.laws.Stores.{both_ways}
-use Rattle.dac_chains.specs.Greatest.{IsGreatest, IsSaid}
 use Rattle.dac_chains.specs.declared.claims.Claim.{Claim as ClaimValue}
 use Rattle.dac_chains.specs.declared.claims.How.{How}
 use Rattle.dac_chains.specs.laws.Lives.{lives_total, exact_lives}
-use Rattle.dac_chains.specs.Claims.{claim_cmp}
-use Rattle.dac_origins.specs.Dots.{origin_cmp}
 use Rattle.dac_origins.specs.laws.Dots.{origins_total, exact_origins}
 use Rattle.dac_wishes.specs.Keys.{key_cmp}
 use Rattle.dac_wishes.specs.KeyedWrites.{KeyedWrite}
@@ -29,13 +21,7 @@ use Rattle.dac_wishes.specs.Writes.{Write}
 use Rattle.dac_wishes.specs.laws.Writes.{writes_total, exact_writes}
 use Rattle.dac_operations.specs.declared.act.Act.{Act}
 use Rattle.dac_operations.specs.declared.act.Act.TheVariants.{Up, Down, Permit, Start, Stop, Drain, Claim}
-use Rattle.dac_operations.specs.Operations.{Operation, operation}
-use Rattle.dac_meaning.specs.Meaning.{IsOperationOf, AreOperationsOf, meaning_of, has_dot, replaces, is_start, vote_says, is_vote, vote_at, permit_vote, drain_vote, flag_written, pairs, life_said, claim_said}
-use Rattle.dac_meaning.specs.laws.Members.{found, finds}
-use Rattle.dac_meaning.specs.laws.Readers.{starts-meaning, permits-meaning, drains-meaning, lives-meaning, lives_are, claims-meaning, claims_are}
-use Rattle.dac_meaning.specs.Chained.{SaysFor}
-use Rattle.dac_meaning.specs.laws.Chained.{of_said, is_said}
-use Rattle.dac_ticks.specs.laws.Claimed.{MayRunAlike}
+use Rattle.dac_meaning.specs.Meaning.{has_dot, is_start, vote_says, is_vote, vote_at, permit_vote, drain_vote, flag_written}
 
 -- the act is a claim
 abbrev pub is_claim : Act → Bool

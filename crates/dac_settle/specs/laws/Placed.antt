@@ -1,34 +1,17 @@
 -- Verdicts over the meanings of sets of operations have the properties that rounds rely on.
 use Rattle.std.proofs.Common.{◌≡◌, ◌⊎◌, ℕ, ◌+◌, ◌<◌, ◌≤◌, true, List, Option, Some, None, option_map, refl, sym, ap, subst, ◌∙◌, arith, inl, inr}
-use Rattle.std.specs.Prelude.{unwrap_or, IsSome}
-use Rattle.std.specs.Option.{is_some, option_map_or}
+use Rattle.dac_settle.specs.laws.Common.{unwrap_or, IsSome, option_map_or, Ordering, false≢true, NodeId, AppId, IsAtMost, chain_laws, IsGreatest, claim_cmp, Lives, IsLive, live_at, live_is, Operation, IsOperationOf, meaning_of, claim_said, meaning-same, SaysFor, Table, IsStartedAt, IsAllowedAt, key_at, verdict_of, candidate_of, MayRunAlike, alike_back, IsGrown, IsPlacement, IsGood, here, placed}
+use Rattle.std.specs.Option.{is_some}
 use Rattle.std.specs.Ordering.{nat_cmp, ordering_then, is_le, MatchOrdering}
-use Rattle.std.specs.declared.cmp.Ordering.{Ordering}
 use Rattle.std.specs.declared.cmp.Ordering.TheVariants.{Less, Equal, Greater}
 use Rattle.std.specs.FinMap as map
-use Rattle.std.proofs.lemmas.Bool.{false≢true}
 use Rattle.std.proofs.lemmas.Cmp.{ranked}
-use Rattle.dac_base.specs.declared.NodeId.{NodeId}
-use Rattle.dac_base.specs.declared.AppId.{AppId}
-use Rattle.dac_lattice.specs.Chains.{IsAtMost}
-use Rattle.dac_lattice.specs.laws.Chains.{chain_laws}
-use Rattle.dac_chains.specs.Greatest.{IsGreatest}
 use Rattle.dac_chains.specs.declared.claims.Claim.{Claim}
-use Rattle.dac_chains.specs.Claims.{claim_cmp, how_cmp}
+use Rattle.dac_chains.specs.Claims.{how_cmp}
 use Rattle.dac_chains.specs.laws.Claims.{claims_total, exact_hows, exact_claims}
-use Rattle.dac_chains.specs.Lives.{Lives, IsLive, live_at}
-use Rattle.dac_chains.specs.laws.Live.{live_is}
-use Rattle.dac_operations.specs.Operations.{Operation}
-use Rattle.dac_meaning.specs.Meaning.{IsOperationOf, meaning_of, claim_said}
-use Rattle.dac_meaning.specs.laws.Joins.{meaning-same}
-use Rattle.dac_meaning.specs.Chained.{SaysFor}
-use Rattle.dac_config.specs.Table.{Table}
-use Rattle.dac_placement.specs.Placement.{IsStartedAt, IsAllowedAt, key_at, verdict_of, candidate_of}
 use Rattle.dac_placement.specs.laws.Rests.{candidate_is}
 use Rattle.dac_commands.specs.Commands.{next_term}
-use Rattle.dac_ticks.specs.laws.Claimed.{MayRunAlike, alike_back, claimed_as}
-use Rattle.dac_settle.specs.Rounds.{IsGrown, IsPlacement}
-use Rattle.dac_settle.specs.Placed.{IsGood, here, placed}
+use Rattle.dac_ticks.specs.laws.Claimed.{claimed_as}
 use Rattle.dac_settle.specs.laws.AnyPlacement.{one}
 use Rattle.dac_settle.specs.laws.LeftAlone.{fit_alike, left_if, if_left, left_alike}
 use Rattle.dac_settle.specs.laws.OnlyClaims.{AddsClaims, alike, claim_greatest, said_is_claim}

@@ -1,30 +1,19 @@
 -- After as many rounds as there are applications, begun in a ready world, each of them is settled.
 use Rattle.std.proofs.Common.{◌≡◌, ℕ, ◌<◌, ◌≤◌, ◌+◌, Bool, true, false, cond, List, [], ◌∷◌, ◌++◌, length, Option, Some, None, option_map, zero, suc, refl, sym, ap, subst, ◌∙◌, arith, inl, inr}
+use Rattle.dac_settle.specs.laws.Common.{false≢true, eqb-true, eqb-false, NodeId, AppId, Lives, IsLive, Operation, AreOperationsOf, meaning_of, In-append_left, Table, app_count, Verdict, Failover, Halted, Move, Takeover, Kept, Nobody, apps_of, verdict_of, candidate_of, Note, IsLost, IsLostByNewest, Held, IsApp, IsGrown, SetsEvent, Sets, InCopies, with_held, Member, Members, with_member, ticked, MemberEvent, IsSettled, placed}
 use Rattle.std.specs.Prelude.{nat_eq}
 use Rattle.std.specs.Option.{is_some}
-use Rattle.std.proofs.lemmas.Bool.{false≢true, eqb-true, eqb-false}
 use Rattle.std.proofs.lemmas.List.FromFn.{length-map-range_with_len}
-use Rattle.dac_base.specs.declared.NodeId.{NodeId}
-use Rattle.dac_base.specs.declared.AppId.{AppId}
 use Rattle.dac_chains.specs.declared.claims.Claim.{Claim}
-use Rattle.dac_chains.specs.Lives.{Lives, IsLive}
-use Rattle.dac_operations.specs.Operations.{Operation}
-use Rattle.dac_meaning.specs.Meaning.{AreOperationsOf, meaning_of}
-use Rattle.dac_meaning.specs.laws.Members.{In-append_left}
-use Rattle.dac_config.specs.Table.{Table, app_count}
-use Rattle.dac_placement.specs.declared.verdicts.Verdict.{Verdict}
-use Rattle.dac_placement.specs.declared.verdicts.Verdict.TheVariants.{Start, Failover, Halted, Move, Takeover, Kept, Nobody}
-use Rattle.dac_placement.specs.Placement.{apps_of, verdict_of, candidate_of}
-use Rattle.dac_decide.specs.FailoverWait.{Note, IsLost, IsLostByNewest}
+use Rattle.dac_placement.specs.declared.verdicts.Verdict.TheVariants.{Start}
 use Rattle.dac_ticks.specs.laws.Sweeping.{numbered, apps_from}
 use Rattle.dac_ticks.specs.Again.{noting}
-use Rattle.dac_settle.specs.Rounds.{Held, IsApp, IsGrown, SetsEvent, Sets, InCopies, with_held, Happens as SetsHappen, Run as SetsRun, IsTickOf as IsSetsTick, Ticks as SetsTick, IsReady as AreReady, IsRound as IsRoundOfSets, Rounds as RoundsOfSets}
+use Rattle.dac_settle.specs.Rounds.{Happens as SetsHappen, Run as SetsRun, IsTickOf as IsSetsTick, Ticks as SetsTick, IsReady as AreReady, IsRound as IsRoundOfSets, Rounds as RoundsOfSets}
 use Rattle.dac_settle.specs.Rounds.SetsEvent.{Tick as Ticked, Ship as Shipped, Deliver as Delivered}
-use Rattle.dac_settle.specs.Settling.{Member, Members, with_member, sweep_at, holding, ticked, MemberEvent, Happens, Run, Ticks, IsReady, IsRound, Rounds, IsSettled, RoundsSettleBy}
+use Rattle.dac_settle.specs.Settling.{sweep_at, holding, Happens, Run, Ticks, IsReady, IsRound, Rounds, RoundsSettleBy}
 use Rattle.dac_settle.specs.Settling.MemberEvent.{Tick, Ship, Deliver}
 use Rattle.dac_settle.specs.laws.AnyPlacement.{in_copies, same_node, one, some_is, grown_united, tick_grown, any_settle}
 use Rattle.dac_settle.specs.laws.Placed.{one_inc, grown_alike, is_placement}
-use Rattle.dac_settle.specs.Placed.{placed}
 use Rattle.dac_settle.specs.laws.Sweeps.{lost_back, IsMemberOf, tick_claims}
 
 -- ---- members and their sets

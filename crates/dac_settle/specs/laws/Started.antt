@@ -1,24 +1,13 @@
 -- Sets in which two nodes boot their first incarnations and applications are started. The laws say who is live by them,
 -- and that nothing is claimed or permitted.
 use Rattle.std.proofs.Common.{◌≡◌, ℕ, List, Option, Some, None, refl, sym, ap, subst, ◌∙◌, inl, inr}
+use Rattle.dac_settle.specs.laws.Common.{NodeId, AppId, Dot, Life, IsGreatest, IsSaid, IsLive, life_cmp, claim_cmp, Key, Operation, IsOperationOf, meaning_of, pairs, life_said, claim_said, lives_of, SaysFor, of_said, is_said, lives-meaning, lives_are, claims-meaning, claims_are, IsEither, first_node, second_node, up_of}
 use Rattle.std.specs.FinMap as map
-use Rattle.dac_base.specs.declared.NodeId.{NodeId}
-use Rattle.dac_base.specs.declared.AppId.{AppId}
-use Rattle.dac_origins.specs.declared.dot.Dot.{Dot}
 use Rattle.dac_lattice.specs.declared.flags.Flag.TheVariants.{Up as IsUp}
-use Rattle.dac_chains.specs.declared.lives.Life.{Life}
 use Rattle.dac_chains.specs.declared.claims.Claim.{Claim}
-use Rattle.dac_chains.specs.Greatest.{IsGreatest, IsSaid}
-use Rattle.dac_chains.specs.Lives.{IsLive, life_cmp}
-use Rattle.dac_chains.specs.Claims.{claim_cmp}
-use Rattle.dac_wishes.specs.declared.key.Key.{Key}
 use Rattle.dac_operations.specs.declared.act.Act.TheVariants.{Start}
-use Rattle.dac_operations.specs.Operations.{Operation}
-use Rattle.dac_meaning.specs.Meaning.{IsOperationOf, meaning_of, pairs, life_said, claim_said, lives_of, claims_of}
-use Rattle.dac_meaning.specs.Chained.{SaysFor}
-use Rattle.dac_meaning.specs.laws.Chained.{of_said, is_said}
-use Rattle.dac_meaning.specs.laws.Readers.{lives-meaning, lives_are, claims-meaning, claims_are}
-use Rattle.dac_settle.specs.Worked.{IsEither, first_node, second_node, up_of, begun}
+use Rattle.dac_meaning.specs.Meaning.{claims_of}
+use Rattle.dac_settle.specs.Worked.{begun}
 
 -- ---- what operations say
 

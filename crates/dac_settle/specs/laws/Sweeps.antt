@@ -1,39 +1,20 @@
 -- A tick in a round claims exactly the applications whose candidate its node is: each candidate's verdict is due, and
 -- no term is used up.
 use Rattle.std.proofs.Common.{◌≡◌, ℕ, ◌+◌, ◌≤◌, true, List, [], ◌∷◌, ◌++◌, Option, Some, refl, sym, ap, subst, ◌∙◌, arith, inl, inr, append_assoc, append-nil}
-use Rattle.std.specs.Prelude.{◌<◌, unwrap_or}
+use Rattle.dac_settle.specs.laws.Common.{unwrap_or, true≢false, and_parts, and_from, NodeId, AppId, Origin, Dot, dot, Lives, IsLive, live_at, live_is, same_dot_itself, Operation, IsOperationOf, AreOperationsOf, DotsDetermine, names, meaning_of, In-append_left, In-append_cases, finds, known-meaning, join-meaning, Table, app_count, apps_of, verdict_of, candidate_of, Noted, Note, IsLost, IsLostByNewest, is_due_by, waits_of, kept_is, greatest_counter, Sweep, claim_of, is_mine, swept_by, own_if, if_own, IsApp, IsGrown, Member, own_of, IsLate, IsTick, placed, here}
+use Rattle.std.specs.Prelude.{◌<◌}
 use Rattle.std.specs.FinSet as set
-use Rattle.std.proofs.lemmas.Bool.{true≢false, and_parts, and_from, or_left}
-use Rattle.dac_base.specs.declared.NodeId.{NodeId}
-use Rattle.dac_base.specs.declared.AppId.{AppId}
-use Rattle.dac_origins.specs.declared.dot.Origin.{Origin}
-use Rattle.dac_origins.specs.declared.dot.Dot.{Dot}
-use Rattle.dac_origins.specs.Dots.{dot}
+use Rattle.std.proofs.lemmas.Bool.{or_left}
 use Rattle.dac_chains.specs.declared.claims.Claim.{Claim}
-use Rattle.dac_chains.specs.Lives.{Lives, IsLive, live_at}
-use Rattle.dac_chains.specs.laws.Live.{live_is}
-use Rattle.dac_wishes.specs.laws.KeyedWrites.{same_dot_itself}
-use Rattle.dac_operations.specs.Operations.{Operation}
-use Rattle.dac_meaning.specs.Meaning.{IsOperationOf, AreOperationsOf, DotsDetermine, names, meaning_of}
-use Rattle.dac_meaning.specs.laws.Members.{In-append_left, In-append_cases, finds}
-use Rattle.dac_meaning.specs.laws.Readers.{known-meaning}
-use Rattle.dac_meaning.specs.laws.Joins.{join-meaning}
-use Rattle.dac_config.specs.Table.{Table, app_count}
-use Rattle.dac_placement.specs.Placement.{IsUp, apps_of, verdict_of, candidate_of}
-use Rattle.dac_decide.specs.declared.waits.Noted.{Noted}
-use Rattle.dac_decide.specs.FailoverWait.{Note, IsLost, IsLostByNewest, is_due_by, waits_of}
-use Rattle.dac_decide.specs.laws.Kept.{kept_is}
-use Rattle.dac_commands.specs.Commands.{greatest_counter}
+use Rattle.dac_placement.specs.Placement.{IsUp}
 use Rattle.dac_commands.specs.laws.Counters.{counter-greatest}
-use Rattle.dac_ticks.specs.Ticks.{Sweep, passing, claiming, claim_of, is_mine, sweep_over}
-use Rattle.dac_ticks.specs.laws.Sweeping.{AreBelow, apps_below, swept_by}
-use Rattle.dac_ticks.specs.laws.Words.{own_if, if_own}
+use Rattle.dac_ticks.specs.Ticks.{passing, claiming, sweep_over}
+use Rattle.dac_ticks.specs.laws.Sweeping.{AreBelow, apps_below}
 use Rattle.dac_ticks.specs.Again.{noting}
-use Rattle.dac_settle.specs.Rounds.{IsApp, IsGrown, Claims}
-use Rattle.dac_settle.specs.Settling.{Member, own_of, sweep_at, IsLate, IsTick}
+use Rattle.dac_settle.specs.Rounds.{Claims}
+use Rattle.dac_settle.specs.Settling.{sweep_at}
 use Rattle.dac_settle.specs.laws.AnyPlacement.{one, grown_by}
 use Rattle.dac_settle.specs.laws.Placed.{IsTaken, grown_alike, alike_grown, claims_cases, taken_if, well}
-use Rattle.dac_settle.specs.Placed.{placed, here}
 use Rattle.dac_settle.specs.laws.Due.{candidate_due}
 
 -- ---- dots

@@ -2,48 +2,26 @@
 -- Then b is claimed at the first node, the only one where it can run. Now the second node runs fewer, so the rule makes
 -- it take over a.
 use Rattle.std.proofs.Common.{◌≡◌, ℕ, ◌<◌, Bool, true, false, cond, ◌&&◌, List, [], ◌∷◌, ◌++◌, length, Option, Some, None, option_map, refl, sym, ap, subst, ◌∙◌, arith, inl, inr}
-use Rattle.std.specs.Prelude.{nat_eq, nat_lt, IsSome, ◌==◌}
-use Rattle.std.specs.Option.{is_some, option_map_or}
+use Rattle.dac_settle.specs.laws.Common.{nat_lt, IsSome, ◌==◌, option_map_or, false≢true, eqb-false, NodeId, AppId, Origin, dot, Normal, IsGreatest, claim_cmp, Lives, IsLive, keyed_write, write, Operation, operation, StateValue, meaning_of, claim_said, In-append_left, In-append_right, In-append_cases, SaysFor, starts-meaning, permits-meaning, drains-meaning, Table, group_of, Verdict, Failover, Halted, Move, Takeover, Kept, Nobody, IsEligible, is_eligible, IsEarlier, IsFirst, load_of, key_at, IsStartedAt, is_up, holder_of, IsVerdict, verdict_of, candidate_of, preferred_is, verdict_in_words, MayRunAlike, IsGrown, first_node, second_node, IsEither, the_app, first_of, start_of, placed, IsGood}
+use Rattle.std.specs.Prelude.{nat_eq}
+use Rattle.std.specs.Option.{is_some}
 use Rattle.std.specs.FinMap as map
-use Rattle.std.proofs.lemmas.Bool.{false≢true, eqb-false}
-use Rattle.dac_base.specs.declared.NodeId.{NodeId}
-use Rattle.dac_base.specs.declared.AppId.{AppId}
-use Rattle.dac_origins.specs.declared.dot.Origin.{Origin}
-use Rattle.dac_origins.specs.Dots.{dot}
 use Rattle.dac_chains.specs.declared.claims.Claim.{Claim}
-use Rattle.dac_chains.specs.declared.claims.How.TheVariants.{Normal}
-use Rattle.dac_chains.specs.Greatest.{IsGreatest}
-use Rattle.dac_chains.specs.Claims.{claim_cmp}
-use Rattle.dac_chains.specs.Lives.{Lives, IsLive}
-use Rattle.dac_wishes.specs.KeyedWrites.{keyed_write}
 use Rattle.dac_wishes.specs.DrainsValue.{origin}
-use Rattle.dac_wishes.specs.Writes.{write}
 use Rattle.dac_operations.specs.declared.act.Act.TheVariants.{Claim as Claims}
-use Rattle.dac_operations.specs.Operations.{Operation, operation}
-use Rattle.dac_meaning.specs.StateValue.{StateValue}
-use Rattle.dac_meaning.specs.Meaning.{meaning_of, claim_said}
-use Rattle.dac_meaning.specs.laws.Members.{In-append_left, In-append_right, In-append_cases}
-use Rattle.dac_meaning.specs.Chained.{SaysFor}
-use Rattle.dac_meaning.specs.laws.Readers.{starts-meaning, permits-meaning, drains-meaning}
 use Rattle.dac_shapes.specs.declared.draft.SyncWait.TheVariants.{NoSync}
-use Rattle.dac_config.specs.Table.{Table, group_of}
-use Rattle.dac_placement.specs.declared.verdicts.Verdict.{Verdict}
-use Rattle.dac_placement.specs.declared.verdicts.Verdict.TheVariants.{Start as ToStart, Failover, Halted, Move, Takeover, Kept, Nobody}
-use Rattle.dac_placement.specs.Placement.{IsEligible, is_eligible, IsEarlier, IsFirst, runs_at, load_of, key_at, key_of, IsStartedAt, is_up, holder_of, IsVerdict, verdict_of, first_choice, candidate_of}
+use Rattle.dac_placement.specs.declared.verdicts.Verdict.TheVariants.{Start as ToStart}
+use Rattle.dac_placement.specs.Placement.{runs_at, key_of, first_choice}
 use Rattle.dac_placement.specs.laws.Tests.{runs_is}
-use Rattle.dac_placement.specs.laws.Loads.{preferred_is}
 use Rattle.dac_placement.specs.laws.FirstChoice.{first_is}
-use Rattle.dac_placement.specs.laws.Judged.{IsChoice, verdict_in_words}
-use Rattle.dac_ticks.specs.laws.Claimed.{MayRunAlike}
-use Rattle.dac_settle.specs.Rounds.{IsGrown}
+use Rattle.dac_placement.specs.laws.Judged.{IsChoice}
 use Rattle.dac_settle.specs.Rules.{is_one_group, is_lighter, restless_by, restless_of}
 use Rattle.dac_settle.specs.Staying.{Stays}
-use Rattle.dac_settle.specs.Worked.{first_node, second_node, IsEither, the_app, first_of, start_of, begun}
+use Rattle.dac_settle.specs.Worked.{begun}
 use Rattle.dac_settle.specs.laws.AnyPlacement.{one, same_node, grown_itself, grown_by}
 use Rattle.dac_settle.specs.laws.OnlyClaims.{AddsClaims, is_claim, alike, claim_greatest}
 use Rattle.dac_settle.specs.laws.LeftAlone.{left_if, if_left, to_eligible, to_started}
 use Rattle.dac_settle.specs.laws.Placed.{IsTaken, alike_grown, claims_cases, stays, taken_if, well}
-use Rattle.dac_settle.specs.Placed.{placed, IsGood}
 use Rattle.dac_settle.specs.laws.Started.{AreStarts, are_live, live_only, no_claim_said}
 
 none_some : {Z : Type 0} {v : Z} {Y : Type 0} → ◌≡◌ {A = Option Z} None (Some v) → Y

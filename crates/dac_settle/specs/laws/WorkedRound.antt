@@ -1,27 +1,11 @@
 -- The worked case: its nodes are ready, and they tick, tell each other all, and hold the same then.
 use Rattle.std.proofs.Common.{◌≡◌, ◌+◌, false, List, [], ◌∷◌, Option, Some, None, option_map, refl, sym, ap, subst, ◌∙◌, arith, inl, inr}
-use Rattle.std.specs.Prelude.{nat_lt}
-use Rattle.std.specs.Option.{option_map_or}
-use Rattle.dac_base.specs.declared.AppId.{AppId}
-use Rattle.dac_config.specs.Table.{app_count}
-use Rattle.dac_base.specs.declared.limits.TheConstants.{MAX_COUNTER}
-use Rattle.dac_origins.specs.Dots.{dot}
+use Rattle.dac_settle.specs.laws.Common.{nat_lt, option_map_or, AppId, app_count, MAX_COUNTER, dot, IsLive, keyed_write, write, Operation, IsOperationOf, DotsDetermine, meaning_of, starts-meaning, permits-meaning, drains-meaning, Verdict, Failover, Halted, Move, Takeover, Kept, Nobody, IsEligible, key_at, verdict_of, candidate_of, IsLost, terms_used_up, DistinctDots-agree, Member, IsSettled, first_node, second_node, the_app, worked_table, first_of, start_of, member_with}
 use Rattle.dac_chains.specs.declared.claims.Claim.{Claim}
-use Rattle.dac_chains.specs.Lives.{IsLive}
-use Rattle.dac_wishes.specs.KeyedWrites.{keyed_write}
 use Rattle.dac_wishes.specs.DrainsValue.{origin}
-use Rattle.dac_wishes.specs.Writes.{write}
-use Rattle.dac_operations.specs.Operations.{Operation}
-use Rattle.dac_meaning.specs.Meaning.{IsOperationOf, DotsDetermine, meaning_of}
-use Rattle.dac_meaning.specs.laws.Readers.{starts-meaning, permits-meaning, drains-meaning}
-use Rattle.dac_placement.specs.declared.verdicts.Verdict.{Verdict}
-use Rattle.dac_placement.specs.declared.verdicts.Verdict.TheVariants.{Start as ToStart, Failover, Halted, Move, Takeover, Kept, Nobody}
-use Rattle.dac_placement.specs.Placement.{IsEligible, key_at, verdict_of, candidate_of}
-use Rattle.dac_decide.specs.FailoverWait.{IsLost}
-use Rattle.dac_commands.specs.Causes.{terms_used_up}
-use Rattle.dac_model_world.specs.laws.Operations.{DistinctDots-agree}
-use Rattle.dac_settle.specs.Settling.{Member, IsReady, Rounds, IsSettled}
-use Rattle.dac_settle.specs.Worked.{first_node, second_node, the_app, worked_table, first_of, start_of, worked_set, member_with, worked_nodes, RoundsCanBe}
+use Rattle.dac_placement.specs.declared.verdicts.Verdict.TheVariants.{Start as ToStart}
+use Rattle.dac_settle.specs.Settling.{IsReady, Rounds}
+use Rattle.dac_settle.specs.Worked.{worked_set, worked_nodes, RoundsCanBe}
 use Rattle.dac_settle.specs.laws.BothTick.{is_member, runs, after_all, the_round, both_run}
 use Rattle.dac_settle.specs.laws.LeftAlone.{left_if}
 use Rattle.dac_settle.specs.laws.Settled.{all_settle}

@@ -1,27 +1,17 @@
 -- Rounds of the model world are rounds of its members, so they settle all applications.
 use Rattle.std.proofs.Common.{◌≡◌, ℕ, ◌<◌, ◌≤◌, true, List, [], ◌∷◌, ◌++◌, length, Option, Some, None, Ok, zero, suc, refl, sym, subst, ◌∙◌, arith, inl, inr, length-append, le_refl}
+use Rattle.dac_settle.specs.laws.Common.{NodeId, AppId, StateValue, meaning_of, Table, app_count, verdict_of, WorldEvent, What, ModelRunning, WorldValue, ModelWorld, AnsweredAs, start, world_after, SetWorld, NodeSet, no_sets, copied_by, set_step, set_run, RunsWith, Sound, sound_run, sound_start, Member, Members, MemberEvent, IsSettled, member_by, members_of, AreInRound, IsWorldRound, AreRounds}
 use Rattle.std.specs.Option.{is_some, option_map}
-use Rattle.dac_base.specs.declared.NodeId.{NodeId}
-use Rattle.dac_base.specs.declared.AppId.{AppId}
-use Rattle.dac_meaning.specs.StateValue.{StateValue}
-use Rattle.dac_meaning.specs.Meaning.{meaning_of}
-use Rattle.dac_config.specs.Table.{Table, app_count}
-use Rattle.dac_placement.specs.Placement.{verdict_of}
-use Rattle.dac_events.specs.declared.WorldEvent.{WorldEvent}
-use Rattle.dac_events.specs.declared.What.{What}
 use Rattle.dac_messages.specs.declared.reply.Reply.TheVariants.{Shipped}
-use Rattle.dac_model_world.specs.ModelNode.{ModelRunning}
-use Rattle.dac_model_world.specs.WorldValue.{WorldValue}
-use Rattle.dac_model_world.specs.ModelWorld.{ModelWorld, AnsweredAs, InEachRun, Shows, numbered, start, went, world_after}
-use Rattle.dac_model_world.specs.SetWorld.{SetWorld, NodeSet, no_sets, copied_by, set_step, set_run}
-use Rattle.dac_model_world.specs.Convergence.{RunsWith, state_by}
+use Rattle.dac_model_world.specs.ModelWorld.{InEachRun, Shows, numbered, went}
+use Rattle.dac_model_world.specs.Convergence.{state_by}
 use Rattle.dac_model_world.specs.laws.OneNode.{state_in}
 use Rattle.dac_model_world.specs.laws.Runs.{step_to}
-use Rattle.dac_model_world.specs.laws.Sound.{Answer, Sound, sound_step, sound_run, sound_start}
+use Rattle.dac_model_world.specs.laws.Sound.{Answer, sound_step}
 use Rattle.dac_model_world.specs.laws.UnitingInRuns.{unite_run}
 use Rattle.dac_model_world.specs.laws.Headline.{holds_sets}
-use Rattle.dac_settle.specs.Settling.{Member, Members, MemberEvent, Run, Ticks, IsRound, Rounds, IsSettled}
-use Rattle.dac_settle.specs.WorldRounds.{member_by, members_of, IsReadyWorld, AreInRound, AnswersTick, IsWorldRound, AreRounds, Settles}
+use Rattle.dac_settle.specs.Settling.{Run, Ticks, IsRound, Rounds}
+use Rattle.dac_settle.specs.WorldRounds.{IsReadyWorld, AnswersTick, Settles}
 use Rattle.dac_settle.specs.laws.OneEvent.{since, since_all, seen_in, goes_step}
 use Rattle.dac_settle.specs.laws.Settled.{all_settle}
 

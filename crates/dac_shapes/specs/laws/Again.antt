@@ -1,15 +1,6 @@
 -- A loose item of the grammar is read, or its fault is of a limit or shape outside `Kept`: tokens, lists and pairs.
 use Rattle.std.proofs.Common.{◌≡◌, ℕ, zero, suc, ◌<◌, Bool, true, false, cond, List, [], ◌∷◌, ◌++◌, length, Result, Ok, Err, refl, sym, ap, subst, ◌∙◌, append_assoc, length-append, arith}
-use Rattle.dac_tokens.specs.declared.fault.ConfigFault.{ConfigFault}
-use Rattle.dac_tokens.specs.declared.fault.FaultKind.{FaultKind}
-use Rattle.dac_tokens.specs.declared.fault.FaultKind.TheVariants.{BadShape}
-use Rattle.dac_tokens.specs.declared.token.Symbol.{Symbol}
-use Rattle.dac_tokens.specs.declared.token.Symbol.TheVariants.{OpenList, CloseList, OpenTuple, CloseTuple, Comma}
-use Rattle.dac_tokens.specs.Gives.{◌>>=◌}
-use Rattle.dac_tokens.specs.Words.{Word, Punctuation, Name, Located}
-use Rattle.dac_shapes.specs.Limits.{Seen, AllMay, steps}
-use Rattle.dac_shapes.specs.Shape.{State, is_symbol, token, symbol_at, more_at, comma_list, list_of, pair_at, closed, room}
-use Rattle.dac_shapes.specs.Grammar.{Parted, IsListOf, IsPair}
+use Rattle.dac_shapes.specs.laws.Common.{ConfigFault, FaultKind, BadShape, Symbol, OpenList, CloseList, OpenTuple, CloseTuple, Comma, ◌>>=◌, Word, Punctuation, Name, Located, Seen, AllMay, steps, State, is_symbol, token, symbol_at, more_at, comma_list, list_of, pair_at, closed, room, Parted, IsListOf, IsPair}
 use Rattle.dac_shapes.specs.laws.Splits.{words_of, cons_is, split, cut, none, ended, inside, Begins, at, symbol_again}
 
 -- a fault of a limit or shape that isn't kept, and for BadShape not at a bad offset

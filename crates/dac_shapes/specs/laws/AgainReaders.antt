@@ -1,19 +1,6 @@
 -- Nodes, node lists, applications and permissions are read, or their fault is of a limit or shape outside `Kept`.
 use Rattle.std.proofs.Common.{◌≡◌, ℕ, ◌<◌, ◌≤◌, Bool, true, false, not, ◌&&◌, cond, eqb, ltb, leb, List, [], ◌∷◌, ◌++◌, length, map, Result, Ok, refl, sym, ap, subst, ◌∙◌, append_assoc, arith, codes, inl, inr}
-use Rattle.std.proofs.lemmas.Bool.{lt-ltb, le-ltb, eq-eqb, ltb-true, leb-true}
-use Rattle.dac_base.specs.declared.limits.TheConstants.{MAX_NODES}
-use Rattle.dac_tokens.specs.declared.fault.ConfigFault.{ConfigFault}
-use Rattle.dac_tokens.specs.declared.fault.FaultKind.{FaultKind}
-use Rattle.dac_tokens.specs.declared.fault.FaultKind.TheVariants.{TwiceApp, TwiceInList, TooManyNodes, TooManyApps, NameTooLong, EmptyList, EmptyTuple, NumberTooLarge}
-use Rattle.dac_tokens.specs.declared.token.Symbol.TheVariants.{OpenList, CloseList, OpenTuple, CloseTuple, Comma}
-use Rattle.dac_tokens.specs.Gives.{◌>>=◌}
-use Rattle.dac_tokens.specs.Words.{Word, Punctuation, Name, Number, Located}
-use Rattle.dac_shapes.specs.Written.{App, Permission}
-use Rattle.dac_shapes.specs.Limits.{Seen, is_among, with_node, with_nodes, with_groups, listing, with_app, NodeKeeps, NodesKeep, GroupsKeep, AppKeeps, PermissionKeeps}
-use Rattle.dac_tokens.specs.Digits.{value_from}
-use Rattle.dac_shapes.specs.Shape.{State, fails, is_symbol, atom_of, short_name_of, node_of, names_at, item_at, items_at, groups_at, milliseconds_of, timeout_at, app_name_of, app_value_at, app_at, flag_of, permission_value_at, permission_at, closed}
-use Rattle.dac_shapes.specs.Grammar.{Parted, IsNode, IsItem, IsMs, IsFlag, IsPermission, IsAppValue, IsApp}
-use Rattle.dac_shapes.specs.Loose.{IsLooseItem, IsLooseNodeList, loose}
+use Rattle.dac_shapes.specs.laws.Common.{lt-ltb, le-ltb, eq-eqb, ltb-true, leb-true, MAX_NODES, ConfigFault, FaultKind, TwiceApp, TwiceInList, TooManyNodes, TooManyApps, NameTooLong, EmptyList, EmptyTuple, NumberTooLarge, OpenList, CloseList, OpenTuple, CloseTuple, Comma, ◌>>=◌, Word, Punctuation, Name, Number, Located, App, Permission, Seen, is_among, with_node, with_nodes, with_groups, listing, with_app, NodeKeeps, NodesKeep, GroupsKeep, AppKeeps, PermissionKeeps, value_from, State, fails, is_symbol, atom_of, short_name_of, node_of, names_at, item_at, items_at, groups_at, milliseconds_of, timeout_at, app_name_of, app_value_at, app_at, flag_of, permission_value_at, permission_at, closed, Parted, IsNode, IsItem, IsMs, IsFlag, IsPermission, IsAppValue, IsApp, IsLooseItem, IsLooseNodeList, loose}
 use Rattle.dac_shapes.specs.laws.Splits.{words_of, cons_is, split, cut, none, Begins, at, symbol_again}
 use Rattle.dac_shapes.specs.laws.Again.{Fine, fine_front, Met, Said, met_then, said_then, said_said, said_if, met_if, met_is, parted_begins, whole_met, pair_met}
 

@@ -1,21 +1,7 @@
 -- Parameters and sections are read, or their fault is of a limit or shape outside `Kept`.
 use Rattle.std.proofs.Common.{◌≡◌, ℕ, Bool, true, false, cond, List, [], ◌∷◌, ◌++◌, Option, None, Some, ◌≢◌, Result, Ok, Err, refl, sym, ap, subst, ◌∙◌, codes, arith, inl, inr}
-use Rattle.std.specs.Str.{bytes_eq}
-use Rattle.dac_tokens.specs.declared.fault.ConfigFault.{ConfigFault}
-use Rattle.dac_tokens.specs.declared.fault.FaultKind.{FaultKind}
-use Rattle.dac_tokens.specs.declared.fault.FaultKind.TheVariants.{BadShape, Unsupported, NumberTooLarge}
-use Rattle.dac_tokens.specs.declared.token.Symbol.TheVariants.{OpenTuple, CloseTuple, Comma}
-use Rattle.dac_tokens.specs.Words.{Word, Punctuation, Name, Number, Text, Located}
-use Rattle.dac_shapes.specs.declared.draft.SyncWait.{SyncWait}
-use Rattle.dac_shapes.specs.declared.draft.SyncWait.TheVariants.{NoSync, Forever, Ms}
-use Rattle.dac_shapes.specs.declared.param.ParamName.{ParamName}
+use Rattle.dac_shapes.specs.laws.Common.{bytes_eq, ConfigFault, FaultKind, BadShape, Unsupported, NumberTooLarge, OpenTuple, CloseTuple, Comma, Word, Punctuation, Name, Number, Text, Located, SyncWait, NoSync, Forever, Ms, ParamName, App, Permission, Param, Distributed, Permissions, Mandatory, Optional, Timeout, Section, Kernel, spelled, Seen, nothing, AllMay, steps, has_param, has_kernel, with_node, with_nodes, with_app, with_apps, with_permission, with_param, with_section, NodeKeeps, NodesKeep, AppKeeps, PermissionKeeps, ParamKeeps, KernelKeeps, SectionKeeps, Keeps, Every, MaySections, value_from, State, fails, node_of, wait_of, milliseconds_of, app_at, permission_at, param_named, param_name_of, param_value_at, param_rest_at, param_at, names_kernel, kernel_at, section_rest_at, section_at, passed_at, pair_at, closed, list_of, IsListOf, IsPair, IsTerm, IsNode, IsMs, IsPermission, strict, IsApp, IsWait, IsParam, IsSection, loose}
 use Rattle.dac_shapes.specs.declared.param.ParamName.TheVariants as named
-use Rattle.dac_shapes.specs.Written.{App, Permission, Param, Distributed, Permissions, Mandatory, Optional, Timeout, Section, Kernel, spelled}
-use Rattle.dac_shapes.specs.Limits.{Seen, nothing, AllMay, steps, has_param, has_kernel, with_node, with_nodes, with_app, with_apps, with_permission, with_param, with_section, NodeKeeps, NodesKeep, AppKeeps, PermissionKeeps, ParamKeeps, KernelKeeps, SectionKeeps, Keeps, Every, MaySections}
-use Rattle.dac_tokens.specs.Digits.{value_from}
-use Rattle.dac_shapes.specs.Shape.{State, fails, node_of, wait_of, milliseconds_of, app_at, permission_at, param_named, param_name_of, param_value_at, param_rest_at, param_at, names_kernel, kernel_at, section_rest_at, section_at, passed_at, pair_at, closed, list_of}
-use Rattle.dac_shapes.specs.Grammar.{IsListOf, IsPair, IsTerm, IsNode, IsMs, IsPermission, strict, IsApp, IsWait, IsParam, IsSection}
-use Rattle.dac_shapes.specs.Loose.{loose}
 use Rattle.dac_shapes.specs.laws.Names.{is_named, param_is, same_seen}
 use Rattle.dac_shapes.specs.laws.Splits.{words_of, cons_is, cut, none, Begins, at}
 use Rattle.dac_shapes.specs.laws.Loosely.{sections_loose}
@@ -44,10 +30,7 @@ module _ (Kept : FaultKind → Type 0) where
 
 spelled_so : (name : ParamName) → param_named (spelled name) ≡ Some name
 spelled_so named.Distributed = refl
-spelled_so named.Permissions = refl
-spelled_so named.Mandatory = refl
-spelled_so named.Optional = refl
-spelled_so named.Timeout = refl
+spelled_so _ = refl
 
 -- a name that differs from those of all parameters that are read
 unknown_so : (name : List ℕ) → ((known : ParamName) → name ≢ spelled known) → param_named name ≡ None

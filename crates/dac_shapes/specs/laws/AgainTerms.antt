@@ -1,15 +1,6 @@
 -- Completeness of the parser for terms: a term is skipped.
 use Rattle.std.proofs.Common.{◌≡◌, ℕ, zero, suc, ◌+◌, ◌<◌, ◌≤◌, true, false, List, [], ◌∷◌, ◌++◌, length, Result, Ok, refl, sym, ap, subst, ◌∙◌, append_assoc, arith}
-use Rattle.std.specs.Prelude.{All}
-use Rattle.std.proofs.lemmas.List.{length-append}
-use Rattle.std.proofs.lemmas.List.Elements.{All-head, All-tail}
-use Rattle.dac_tokens.specs.declared.fault.ConfigFault.{ConfigFault}
-use Rattle.dac_tokens.specs.declared.token.Symbol.{Symbol}
-use Rattle.dac_tokens.specs.declared.token.Symbol.TheVariants.{OpenList, CloseList, OpenTuple, CloseTuple, Comma}
-use Rattle.dac_tokens.specs.Words.{Word, Punctuation, Name, Number, Text, Located}
-use Rattle.dac_shapes.specs.Limits.{Seen}
-use Rattle.dac_shapes.specs.Shape.{State, is_symbol, is_text, token, room, terms_at, terms_in, texts_at, term_by, term_at, passed_at}
-use Rattle.dac_shapes.specs.Grammar.{IsTerm, AreTerms, OfList, OfTuple, Atom, Integer, Strings, Empty, Between, One, More}
+use Rattle.dac_shapes.specs.laws.Common.{All, length-append, All-head, All-tail, ConfigFault, Symbol, OpenList, CloseList, OpenTuple, CloseTuple, Comma, Word, Punctuation, Name, Number, Text, Located, Seen, State, is_symbol, is_text, token, room, terms_at, terms_in, texts_at, term_by, term_at, passed_at, IsTerm, AreTerms, OfList, OfTuple, Atom, Integer, Strings, Empty, Between, One, More}
 use Rattle.dac_shapes.specs.laws.TermCases.{by_name, by_number, by_text, by_mark}
 use Rattle.dac_shapes.specs.laws.Splits.{words_of, cons_is, split, cut, none, ended, Begins, at}
 

@@ -1,12 +1,6 @@
 -- A file is also one of other parts, if each part is also the other.
 use Rattle.std.proofs.Common.{ℕ, List, [], ◌∷◌, inl, inr}
-use Rattle.dac_tokens.specs.declared.fault.FaultKind.{FaultKind}
-use Rattle.dac_tokens.specs.Words.{Word}
-use Rattle.dac_shapes.specs.declared.draft.SyncWait.{SyncWait}
-use Rattle.dac_shapes.specs.declared.draft.SyncWait.TheVariants.{NoSync, Forever, Ms}
-use Rattle.dac_shapes.specs.Written.{App, Param, Distributed, Permissions, Mandatory, Optional, Timeout, Section, Kernel}
-use Rattle.dac_shapes.specs.Grammar.{Parted, IsListOf, IsItem, IsNodeList, Parts, strict, IsTimeout, IsApp, IsWait, IsParam, IsSection, IsFile}
-use Rattle.dac_shapes.specs.Loose.{IsLooseItem, IsLooseNodeList, loose, IsLooseFile}
+use Rattle.dac_shapes.specs.laws.Common.{FaultKind, Word, SyncWait, NoSync, Forever, Ms, App, Param, Distributed, Permissions, Mandatory, Optional, Timeout, Section, Kernel, Parted, IsListOf, IsItem, IsNodeList, Parts, strict, IsTimeout, IsApp, IsWait, IsParam, IsSection, IsFile, IsLooseItem, IsLooseNodeList, loose, IsLooseFile}
 
 module _ {A : Type 0} (Is Is' : List Word → A → Type 0) (to : (ws : List Word) (x : A) → Is ws x → Is' ws x) where
   pub parted_to : (ws : List Word) (xs : List A) → Parted Is ws xs → Parted Is' ws xs
@@ -28,17 +22,13 @@ module _ (parts others : Parts) (nodes : (ws : List Word) (groups : List (List (
   app_to ws app p = let q = p.2 in (p.0, p.1, (q.0, q.1, q.2, timeout_to q.0 app.timeout q.3, nodes q.1 app.groups q.4))
 
   wait_to : (ws : List Word) (wait : SyncWait) → IsWait parts ws wait → IsWait others ws wait
-  wait_to ws NoSync p = p
-  wait_to ws Forever p = p
   wait_to ws (Ms n) p = (p.0, p.1, number p.0 n p.2)
+  wait_to ws _ p = p
 
   param_to : (ws : List Word) (p : Param) → IsParam parts ws p → IsParam others ws p
   param_to ws (Distributed apps) p = (p.0, p.1, list_to (IsApp parts) (IsApp others) app_to p.0 apps p.2)
-  param_to ws (Permissions permissions) p = p
-  param_to ws (Mandatory names) p = p
-  param_to ws (Optional names) p = p
   param_to ws (Timeout wait) p = (p.0, p.1, wait_to p.0 wait p.2)
-  param_to ws Param.Other p = p
+  param_to ws _ p = p
 
   section_to : (ws : List Word) (x : Section) → IsSection parts ws x → IsSection others ws x
   section_to ws (Kernel params) p = (p.0, p.1, list_to (IsParam parts) (IsParam others) param_to p.0 params p.2)

@@ -1,10 +1,6 @@
 -- The result of `term_by` for each kind of first token.
 use Rattle.std.proofs.Common.{◌≡◌, ℕ, Bool, List, None, Some, Result, refl}
-use Rattle.dac_tokens.specs.declared.fault.ConfigFault.{ConfigFault}
-use Rattle.dac_tokens.specs.declared.fault.FaultKind.TheVariants.{BadShape}
-use Rattle.dac_tokens.specs.declared.token.Symbol.{Symbol}
-use Rattle.dac_tokens.specs.Words.{Punctuation, Name, Number, Text, End, Located}
-use Rattle.dac_shapes.specs.Shape.{State, fails, token, closing_of, terms_in, texts_at, term_by}
+use Rattle.dac_shapes.specs.laws.Common.{ConfigFault, BadShape, Symbol, Punctuation, Name, Number, Text, End, Located, State, fails, token, closing_of, terms_in, texts_at, term_by}
 
 module _ (pass : Located → State → Result (Located × State) ConfigFault) (n : ℕ) (t : Located) (s : State) where
   pub by_name : (name : List ℕ) → t.word ≡ Name name → term_by pass n t s ≡ token s

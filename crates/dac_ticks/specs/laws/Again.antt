@@ -1,40 +1,26 @@
 -- A second tick at the same moment claims nothing, and passes over only applications that the first did.
 use Rattle.std.proofs.Common.{◌≡◌, ◌⊎◌, ℕ, ◌+◌, ◌-◌, ◌<◌, ◌≤◌, Bool, true, false, not, cond, ◌&&◌, ◌||◌, List, [], ◌∷◌, ◌++◌, Option, None, Some, length, refl, sym, ap, ap₂, subst, ◌∙◌, arith, zero, suc, add-one, inl, inr, true≢false}
-use Rattle.std.specs.Prelude.{◌==◌, nat_lt, is_some, MatchOption, filter, option_map}
-use Rattle.std.specs.Option.{option_map_or, option_and_then}
+use Rattle.dac_ticks.specs.laws.Common.{◌==◌, option_map_or, false≢true, and_parts, and_from, eqb-true, eq-eqb, MAX_COUNTER, NodeId, AppId, Origin, Table, node_count, app_count, IsLive, Lives, Act, StateValue, IsState, join, meaning_of, Verdict, Failover, Halted, Move, Kept, Nobody, is_eligible, is_up, key_at, apps_of, holder_of, IsVerdict, verdict_of, candidate_of, eligible_is, verdict_in_words, Noted, waits_of, next_operation, terms_used_up, Sweep, sweep_from, claim_of, is_mine, sweep_over}
+use Rattle.std.specs.Prelude.{nat_lt, is_some, MatchOption, filter, option_map}
+use Rattle.std.specs.Option.{option_and_then}
 use Rattle.std.specs.FinSet as set
 use Rattle.std.specs.FinMap as map
-use Rattle.std.proofs.lemmas.Bool.{false≢true, and_parts, and_from, eqb-true, eq-eqb}
-use Rattle.dac_base.specs.declared.limits.TheConstants.{MAX_COUNTER}
-use Rattle.dac_base.specs.declared.NodeId.{NodeId}
-use Rattle.dac_base.specs.declared.AppId.{AppId}
-use Rattle.dac_origins.specs.declared.dot.Origin.{Origin}
-use Rattle.dac_config.specs.Table.{Table, node_count, app_count, timeout_of}
+use Rattle.dac_config.specs.Table.{timeout_of}
 use Rattle.dac_chains.specs.declared.claims.Claim.{Claim}
-use Rattle.dac_chains.specs.Lives.{IsLive, Lives}
 use Rattle.dac_chains.specs.Claims.{Claims}
 use Rattle.dac_chains.specs.laws.Live.{live_is}
 use Rattle.dac_wishes.specs.PermissionsValue.{Permits}
 use Rattle.dac_wishes.specs.DrainsValue.{Drains}
 use Rattle.dac_wishes.specs.Writes.{Writes}
-use Rattle.dac_operations.specs.declared.act.Act.{Act}
-use Rattle.dac_meaning.specs.StateValue.{StateValue, IsState, join}
-use Rattle.dac_meaning.specs.Meaning.{meaning_of}
-use Rattle.dac_placement.specs.declared.verdicts.Verdict.{Verdict}
-use Rattle.dac_placement.specs.declared.verdicts.Verdict.TheVariants.{Start, Failover, Halted, Move, Takeover, Kept, Nobody}
-use Rattle.dac_placement.specs.Placement.{EachEligible, IsEligible, is_eligible, IsEarlier, IsUp, is_up, IsAllowedAt, IsStartedAt, key_at, runs_at, load_of, apps_of, IsFirst, first_choice, holder_of, key_of, standing_of, IsVerdict, verdict_by, verdict_of, candidate_of}
-use Rattle.dac_placement.specs.laws.Tests.{eligible_is, runs_is}
+use Rattle.dac_placement.specs.declared.verdicts.Verdict.TheVariants.{Start, Takeover}
+use Rattle.dac_placement.specs.Placement.{EachEligible, IsEligible, IsEarlier, IsUp, IsAllowedAt, IsStartedAt, runs_at, load_of, IsFirst, first_choice, key_of, standing_of, verdict_by}
+use Rattle.dac_placement.specs.laws.Tests.{runs_is}
 use Rattle.dac_placement.specs.laws.Loads.{preferred_is}
 use Rattle.dac_placement.specs.laws.FirstChoice.{first_is}
 use Rattle.dac_placement.specs.laws.FirstNode.{first_to, level}
-use Rattle.dac_placement.specs.laws.Judged.{verdict_in_words}
-use Rattle.dac_decide.specs.declared.waits.Noted.{Noted}
-use Rattle.dac_decide.specs.FailoverWait.{Note, is_same, lost_if, lost_in, since_of, noted_next, noted_at, noted_of, waits_of, is_over_at, is_due_by}
+use Rattle.dac_decide.specs.FailoverWait.{Note, is_same, lost_if, lost_in, since_of, noted_next, noted_at, noted_of, is_over_at, is_due_by}
 use Rattle.dac_decide.specs.laws.Lost.{same_to, same_itself}
 use Rattle.dac_decide.specs.laws.Kept.{kept_is}
-use Rattle.dac_commands.specs.Commands.{next_operation}
-use Rattle.dac_commands.specs.Causes.{terms_used_up}
-use Rattle.dac_ticks.specs.Ticks.{Sweep, sweep_from, claim_of, is_mine, sweep_over}
 use Rattle.dac_ticks.specs.Again.{IsAmong, noting, SecondTickClaimsNothing}
 use Rattle.dac_ticks.specs.laws.Sweeping.{numbered, apps_from, swept_by, sweep_more}
 use Rattle.dac_ticks.specs.laws.Words.{is_own, own_if}

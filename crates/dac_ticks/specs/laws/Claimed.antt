@@ -1,31 +1,23 @@
 -- A claim changes only the greatest claim of its application, and the dots heard and known; no life, permit or start.
 use Rattle.std.proofs.Common.{◌≡◌, ℕ, ◌+◌, ◌≤◌, Bool, true, false, not, cond, ◌&&◌, ◌||◌, [], ◌∷◌, Option, None, Some, refl, sym, ap, subst, ◌∙◌, arith, inl, inr}
+use Rattle.dac_ticks.specs.laws.Common.{option_map_or, eq_by_cmp, is_eq, false≢true, false_from_ne_true, and_parts, and_from, tied_itself, AppId, NodeId, Origin, Dot, dot, Flag, How, Act, Operation, StateValue, IsState, join, permissions_of, meaning_of, Verdict, Failover, Halted, Move, Kept, Nobody, greatest_counter, claim_act, next_operation, counter-greatest, claimed_by}
 use Rattle.std.specs.Prelude.{is_some}
-use Rattle.std.specs.Option.{option_map_or}
 use Rattle.std.specs.declared.cmp.Ordering.{Ordering}
 use Rattle.std.specs.declared.cmp.Ordering.TheVariants.{Greater}
-use Rattle.std.specs.Ordering.{eq_by_cmp, nat_cmp, ordering_then, is_eq, is_lt, ord_max}
+use Rattle.std.specs.Ordering.{nat_cmp, ordering_then, is_lt, ord_max}
 use Rattle.std.specs.Cmp.{IsTotalOrder, Equal-is, both_ways, nat_cmp_is}
 use Rattle.std.proofs.lemmas.Map.Lookups.{CmpEqualImpliesEq}
 use Rattle.std.specs.FinSet as set
 use Rattle.std.specs.FinMap as map
-use Rattle.std.proofs.lemmas.Bool.{false≢true, false_from_ne_true, and_parts, and_from, or_cases, or_left}
-use Rattle.std.proofs.lemmas.Cmp.{tied_itself}
-use Rattle.dac_base.specs.declared.AppId.{AppId}
-use Rattle.dac_base.specs.declared.NodeId.{NodeId}
+use Rattle.std.proofs.lemmas.Bool.{or_cases, or_left}
 use Rattle.dac_base.specs.Ids.{app_cmp}
 use Rattle.dac_base.specs.laws.Ids.{apps_total, exact_apps, nodes_total, exact_nodes}
-use Rattle.dac_origins.specs.declared.dot.Origin.{Origin}
-use Rattle.dac_origins.specs.declared.dot.Dot.{Dot}
-use Rattle.dac_origins.specs.Dots.{dot}
 use Rattle.dac_origins.specs.laws.Dots.{origins_total, exact_origins}
-use Rattle.dac_lattice.specs.declared.flags.Flag.{Flag}
 use Rattle.dac_lattice.specs.Flags.{flag_cmp}
 use Rattle.dac_lattice.specs.laws.Flags.{flags_exact}
 use Rattle.dac_lattice.specs.laws.Joins.{join_bottom}
 use Rattle.dac_lattice.specs.Lattices.{join_options}
 use Rattle.dac_chains.specs.declared.claims.Claim.{Claim}
-use Rattle.dac_chains.specs.declared.claims.How.{How}
 use Rattle.dac_chains.specs.declared.claims.How.TheVariants.{Normal, Failover as FailedOver, Takeover as TakenOver}
 use Rattle.dac_chains.specs.Greatest.{alone, greater}
 use Rattle.dac_chains.specs.laws.Greatest.{empty_is_least, get-greater}
@@ -45,20 +37,16 @@ use Rattle.dac_wishes.specs.KeyedWrites.{KeyedWrite}
 use Rattle.dac_wishes.specs.Votes.{VotesValue, joined_vote, join_votes}
 use Rattle.dac_wishes.specs.laws.Votes.{standing-join_votes}
 use Rattle.dac_wishes.specs.DrainsValue.{DrainsValue, DrainWrite}
-use Rattle.dac_operations.specs.declared.act.Act.{Act}
-use Rattle.dac_operations.specs.Operations.{Operation}
 use Rattle.dac_operations.specs.Seen.{seen_life}
-use Rattle.dac_meaning.specs.StateValue.{StateValue, IsState, join, permissions_of, wishes_of, drains_of}
+use Rattle.dac_meaning.specs.StateValue.{wishes_of, drains_of}
 use Rattle.dac_meaning.specs.laws.StateLaws.{state_laws, life_laws, lives-join, claims-join, wishes-join, permissions-join, drains-join}
-use Rattle.dac_meaning.specs.Meaning.{meaning_of, life_said, claim_said, is_replaced}
+use Rattle.dac_meaning.specs.Meaning.{life_said, claim_said, is_replaced}
 use Rattle.dac_meaning.specs.laws.Chained.{greatest-one}
 use Rattle.dac_meaning.specs.laws.Joins.{meaning-state}
 use Rattle.dac_meaning.specs.laws.Readers.{starts-meaning, permits-meaning, drains-meaning, lives-meaning, claims-meaning}
-use Rattle.dac_placement.specs.declared.verdicts.Verdict.{Verdict}
-use Rattle.dac_placement.specs.declared.verdicts.Verdict.TheVariants.{Start, Failover, Halted, Move, Takeover, Kept, Nobody}
-use Rattle.dac_commands.specs.Commands.{greatest_counter, next_term, claim_act, next_operation}
-use Rattle.dac_commands.specs.laws.Counters.{counter-greatest}
-use Rattle.dac_ticks.specs.Ticks.{held_by, claimed_by}
+use Rattle.dac_placement.specs.declared.verdicts.Verdict.TheVariants.{Start, Takeover}
+use Rattle.dac_commands.specs.Commands.{next_term}
+use Rattle.dac_ticks.specs.Ticks.{held_by}
 use Rattle.dac_ticks.specs.laws.Counters.{known_alone}
 
 -- the states are equal except for dots and claims, so that the same nodes are eligible

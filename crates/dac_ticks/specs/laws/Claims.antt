@@ -1,21 +1,11 @@
 -- The operations of a sweep. Each claim is the incarnation's next operation in the state that the earlier ones left, and
 -- the last state is the first one joined with the meaning of each.
 use Rattle.std.proofs.Common.{◌≡◌, ℕ, ◌+◌, ◌≤◌, false, List, [], ◌∷◌, ◌++◌, Option, length, refl, sym, ap, subst, ◌∙◌, arith, suc, append-nil, append_assoc}
+use Rattle.dac_ticks.specs.laws.Common.{false_from_ne_true, MAX_COUNTER, AppId, Origin, Operation, StateValue, join, meaning_of, Table, app_count, apps_of, verdict_of, Noted, greatest_counter, terms_used_up, Sweep, sweep_from, passing, claiming, claim_of, sweep_over, sweep_of}
 use Rattle.std.specs.Prelude.{◌<◌, nat_le, map as list_map, fold}
-use Rattle.std.proofs.lemmas.Bool.{false_from_ne_true, leb-true}
+use Rattle.std.proofs.lemmas.Bool.{leb-true}
 use Rattle.std.proofs.lemmas.List.FromFn.{length-map-range_with_len}
-use Rattle.dac_base.specs.declared.limits.TheConstants.{MAX_COUNTER}
-use Rattle.dac_base.specs.declared.AppId.{AppId}
-use Rattle.dac_origins.specs.declared.dot.Origin.{Origin}
-use Rattle.dac_operations.specs.Operations.{Operation}
-use Rattle.dac_meaning.specs.StateValue.{StateValue, join}
-use Rattle.dac_meaning.specs.Meaning.{meaning_of}
-use Rattle.dac_config.specs.Table.{Table, app_count}
-use Rattle.dac_placement.specs.Placement.{apps_of, verdict_of}
-use Rattle.dac_decide.specs.declared.waits.Noted.{Noted}
-use Rattle.dac_commands.specs.Commands.{greatest_counter}
-use Rattle.dac_commands.specs.Causes.{terms_used_up, used_up}
-use Rattle.dac_ticks.specs.Ticks.{Sweep, sweep_from, passing, claiming, claim_of, sweep_over, sweep_of}
+use Rattle.dac_commands.specs.Causes.{used_up}
 use Rattle.dac_ticks.specs.InWords.{HasRoom}
 use Rattle.dac_ticks.specs.Issued.{AreIssued}
 use Rattle.dac_ticks.specs.laws.Counters.{counter_after}

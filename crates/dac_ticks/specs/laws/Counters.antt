@@ -1,25 +1,17 @@
 -- An operation that replaces nothing makes only its own dot known, so that its incarnation's greatest counter rises by
 -- one.
 use Rattle.std.proofs.Common.{◌≡◌, ℕ, ◌≤◌, ◌+◌, true, false, ◌||◌, ◌⊎◌, inl, inr, [], ◌∷◌, sym, ap, ◌∙◌, arith}
+use Rattle.dac_ticks.specs.laws.Common.{Origin, Dot, dot, dot_cmp, has_key, same_dot_itself, Act, over_list, StateValue, join, meaning_of, KnowsOwnBoot, greatest_counter, next_operation, counter-greatest}
 use Rattle.std.specs.List.{list_any}
 use Rattle.std.specs.FinSet as set
 use Rattle.std.proofs.Math.Bool.{or-true}
 use Rattle.std.proofs.lemmas.Bool.{or_cases, or_left}
-use Rattle.dac_origins.specs.declared.dot.Origin.{Origin}
-use Rattle.dac_origins.specs.declared.dot.Dot.{Dot}
-use Rattle.dac_origins.specs.Dots.{dot, dot_cmp}
 use Rattle.dac_origins.specs.laws.Dots.{dots_total}
-use Rattle.dac_origins.specs.Keys.{has_key}
 use Rattle.dac_wishes.specs.Writes.{same_dot}
-use Rattle.dac_wishes.specs.laws.KeyedWrites.{same_dot_is, same_dot_itself}
-use Rattle.dac_operations.specs.declared.act.Act.{Act}
-use Rattle.dac_operations.specs.Operations.{over_list}
-use Rattle.dac_meaning.specs.StateValue.{StateValue, join}
+use Rattle.dac_wishes.specs.laws.KeyedWrites.{same_dot_is}
 use Rattle.dac_meaning.specs.laws.StateLaws.{known-join}
-use Rattle.dac_meaning.specs.Meaning.{meaning_of}
 use Rattle.dac_meaning.specs.laws.Readers.{or-false, known-meaning}
-use Rattle.dac_commands.specs.Commands.{KnowsOwnBoot, greatest_counter, next_operation}
-use Rattle.dac_commands.specs.laws.Counters.{counter-greatest, greatest-there}
+use Rattle.dac_commands.specs.laws.Counters.{greatest-there}
 
 module _ (own : Origin) (s : StateValue) (act : Act) (bare : over_list act ≡ []) where
   -- the incarnation's next dot, and the state with the operation

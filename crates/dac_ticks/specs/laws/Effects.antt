@@ -1,54 +1,42 @@
 -- The effects of operations in the state in which they are issued.
 use Rattle.std.proofs.Common.{◌≡◌, ◌↔◌, ℕ, Bool, true, false, not, cond, ◌&&◌, ◌||◌, [], ◌∷◌, Option, None, Some, refl, sym, ap, subst, ◌∙◌, inl, inr, true≢false}
+use Rattle.dac_ticks.specs.laws.Common.{eq_by_cmp, is_eq, false≢true, false_from_ne_true, tied_itself, AppId, NodeId, Origin, Dot, dot_cmp, has_key, Flag, How, Lives, IsLive, Table, default_permission, same_dot_itself, Act, Operation, StateValue, IsState, join, permissions_of, meaning_of, key_at, next_operation, claim_act}
 use Rattle.std.specs.Prelude.{is_some}
 use Rattle.std.specs.Option.{option_map}
-use Rattle.std.specs.Ordering.{eq_by_cmp, ordering_then, is_eq, is_lt, ord_max}
+use Rattle.std.specs.Ordering.{ordering_then, is_lt, ord_max}
 use Rattle.std.specs.FinSet as set
 use Rattle.std.specs.FinMap as map
-use Rattle.std.proofs.lemmas.Bool.{false≢true, false_from_ne_true}
-use Rattle.std.proofs.lemmas.Cmp.{nat_cmp_total, tied_itself}
-use Rattle.dac_base.specs.declared.AppId.{AppId}
-use Rattle.dac_base.specs.declared.NodeId.{NodeId}
+use Rattle.std.proofs.lemmas.Cmp.{nat_cmp_total}
 use Rattle.dac_base.specs.Ids.{node_cmp}
 use Rattle.dac_base.specs.laws.Ids.{nodes_total, exact_nodes}
-use Rattle.dac_origins.specs.declared.dot.Origin.{Origin}
-use Rattle.dac_origins.specs.declared.dot.Dot.{Dot}
-use Rattle.dac_origins.specs.Dots.{dot_cmp}
 use Rattle.dac_origins.specs.laws.Dots.{dots_total, exact_dots, origins_total, exact_origins}
-use Rattle.dac_origins.specs.Keys.{has_key}
 use Rattle.dac_origins.specs.laws.InOrder.{has_key-in_order}
-use Rattle.dac_lattice.specs.declared.flags.Flag.{Flag}
 use Rattle.dac_lattice.specs.declared.flags.Flag.TheVariants.{Up as IsUp, Down as IsDown}
 use Rattle.dac_lattice.specs.Flags.{flag_cmp}
 use Rattle.dac_lattice.specs.laws.Flags.{flags_exact}
 use Rattle.dac_lattice.specs.Lattices.{join_options}
 use Rattle.dac_chains.specs.declared.lives.Life.{Life}
 use Rattle.dac_chains.specs.declared.claims.Claim.{Claim}
-use Rattle.dac_chains.specs.declared.claims.How.{How}
 use Rattle.dac_chains.specs.laws.Greatest.{get-greater}
-use Rattle.dac_chains.specs.Lives.{Lives, IsLive, life_cmp}
+use Rattle.dac_chains.specs.Lives.{life_cmp}
 use Rattle.dac_chains.specs.laws.Lives.{lives_total, exact_lives}
-use Rattle.dac_config.specs.Table.{Table, default_permission}
 use Rattle.dac_wishes.specs.declared.key.Key.{Key}
 use Rattle.dac_wishes.specs.Keys.{same_key}
 use Rattle.dac_wishes.specs.laws.Keys.{keys_total, exact_keys, same_key_itself}
 use Rattle.dac_wishes.specs.Writes.{Write, write, same_dot, dots_at}
-use Rattle.dac_wishes.specs.laws.KeyedWrites.{same_dot_itself}
 use Rattle.dac_wishes.specs.laws.Writes.{contains-dots_at}
 use Rattle.dac_wishes.specs.WishesValue.{WishesValue, SomeStands, may_stand}
 use Rattle.dac_wishes.specs.laws.WishesValue.{standing-join}
 use Rattle.dac_wishes.specs.PermissionsValue.{PermissionsValue, IsPermitted, join_permissions}
 use Rattle.dac_wishes.specs.DrainsValue.{DrainsValue, IsDrained, origin}
-use Rattle.dac_operations.specs.declared.act.Act.{Act}
 use Rattle.dac_operations.specs.declared.act.Act.TheVariants.{Start as Starts, Stop as Stops, Permit as Permits, Drain as Drains, Down as Downs}
-use Rattle.dac_operations.specs.Operations.{Operation}
-use Rattle.dac_meaning.specs.StateValue.{StateValue, IsState, join, wishes_of, permissions_of, drains_of}
-use Rattle.dac_meaning.specs.Meaning.{meaning_of, life_said, permit_vote, drain_vote}
+use Rattle.dac_meaning.specs.StateValue.{wishes_of, drains_of}
+use Rattle.dac_meaning.specs.Meaning.{life_said, permit_vote, drain_vote}
 use Rattle.dac_meaning.specs.laws.Chained.{greatest-one}
 use Rattle.dac_meaning.specs.laws.StateLaws.{lives-join, wishes-join, permissions-join, drains-join}
 use Rattle.dac_meaning.specs.laws.Readers.{starts-meaning, permits-meaning, drains-meaning, lives-meaning}
-use Rattle.dac_placement.specs.Placement.{IsEligible, RunsAt, key_at}
-use Rattle.dac_commands.specs.Commands.{standing_starts, standing_permits, standing_drains, next_operation, claim_act}
+use Rattle.dac_placement.specs.Placement.{IsEligible, RunsAt}
+use Rattle.dac_commands.specs.Commands.{standing_starts, standing_permits, standing_drains}
 use Rattle.dac_commands.specs.laws.Standing.{permits_at-has, drains_at-has}
 use Rattle.dac_ticks.specs.laws.Claimed.{claim_alike, own_claim}
 use Rattle.dac_ticks.specs.laws.Voted.{flag_by, next_dot, next_is_fresh, replaced_is_known, IsVote, stands_at_next, each_says_so}

@@ -1,28 +1,17 @@
 -- An application claimed in a sweep stays with its claimer to the end of the sweep, because later claims are for other
 -- applications and leave everything unchanged on which its verdict depends.
 use Rattle.std.proofs.Common.{◌≡◌, ℕ, ◌+◌, ◌<◌, ◌≤◌, true, false, List, [], ◌∷◌, Option, Some, refl, sym, ap, subst, ◌∙◌, arith, inl, inr}
-use Rattle.std.specs.Prelude.{◌==◌}
-use Rattle.std.specs.Option.{is_some, option_map_or}
+use Rattle.dac_ticks.specs.laws.Common.{◌==◌, option_map_or, and_parts, false≢true, eqb-true, eq-eqb, NodeId, AppId, Origin, Table, node_count, How, IsLive, Lives, Operation, StateValue, IsState, join, meaning_of, IsVerdict, candidate_of, verdict_of, verdict_in_words, Noted, next_operation, Sweep, sweep_from, claiming, claim_of, swept, sweep_over}
+use Rattle.std.specs.Option.{is_some}
 use Rattle.std.specs.FinMap as map
-use Rattle.std.proofs.lemmas.Bool.{and_parts, true≢false, false≢true, eqb-true, eq-eqb}
-use Rattle.dac_base.specs.declared.NodeId.{NodeId}
-use Rattle.dac_base.specs.declared.AppId.{AppId}
-use Rattle.dac_origins.specs.declared.dot.Origin.{Origin}
-use Rattle.dac_config.specs.Table.{Table, node_count}
-use Rattle.dac_chains.specs.declared.claims.How.{How}
+use Rattle.std.proofs.lemmas.Bool.{true≢false}
 use Rattle.dac_chains.specs.declared.claims.Claim.{Claim as ClaimValue}
-use Rattle.dac_chains.specs.Lives.{IsLive, Lives}
 use Rattle.dac_operations.specs.declared.act.Act.TheVariants.{Claim}
-use Rattle.dac_operations.specs.Operations.{Operation}
-use Rattle.dac_meaning.specs.StateValue.{StateValue, IsState, join}
-use Rattle.dac_meaning.specs.Meaning.{IsOperationOf, meaning_of}
+use Rattle.dac_meaning.specs.Meaning.{IsOperationOf}
 use Rattle.dac_meaning.specs.laws.Members.{In-append_cases}
-use Rattle.dac_placement.specs.Placement.{IsUp, IsVerdict, candidate_of, verdict_of}
+use Rattle.dac_placement.specs.Placement.{IsUp}
 use Rattle.dac_placement.specs.laws.Tests.{runs_is}
-use Rattle.dac_placement.specs.laws.Judged.{verdict_in_words}
-use Rattle.dac_decide.specs.declared.waits.Noted.{Noted}
-use Rattle.dac_commands.specs.Commands.{next_operation, next_term}
-use Rattle.dac_ticks.specs.Ticks.{Sweep, sweep_from, claiming, claim_of, swept, sweep_over}
+use Rattle.dac_commands.specs.Commands.{next_term}
 use Rattle.dac_ticks.specs.Staying.{ClaimsApp, ClaimsAreLater, ClaimsStay}
 use Rattle.dac_ticks.specs.laws.Sweeping.{swept_by}
 use Rattle.dac_ticks.specs.laws.Words.{own_if}

@@ -1,24 +1,13 @@
 -- One application of a sweep, and the end of a sweep.
 use Rattle.std.proofs.Common.{◌≡◌, ℕ, ◌+◌, ◌<◌, ◌≤◌, Bool, true, false, cond, List, [], ◌∷◌, Option, refl, sym, ap, subst, ◌∙◌, arith, zero, suc, add-one}
+use Rattle.dac_ticks.specs.laws.Common.{AppId, Origin, Operation, over_list, StateValue, join, meaning_of, Table, app_count, Verdict, Failover, Halted, Move, Kept, Nobody, verdict_of, Noted, KnowsOwnBoot, greatest_counter, terms_used_up, Sweep, sweep_from, passing, claiming, claimed_by, claim_of, is_mine, swept, sweep_over, sweep_of, found_of}
 use Rattle.std.specs.Prelude.{map as list_map}
 use Rattle.std.specs.List.{range_with_len}
 use Rattle.std.proofs.lemmas.List.Sums.{fold-append}
 use Rattle.std.proofs.lemmas.List.FromFn.{map-range_with_len_more}
-use Rattle.dac_base.specs.declared.AppId.{AppId}
-use Rattle.dac_origins.specs.declared.dot.Origin.{Origin}
-use Rattle.dac_operations.specs.Operations.{Operation, over_list}
-use Rattle.dac_meaning.specs.StateValue.{StateValue, join}
-use Rattle.dac_meaning.specs.Meaning.{meaning_of}
-use Rattle.dac_config.specs.Table.{Table, app_count}
-use Rattle.dac_placement.specs.declared.verdicts.Verdict.{Verdict}
-use Rattle.dac_placement.specs.declared.verdicts.Verdict.TheVariants.{Start, Failover, Halted, Move, Takeover, Kept, Nobody}
-use Rattle.dac_placement.specs.Placement.{verdict_of}
-use Rattle.dac_decide.specs.declared.waits.Noted.{Noted}
-use Rattle.dac_commands.specs.Commands.{KnowsOwnBoot, greatest_counter}
-use Rattle.dac_commands.specs.Causes.{terms_used_up}
-use Rattle.dac_ticks.specs.Ticks.{Sweep, sweep_from, passing, claiming, claimed_by, claim_of, is_mine, swept, sweep_over, sweep_of}
+use Rattle.dac_placement.specs.declared.verdicts.Verdict.TheVariants.{Start, Takeover}
 use Rattle.dac_ticks.specs.declared.sweeping.Found.TheVariants.{Left, Passed, Claimed}
-use Rattle.dac_ticks.specs.SweepSoFar.{found_of, added}
+use Rattle.dac_ticks.specs.SweepSoFar.{added}
 use Rattle.dac_ticks.specs.laws.Counters.{counter_after, knows_after}
 
 -- ---- applications by their numbers

@@ -1,20 +1,15 @@
 -- An accepted command takes effect.
 use Rattle.std.proofs.Common.{◌≡◌, ◌↔◌, ℕ, true, false, [], ◌∷◌, refl, sym, subst}
+use Rattle.dac_ticks.specs.laws.Common.{NodeId, Origin, Table, default_permission, IsLive, StateValue, join, meaning_of, key_at, is_up, is_eligible, eligible_is, next_operation}
 use Rattle.std.proofs.lemmas.Bool.{not-false}
-use Rattle.dac_base.specs.declared.NodeId.{NodeId}
-use Rattle.dac_origins.specs.declared.dot.Origin.{Origin}
-use Rattle.dac_config.specs.Table.{Table, default_permission}
-use Rattle.dac_chains.specs.Lives.{IsLive}
 use Rattle.dac_chains.specs.declared.lives.LifeAct.TheVariants.{Other as NoLife}
 use Rattle.dac_chains.specs.declared.claims.How.TheVariants.{Takeover as TakenOver}
 use Rattle.dac_operations.specs.Seen.{seen_life}
-use Rattle.dac_meaning.specs.StateValue.{StateValue, join}
-use Rattle.dac_meaning.specs.Meaning.{meaning_of}
-use Rattle.dac_placement.specs.Placement.{key_at, IsPermittedAt, IsStartedAt, IsDrainedAt, is_up, is_eligible, runner_of}
-use Rattle.dac_placement.specs.laws.Tests.{up_is, eligible_is}
+use Rattle.dac_placement.specs.Placement.{IsPermittedAt, IsStartedAt, IsDrainedAt, runner_of}
+use Rattle.dac_placement.specs.laws.Tests.{up_is}
 use Rattle.dac_events.specs.declared.Command.{Command}
 use Rattle.dac_events.specs.declared.Command.TheVariants.{Down, Permit, Start, Stop, Drain, Takeover}
-use Rattle.dac_commands.specs.Commands.{live_key, live_or_none, next_operation, act_of}
+use Rattle.dac_commands.specs.Commands.{live_key, live_or_none, act_of}
 use Rattle.dac_commands.specs.Causes.{not_live}
 use Rattle.dac_commands.specs.laws.Written.{none_is, all_causes, live_there}
 use Rattle.dac_ticks.specs.TakesEffect.{AtLive, CommandsTakeEffect}

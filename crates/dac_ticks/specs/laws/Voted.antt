@@ -1,34 +1,21 @@
 -- A vote that replaces all standing ones at its key. After it is joined to the state in which it is issued, it stands
 -- there, and whatever stands there has the same value.
 use Rattle.std.proofs.Common.{◌≡◌, ℕ, ◌+◌, ◌≤◌, Bool, true, false, not, cond, ◌&&◌, ◌||◌, [], ◌∷◌, Option, None, Some, refl, sym, ap, ◌∙◌, arith, true≢false}
+use Rattle.dac_ticks.specs.laws.Common.{eq_by_cmp, is_eq, false≢true, false_from_ne_true, tied_itself, Origin, Dot, dot, dot_cmp, has_key, Flag, same_dot_itself, Act, over_list, StateValue, meaning_of, greatest_counter, next_operation, counter-greatest}
 use Rattle.std.specs.Prelude.{is_some}
 use Rattle.std.specs.declared.cmp.Ordering.{Ordering}
-use Rattle.std.specs.Ordering.{eq_by_cmp, is_eq}
 use Rattle.std.specs.Cmp.{IsTotalOrder}
 use Rattle.std.specs.FinSet as set
 use Rattle.std.specs.FinMap as map
-use Rattle.std.proofs.lemmas.Bool.{false≢true, false_from_ne_true}
-use Rattle.std.proofs.lemmas.Cmp.{tied_itself}
 use Rattle.std.proofs.lemmas.Map.Lookups.{CmpEqualImpliesEq}
-use Rattle.dac_origins.specs.declared.dot.Origin.{Origin}
-use Rattle.dac_origins.specs.declared.dot.Dot.{Dot}
-use Rattle.dac_origins.specs.Dots.{dot, dot_cmp}
-use Rattle.dac_origins.specs.Keys.{has_key}
-use Rattle.dac_lattice.specs.declared.flags.Flag.{Flag}
 use Rattle.dac_lattice.specs.declared.flags.Flag.TheVariants.{Up, Down}
 use Rattle.dac_lattice.specs.Flags.{join_flags}
 use Rattle.dac_store.specs.AtDot.{join_at}
 use Rattle.dac_wishes.specs.KeyedWrites.{KeyedWrite, keyed_write, same_dot}
-use Rattle.dac_wishes.specs.laws.KeyedWrites.{same_dot_itself}
 use Rattle.dac_wishes.specs.Votes.{Votes, VotesValue, AreVotes, joined_vote, join_votes}
 use Rattle.dac_wishes.specs.laws.Votes.{standing-join_votes}
-use Rattle.dac_operations.specs.declared.act.Act.{Act}
-use Rattle.dac_operations.specs.Operations.{over_list}
-use Rattle.dac_meaning.specs.StateValue.{StateValue}
-use Rattle.dac_meaning.specs.Meaning.{meaning_of, is_same, flag_written, vote_says, vote_at}
+use Rattle.dac_meaning.specs.Meaning.{is_same, flag_written, vote_says, vote_at}
 use Rattle.dac_meaning.specs.laws.Readers.{known-meaning}
-use Rattle.dac_commands.specs.Commands.{greatest_counter, next_operation}
-use Rattle.dac_commands.specs.laws.Counters.{counter-greatest}
 
 -- the flag of a vote of this value, if `down` is the value that becomes Down
 abbrev pub flag_by : Bool → Bool → Flag

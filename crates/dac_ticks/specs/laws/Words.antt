@@ -1,39 +1,23 @@
 -- A sweep agrees with the words.
 use Rattle.std.proofs.Common.{◌≡◌, ℕ, ◌+◌, ◌<◌, ◌≤◌, Bool, true, false, cond, List, [], ◌∷◌, ◌++◌, Option, None, Some, length, refl, sym, ap, subst, ◌∙◌, arith, append-nil, append_assoc, inl, inr}
-use Rattle.std.specs.Prelude.{◌==◌}
-use Rattle.std.specs.Option.{is_some, option_map, option_map_or}
+use Rattle.dac_ticks.specs.laws.Common.{◌==◌, option_map_or, false≢true, false_from_ne_true, and_parts, and_from, eqb-true, eq-eqb, MAX_COUNTER, NodeId, AppId, Origin, How, Operation, StateValue, join, meaning_of, Table, app_count, Verdict, Failover, Halted, Move, Kept, Nobody, apps_of, candidate_of, holder_of, is_eligible, IsVerdict, verdict_of, eligible_is, verdict_in_words, Noted, waits_of, greatest_counter, claim_act, terms_used_up, Sweep, sweep_from, passing, claiming, claimed_by, claim_of, is_mine, sweep_over, sweep_of, found_of}
+use Rattle.std.specs.Option.{is_some, option_map}
 use Rattle.std.specs.FinMap as map
-use Rattle.std.proofs.lemmas.Bool.{true≢false, false≢true, false_from_ne_true, and_parts, and_from, eqb-true, eq-eqb}
+use Rattle.std.proofs.lemmas.Bool.{true≢false}
 use Rattle.std.proofs.lemmas.List.FromFn.{length-map-range_with_len}
-use Rattle.dac_base.specs.declared.limits.TheConstants.{MAX_COUNTER}
-use Rattle.dac_base.specs.declared.NodeId.{NodeId}
-use Rattle.dac_base.specs.declared.AppId.{AppId}
-use Rattle.dac_origins.specs.declared.dot.Origin.{Origin}
 use Rattle.dac_chains.specs.declared.claims.Claim.{Claim}
-use Rattle.dac_chains.specs.declared.claims.How.{How}
 use Rattle.dac_chains.specs.declared.claims.How.TheVariants.{Normal, Failover as FailedOver, Takeover as TakenOver}
-use Rattle.dac_operations.specs.Operations.{Operation}
-use Rattle.dac_meaning.specs.StateValue.{StateValue, join}
-use Rattle.dac_meaning.specs.Meaning.{meaning_of}
-use Rattle.dac_config.specs.Table.{Table, app_count}
-use Rattle.dac_placement.specs.declared.verdicts.Verdict.{Verdict}
-use Rattle.dac_placement.specs.declared.verdicts.Verdict.TheVariants.{Start, Failover, Halted, Move, Takeover, Kept, Nobody}
-use Rattle.dac_placement.specs.Placement.{apps_of, candidate_of, holder_of, is_eligible, IsVerdict, verdict_of}
-use Rattle.dac_placement.specs.laws.Tests.{eligible_is}
-use Rattle.dac_placement.specs.laws.Judged.{verdict_in_words}
+use Rattle.dac_placement.specs.declared.verdicts.Verdict.TheVariants.{Start, Takeover}
 use Rattle.dac_placement.specs.laws.Rests.{candidate_is}
-use Rattle.dac_decide.specs.declared.waits.Noted.{Noted}
-use Rattle.dac_decide.specs.FailoverWait.{Note, IsHeldAt, is_due_by, noted_at, noted_of, waits_of}
+use Rattle.dac_decide.specs.FailoverWait.{Note, IsHeldAt, is_due_by, noted_at, noted_of}
 use Rattle.dac_decide.specs.laws.Due.{due_to_words}
 use Rattle.dac_decide.specs.laws.Kept.{kept_is}
-use Rattle.dac_commands.specs.Commands.{greatest_counter, claim_act}
-use Rattle.dac_commands.specs.Causes.{terms_used_up, used_up}
+use Rattle.dac_commands.specs.Causes.{used_up}
 use Rattle.dac_commands.specs.Written.{IsNextClaim}
 use Rattle.dac_commands.specs.laws.Counters.{next_of_is}
 use Rattle.dac_commands.specs.laws.Terms.{terms_used_up_is, next_claim_is}
-use Rattle.dac_ticks.specs.Ticks.{Sweep, sweep_from, passing, claiming, held_by, claimed_by, claim_of, is_mine, sweep_over, sweep_of}
+use Rattle.dac_ticks.specs.Ticks.{held_by}
 use Rattle.dac_ticks.specs.declared.sweeping.Found.TheVariants.{Left, Passed, Claimed}
-use Rattle.dac_ticks.specs.SweepSoFar.{found_of}
 use Rattle.dac_ticks.specs.InWords.{IsMine, IsNotMine, ComesBy, IsClaimOf, IsSweep, HasRoom}
 use Rattle.dac_ticks.specs.laws.Counters.{counter_after}
 use Rattle.dac_ticks.specs.laws.Sweeping.{AreBelow, numbered, apps_below, claim_is_bare, swept_by}

@@ -2,23 +2,11 @@
 -- depends only on earlier records of its node, and a message shipped by any run of prefixes is shipped by some prefix,
 -- so a record that can be placed stays placeable.
 use Rattle.std.proofs.Common.{◌≡◌, ℕ, zero, suc, true, false, cond, inl, inr, ◌⊎◌, List, [], ◌∷◌, ◌++◌, Option, Some, None, Ok, map, nat_eq, refl, sym, ap, subst, ◌∙◌, true≢false, eq-eqb, append-nil, append_assoc}
+use Rattle.dac_weave.specs.laws.Common.{exact_unsigned_eq, NodeId, Table, Event, Message, Operation, WorldEvent, What, off_after, ModelWorld, start, happens, event_of, counted, Record, JournalValue, Seen, seen_of, seen_at, seen_in, as_seen, journal_seen, At, IsPrefixOf, ReproducesPrefixes, run_from, node_step, replayed}
 use Rattle.std.proofs.lemmas.List.{append_cancel_left}
-use Rattle.std.proofs.lemmas.Map.Views.{exact_unsigned_eq}
-use Rattle.dac_base.specs.declared.NodeId.{NodeId}
-use Rattle.dac_config.specs.Table.{Table}
-use Rattle.dac_messages.specs.declared.event.Event.{Event}
-use Rattle.dac_messages.specs.declared.message.Message.{Message}
-use Rattle.dac_operations.specs.Operations.{Operation}
-use Rattle.dac_events.specs.declared.WorldEvent.{WorldEvent}
-use Rattle.dac_events.specs.declared.What.{What}
 use Rattle.dac_events.specs.declared.What.TheVariants.{Boot as Boots, Crash as Crashes, Command as Tells, Tick as Ticks, Ship as Ships, Deliver, Hand}
-use Rattle.dac_journal.specs.Histories.{off_after}
-use Rattle.dac_journal.specs.ModelWorld.{ModelWorld, start, happens, event_of, heard_by, handed_by, counted}
-use Rattle.dac_journal.specs.declared.record.Record.{Record}
-use Rattle.dac_journal.specs.Journals.{JournalValue}
-use Rattle.dac_weave.specs.Woven.{Seen, seen_of, seen_at, seen_in, as_seen, journal_seen, At, IsPrefixOf, HasNone, ReproducesPrefixes}
-use Rattle.dac_journal.specs.EveryList.{run_from}
-use Rattle.dac_weave.specs.Replay.{node_step, replayed}
+use Rattle.dac_journal.specs.ModelWorld.{heard_by, handed_by}
+use Rattle.dac_weave.specs.Woven.{HasNone}
 use Rattle.dac_weave.specs.laws.Members.{IsMember, in-from_counted, counted-from_in}
 use Rattle.dac_weave.specs.laws.Runs.{node-after, count-after, seen-append, steps_node, outs, outs-front, sent, from, grows, shipped_of, issued_of}
 

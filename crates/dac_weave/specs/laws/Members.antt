@@ -1,8 +1,6 @@
 -- Members and prefixes of lists.
 use Rattle.std.proofs.Common.{◌≡◌, ℕ, zero, suc, ◌+◌, ◌-◌, Bool, true, false, cond, inl, inr, ◌⊎◌, List, [], ◌∷◌, ◌++◌, Some, None, nat_eq, refl, sym, ap, ◌∙◌, arith}
-use Rattle.std.specs.List.{slice_get}
-use Rattle.std.proofs.lemmas.Map.Views.{exact_unsigned_eq}
-use Rattle.dac_journal.specs.ModelWorld.{counted}
+use Rattle.dac_weave.specs.laws.Common.{slice_get, exact_unsigned_eq, counted}
 
 abbrev pub IsMember : {X : Type 0} → X → List X → Type 0
 IsMember x [] = ⊥

@@ -1,29 +1,16 @@
 -- The records of a run are its seen events without those that name no node, message or operation. Dropping these events
 -- from the list changes no record.
 use Rattle.std.proofs.Common.{◌≡◌, ℕ, Bool, true, false, cond, inl, inr, List, [], ◌∷◌, ◌++◌, Option, Some, None, Result, Ok, Err, map, nat_eq, refl, sym, ap, subst, ◌∙◌}
+use Rattle.dac_weave.specs.laws.Common.{cases_eq, NodeId, Table, WorldEvent, Event, Reply, Refusal, WorldFault, NoSuchNode, ModelNode, model_step, ModelWorld, WorldStepped, happens, happens_by, answered_by, event_of, start, Record, JournalValue, entry_of, Seen, seen_of, seen_at, as_seen, as_world_result, Gives, IsRecorded}
 use Rattle.std.specs.Prelude.{nat_lt}
-use Rattle.std.proofs.lemmas.Bool.{cases_eq, ne_eqb}
-use Rattle.dac_base.specs.declared.NodeId.{NodeId}
-use Rattle.dac_config.specs.Table.{Table}
-use Rattle.dac_events.specs.declared.WorldEvent.{WorldEvent}
-use Rattle.dac_messages.specs.declared.event.Event.{Event}
-use Rattle.dac_messages.specs.declared.reply.Reply.{Reply}
-use Rattle.dac_events.specs.declared.refusal.Refusal.{Refusal}
+use Rattle.std.proofs.lemmas.Bool.{ne_eqb}
 use Rattle.dac_events.specs.declared.refusal.Refusal.TheVariants.{NoMemory}
-use Rattle.dac_journal.specs.WorldFault.{WorldFault}
-use Rattle.dac_journal.specs.WorldFault.TheVariants.{NoSuchNode}
-use Rattle.dac_journal.specs.ModelNode.{ModelNode}
-use Rattle.dac_journal.specs.Step.{model_step}
 use Rattle.dac_journal.specs.Histories.{Entry}
-use Rattle.dac_journal.specs.ModelWorld.{ModelWorld, WorldStepped, happens, happens_by, answered_by, event_of, start, out_of_memory}
+use Rattle.dac_journal.specs.ModelWorld.{out_of_memory}
 use Rattle.dac_journal.specs.Records.{own_answer, recorded, records_of, records_at}
 use Rattle.dac_journal.specs.EveryList.{answers_of}
 use Rattle.dac_journal.specs.laws.Memory.{enough_memory}
 use Rattle.dac_journal.specs.laws.Runs.{went_as_answered}
-use Rattle.dac_journal.specs.declared.record.Record.{Record}
-use Rattle.dac_journal.specs.Journals.{JournalValue, entry_of}
-use Rattle.dac_weave.specs.Woven.{Seen, seen_of, seen_at, as_seen, as_world_result, Gives}
-use Rattle.dac_weave.specs.Recording.{IsRecorded}
 
 -- ---- small facts
 eq-flip : (a b : ℕ) → nat_eq a b ≡ nat_eq b a

@@ -1,24 +1,9 @@
 -- A run seen from each node: a node's own events determine its state and results, and the events of all nodes determine
 -- the operations and messages.
 use Rattle.std.proofs.Common.{◌≡◌, ℕ, Bool, true, false, cond, inl, inr, ◌⊎◌, List, [], ◌∷◌, ◌++◌, Result, Ok, Err, nat_eq, refl, sym, ap, subst, ◌∙◌, true≢false, eq-eqb, append-nil}
+use Rattle.dac_weave.specs.laws.Common.{exact_unsigned_eq, NodeId, Table, node_count, Event, Reply, Refusal, Message, Operation, WorldEvent, WorldFault, NoSuchNode, ModelNode, model_step, ModelWorld, WorldStepped, happens, happens_by, answered_by, event_of, Seen, seen_of, seen_at, NodeStepped, moved, node_step, node_step_by, replayed, AreAnswered, run_from}
 use Rattle.std.specs.Prelude.{nat_lt}
-use Rattle.std.proofs.lemmas.Map.Views.{exact_unsigned_eq}
-use Rattle.dac_base.specs.declared.NodeId.{NodeId}
-use Rattle.dac_config.specs.Table.{Table, node_count}
-use Rattle.dac_messages.specs.declared.event.Event.{Event}
-use Rattle.dac_messages.specs.declared.reply.Reply.{Reply}
-use Rattle.dac_events.specs.declared.refusal.Refusal.{Refusal}
-use Rattle.dac_messages.specs.declared.message.Message.{Message}
-use Rattle.dac_operations.specs.Operations.{Operation}
-use Rattle.dac_events.specs.declared.WorldEvent.{WorldEvent}
-use Rattle.dac_journal.specs.WorldFault.{WorldFault}
-use Rattle.dac_journal.specs.WorldFault.TheVariants.{NoSuchNode}
-use Rattle.dac_journal.specs.ModelNode.{ModelNode}
-use Rattle.dac_journal.specs.Step.{model_step}
-use Rattle.dac_journal.specs.ModelWorld.{ModelWorld, WorldStepped, happens, happens_by, answered_by, event_of, issued_by, shipped_by}
-use Rattle.dac_weave.specs.Woven.{Seen, seen_of, seen_at}
-use Rattle.dac_weave.specs.Replay.{NodeStepped, moved, node_step, node_step_by, replayed, AreAnswered}
-use Rattle.dac_journal.specs.EveryList.{run_from}
+use Rattle.dac_journal.specs.ModelWorld.{issued_by, shipped_by}
 use Rattle.dac_weave.specs.laws.Members.{IsMember, In-left, In-right, In-cases, not_true}
 
 -- ---- one event

@@ -1,13 +1,10 @@
 use Rattle.std.proofs.Common.{ℕ, Result, ap, sym, ◌∙◌, subst, Ok}
-use Rattle.std.proofs.lemmas.Result.{err_from_is_err_and}
+use Rattle.dac_config.proofs.Common.{err_from_is_err_and, draft_of, numbered, IsTableOf}
 use Rattle.dac_tokens.specs.declared.fault.FaultKind.{FaultKind}
 use Rattle.dac_tokens.specs.declared.fault.FaultKind.TheVariants.{NoMemory}
 use Rattle.dac_tokens.specs.declared.fault.ConfigFault.{ConfigFault}
 use Rattle.dac_tokens.specs.Gives.{◌>>=◌, OrMemory, Fails}
 use Rattle.dac_shapes.specs.Shape.{draft_at}
-use Rattle.dac_shapes.specs.Views.{draft_of}
-use Rattle.dac_config.specs.Numbering.{numbered}
-use Rattle.dac_config.specs.Says.{IsTableOf}
 use Rattle.dac_config.proofs.Numbers.{numbered_says, table_same}
 use Rattle.dac_config.proofs.read.read_config.Goals as goal
 

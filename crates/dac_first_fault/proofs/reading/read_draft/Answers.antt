@@ -1,5 +1,4 @@
-use Rattle.dac_shapes.specs.Shape.{draft_at}
-use Rattle.dac_shapes.specs.Views.{draft_of}
+use Rattle.dac_shapes.specs.laws.Common.{draft_at, draft_of}
 use Rattle.dac_first_fault.specs.FirstFault.{IsFaultOf}
 use Rattle.dac_first_fault.proofs.Answered.{answered}
 use Rattle.dac_first_fault.proofs.reading.read_draft.Goals as goal

@@ -1,7 +1,6 @@
 use Rattle.std.specs.Prelude.{◌≤◌}
 use Rattle.std.proofs.Common.{subst}
-use Rattle.dac_base.specs.declared.limits.TheConstants.{MAX_NODES, MAX_APPS}
-use Rattle.dac_bytes.specs.declared.version.Version.TheVariants.{Two}
+use Rattle.dac_in_form.proofs.Common.{MAX_NODES, MAX_APPS, Two}
 use Rattle.dac_in_form.proofs.ReadAgain.{each_run_is_read}
 use Rattle.dac_in_form.proofs.laws.runs_are_read.Goals as goal
 

@@ -1,7 +1,5 @@
 use Rattle.std.proofs.Common.{◌++◌, ◌∷◌, [], take, Some, None, sym, ap, ◌∙◌, append-nil}
-use Rattle.dac_crews.specs.Compared.{found}
-use Rattle.dac_live.specs.Asked.{answer_one}
-use Rattle.dac_workers.specs.laws.Found.{found_more}
+use Rattle.dac_live.proofs.Common.{found, answer_one, found_more}
 use Rattle.dac_live.proofs.callers.answers_of.Goals as goal
 use Rattle.dac_live.proofs.callers.answers_of.Goals.{in-Some+in_ok-put_answer-in-Some, in-None}
 

@@ -1,6 +1,5 @@
 use Rattle.std.proofs.Common.{◌≡◌, take}
-use Rattle.dac_crews.specs.Compared.{found}
-use Rattle.dac_live.specs.Asked.{answer_one}
+use Rattle.dac_live.proofs.Common.{found, answer_one}
 use Rattle.dac_live.proofs.callers.answers_of.Given as goal
 
 abbrev pub invariant-loop-i : goal.invariant-loop-i

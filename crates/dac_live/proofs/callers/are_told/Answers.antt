@@ -1,11 +1,8 @@
 use Rattle.std.proofs.Common.{◌≡◌, ◌++◌, ◌∷◌, [], ◌<◌, length, map, take, Some, None, Result, Bor, sym, ap, ◌∙◌, arith, append-nil}
-use Rattle.dac_messages.specs.declared.reply.Reply.{Reply}
-use Rattle.dac_events.specs.declared.refusal.Refusal.{Refusal}
-use Rattle.dac_crews.specs.Compared.{found}
-use Rattle.dac_live.specs.Asked.{answer_one}
+use Rattle.dac_live.proofs.Common.{Reply, Refusal, found, answer_one, found_more}
 use Rattle.std.proofs.lemmas.Bool.{false≢true, eqb-true, eq-eqb}
 use Rattle.std.proofs.lemmas.List.{length-map, take_all}
-use Rattle.dac_workers.specs.laws.Found.{found_more, taken_more, found_within, found_same, found_all}
+use Rattle.dac_workers.specs.laws.Found.{taken_more, found_within, found_same, found_all}
 use Rattle.dac_live.proofs.callers.are_told.Goals as goal
 use Rattle.dac_live.proofs.callers.are_told.Goals.{in-Some+else-next-told+else-not-same_answer, in-None}
 

@@ -1,6 +1,6 @@
 use Rattle.std.proofs.Common.{ℕ, ◌<◌}
+use Rattle.dac_live.proofs.Common.{records_at}
 use Rattle.dac_live.specs.Lines.{NodeHolds}
-use Rattle.dac_phases.specs.Pairs.{records_at}
 use Rattle.dac_live.proofs.callers.strange_node.Given as goal
 
 abbrev pub invariant-loop-i : goal.invariant-loop-i

@@ -1,7 +1,6 @@
 use Rattle.std.proofs.Common.{◌≤◌, length, take}
-use Rattle.std.specs.List.{AllWithin}
-use Rattle.dac_crews.specs.Journals.{beginning_of, EndsAt}
-use Rattle.dac_live.specs.Reads.{IsPageOf}
+use Rattle.dac_live.proofs.Common.{AllWithin, beginning_of, IsPageOf}
+use Rattle.dac_crews.specs.Journals.{EndsAt}
 use Rattle.dac_live.proofs.histories.page_of_history.Given as goal
 
 abbrev pub invariant-loop-i : goal.invariant-loop-i

@@ -1,5 +1,5 @@
 use Rattle.std.proofs.Common.{◌≡◌}
-use Rattle.std.specs.List.{AllWithin}
+use Rattle.dac_live.proofs.Common.{AllWithin}
 use Rattle.dac_live.proofs.histories.passed.Given as goal
 
 abbrev pub invariant-loop-i : goal.invariant-loop-i

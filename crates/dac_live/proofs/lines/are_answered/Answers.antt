@@ -1,9 +1,5 @@
 use Rattle.std.proofs.Common.{List, subst, arith}
-use Rattle.dac_crews.specs.declared.phases.Line.{Line}
-use Rattle.dac_crews.specs.declared.phases.Phase.{Phase}
-use Rattle.dac_live.specs.declared.report.LineAnswer.{LineAnswer}
-use Rattle.dac_live.specs.Lines.{LinesAnswered}
-use Rattle.dac_phases.specs.laws.Spoken.{all_zip_next}
+use Rattle.dac_live.proofs.Common.{Line, Phase, LineAnswer, LinesAnswered, all_zip_next}
 use Rattle.dac_live.proofs.lines.are_answered.Goals as goal
 
 pub loop-i-preserved : goal.loop-i-preserved

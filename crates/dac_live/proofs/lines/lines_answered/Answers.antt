@@ -1,8 +1,5 @@
 use Rattle.std.proofs.Common.{arith}
-use Rattle.dac_crews.specs.declared.phases.Line.{Line}
-use Rattle.dac_live.specs.declared.report.LineAnswer.{LineAnswer}
-use Rattle.dac_live.specs.Lines.{Answers}
-use Rattle.dac_phases.specs.laws.Spoken.{all_zip_next}
+use Rattle.dac_live.proofs.Common.{Line, LineAnswer, Answers, all_zip_next}
 use Rattle.dac_live.proofs.lines.lines_answered.Goals as goal
 
 pub loop-i-preserved : goal.loop-i-preserved

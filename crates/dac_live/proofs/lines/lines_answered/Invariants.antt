@@ -1,5 +1,5 @@
 use Rattle.std.proofs.Common.{take}
-use Rattle.dac_live.specs.Lines.{LinesAnswered}
+use Rattle.dac_live.proofs.Common.{LinesAnswered}
 use Rattle.dac_live.proofs.lines.lines_answered.Given as goal
 
 abbrev pub invariant-loop-i : goal.invariant-loop-i

@@ -1,10 +1,6 @@
 use Rattle.std.proofs.Common.{◌++◌, List, length, zip, flat_map, sym, ap, ◌∙◌, arith}
-use Rattle.std.proofs.lemmas.Slice.Zip.{AllZip-long}
-use Rattle.dac_crews.specs.declared.phases.Line.{Line}
-use Rattle.dac_crews.specs.declared.phases.Phase.{Phase}
-use Rattle.dac_live.specs.declared.report.LineAnswer.{LineAnswer}
-use Rattle.dac_live.specs.Lines.{Answers, LinesAnswered, told_in}
-use Rattle.dac_phases.specs.laws.Spoken.{flat_more, zip_within, zip_at, zip_all, all_zip_at}
+use Rattle.dac_live.proofs.Common.{AllZip-long, Line, Phase, LineAnswer, Answers, LinesAnswered, flat_more, zip_within, zip_at, zip_all, all_zip_at}
+use Rattle.dac_live.specs.Lines.{told_in}
 use Rattle.dac_live.proofs.lines.told_to.Goals as goal
 
 -- the results fit the lines of a phase

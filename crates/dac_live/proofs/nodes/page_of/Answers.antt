@@ -1,8 +1,6 @@
 use Rattle.std.proofs.Common.{List, Bor, Option, map, All, IfSome, subst}
+use Rattle.dac_live.proofs.Common.{Page, beginning_of, IsPageOf, pages_read}
 use Rattle.std.proofs.lemmas.List.Sorted.{All-permutation, IsPermutation-sym}
-use Rattle.dac_pages.specs.declared.page.Page.{Page}
-use Rattle.dac_crews.specs.Journals.{beginning_of}
-use Rattle.dac_live.specs.Reads.{IsPageOf, pages_read}
 use Rattle.dac_live.proofs.nodes.page_of.Goals as goal
 
 pub returns-in-Some-clause-reads : goal.returns-in-Some-clause-reads

@@ -1,7 +1,7 @@
 use Rattle.std.proofs.Common.{List, Bor, map, subst}
+use Rattle.dac_live.proofs.Common.{Page}
 use Rattle.std.specs.List.Sorted.{IsPermutation}
 use Rattle.std.proofs.lemmas.List.Sorted.{IsPermutation-map}
-use Rattle.dac_pages.specs.declared.page.Page.{Page}
 use Rattle.dac_live.proofs.nodes.pages_by_place.Goals as goal
 
 pub returns : goal.returns

@@ -1,7 +1,5 @@
 use Rattle.std.proofs.Common.{◌≡◌, List, Option, length, arith}
-use Rattle.dac_pages.specs.declared.page.Page.{Page}
-use Rattle.dac_crews.specs.declared.phases.Phase.{Phase}
-use Rattle.dac_phases.specs.laws.Spoken.{all_zip_next}
+use Rattle.dac_live.proofs.Common.{Page, Phase, all_zip_next}
 use Rattle.dac_live.proofs.reads.are_noted.Goals as goal
 
 pub loop-i-preserved : goal.loop-i-preserved

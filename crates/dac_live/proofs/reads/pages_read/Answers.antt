@@ -1,9 +1,6 @@
 use Rattle.std.proofs.Common.{◌≡◌, ◌++◌, List, Option, length, zip, flat_map, sym, ap, ◌∙◌, arith}
-use Rattle.std.proofs.lemmas.Slice.Zip.{AllZip-long}
-use Rattle.dac_pages.specs.declared.page.Page.{Page}
-use Rattle.dac_crews.specs.declared.phases.Phase.{Phase}
+use Rattle.dac_live.proofs.Common.{AllZip-long, Page, Phase, flat_more, zip_within, zip_at, zip_all, all_zip_at}
 use Rattle.dac_live.specs.Reads.{pages_in}
-use Rattle.dac_phases.specs.laws.Spoken.{flat_more, zip_within, zip_at, zip_all, all_zip_at}
 use Rattle.dac_live.proofs.reads.pages_read.Goals as goal
 
 -- the reads fit the lines of a phase

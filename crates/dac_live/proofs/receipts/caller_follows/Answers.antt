@@ -1,15 +1,8 @@
 use Rattle.std.proofs.Common.{◌≡◌, ◌<◌, ◌+◌, ℕ, List, Option, length, take, zip, flat_map, sym, ap, ◌∙◌, subst, arith}
-use Rattle.std.proofs.lemmas.Slice.Zip.{AllZip-long}
-use Rattle.dac_pages.specs.declared.page.Page.{Page}
-use Rattle.dac_crews.specs.declared.phases.Line.{Line}
-use Rattle.dac_crews.specs.declared.phases.Phase.{Phase}
-use Rattle.dac_live.specs.declared.report.LineAnswer.{LineAnswer}
-use Rattle.dac_crews.specs.Journals.{calls_of}
-use Rattle.dac_live.specs.Lines.{Answers, LinesAnswered}
+use Rattle.dac_live.proofs.Common.{AllZip-long, Page, Line, Phase, LineAnswer, calls_of, Answers, LinesAnswered, Follows, flat_more, zip_within, zip_at, zip_all, all_zip_at}
 use Rattle.dac_live.specs.Reads.{own_in, own_of}
-use Rattle.dac_live.specs.Following.{spans_from, Follows}
+use Rattle.dac_live.specs.Following.{spans_from}
 use Rattle.dac_live.proofs.Followed.{follows_append, follows_receipts}
-use Rattle.dac_phases.specs.laws.Spoken.{flat_more, zip_within, zip_at, zip_all, all_zip_at}
 use Rattle.dac_live.proofs.receipts.caller_follows.Goals as goal
 
 -- the results fit the lines of a phase

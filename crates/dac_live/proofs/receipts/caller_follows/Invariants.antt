@@ -1,9 +1,6 @@
 use Rattle.std.proofs.Common.{List, Option, take, zip, flat_map}
-use Rattle.dac_pages.specs.declared.page.Page.{Page}
-use Rattle.dac_crews.specs.declared.phases.Phase.{Phase}
-use Rattle.dac_live.specs.declared.report.LineAnswer.{LineAnswer}
+use Rattle.dac_live.proofs.Common.{Page, Phase, LineAnswer, Follows}
 use Rattle.dac_live.specs.Reads.{own_in}
-use Rattle.dac_live.specs.Following.{Follows}
 use Rattle.dac_live.proofs.receipts.caller_follows.Given as goal
 
 abbrev pub invariant-loop-i : goal.invariant-loop-i

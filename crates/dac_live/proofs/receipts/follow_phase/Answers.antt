@@ -1,12 +1,8 @@
 use Rattle.std.proofs.Common.{◌<◌, List, Option, length, take, zip, sym, ap, subst, arith}
+use Rattle.dac_live.proofs.Common.{Page, LineAnswer, found, Follows, zip_within, zip_at, zip_all}
 use Rattle.std.specs.Prelude.{option_to_list}
-use Rattle.dac_pages.specs.declared.page.Page.{Page}
-use Rattle.dac_live.specs.declared.report.LineAnswer.{LineAnswer}
-use Rattle.dac_crews.specs.Compared.{found}
 use Rattle.dac_live.specs.Reads.{own_one}
-use Rattle.dac_live.specs.Following.{Follows}
 use Rattle.dac_live.proofs.Followed.{follows_append, found_next}
-use Rattle.dac_phases.specs.laws.Spoken.{zip_within, zip_at, zip_all}
 use Rattle.dac_live.proofs.receipts.follow_phase.Goals as goal
 
 pub loop-i-preserved : goal.loop-i-preserved

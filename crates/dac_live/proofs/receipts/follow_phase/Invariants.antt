@@ -1,7 +1,6 @@
 use Rattle.std.proofs.Common.{take, zip}
-use Rattle.dac_crews.specs.Compared.{found}
+use Rattle.dac_live.proofs.Common.{found, Follows}
 use Rattle.dac_live.specs.Reads.{own_one}
-use Rattle.dac_live.specs.Following.{Follows}
 use Rattle.dac_live.proofs.receipts.follow_phase.Given as goal
 
 abbrev pub invariant-loop-i : goal.invariant-loop-i

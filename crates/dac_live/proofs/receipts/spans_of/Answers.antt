@@ -1,7 +1,6 @@
 use Rattle.std.proofs.Common.{◌≡◌, ◌+◌, ◌++◌, ◌∷◌, [], length, take, sym, ap, ◌∙◌, arith}
+use Rattle.dac_live.proofs.Common.{calls_of, receipt_after}
 use Rattle.std.proofs.lemmas.List.{take_all}
-use Rattle.dac_crews.specs.Journals.{calls_of}
-use Rattle.dac_live.specs.Reads.{receipt_after}
 use Rattle.dac_live.proofs.Followed.{fronts_from, calls_other, last_mine, all_mine, spans_end}
 use Rattle.dac_live.proofs.receipts.spans_of.Goals as goal
 use Rattle.dac_live.proofs.receipts.spans_of.Goals.{then-one-seat+in_ok-push, else-one-seat}

@@ -1,6 +1,5 @@
 use Rattle.std.proofs.Common.{◌≡◌, take}
-use Rattle.dac_crews.specs.Journals.{calls_of}
-use Rattle.dac_live.specs.Reads.{receipt_after}
+use Rattle.dac_live.proofs.Common.{calls_of, receipt_after}
 use Rattle.dac_live.proofs.Followed.{fronts_from}
 use Rattle.dac_live.proofs.receipts.spans_of.Given as goal
 

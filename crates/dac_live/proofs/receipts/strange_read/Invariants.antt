@@ -1,5 +1,5 @@
 use Rattle.std.proofs.Common.{ℕ, ◌<◌}
-use Rattle.dac_phases.specs.Pairs.{records_at}
+use Rattle.dac_live.proofs.Common.{records_at}
 use Rattle.dac_live.specs.Reads.{NodeFollows}
 use Rattle.dac_live.proofs.receipts.strange_read.Given as goal
 

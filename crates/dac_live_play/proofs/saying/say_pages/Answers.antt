@@ -1,4 +1,4 @@
-use Rattle.std.proofs.Common.{◌≡◌, ◌<◌, rules, arith, get_or, map, sym, ap, ◌∙◌, true≢false}
+use Rattle.std.proofs.Common.{◌<◌, rules, arith, get_or, map, sym, ap, ◌∙◌, true≢false}
 use Rattle.std.specs.List.{range_with_len}
 use Rattle.std.proofs.lemmas.List.FromFn.{get_or-map-range_with_len, length-map-range_with_len}
 use Rattle.dac_config.specs.Table.{node_count}

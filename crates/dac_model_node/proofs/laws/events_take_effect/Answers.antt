@@ -1,7 +1,5 @@
 use Rattle.std.proofs.Common.{subst, sym}
-use Rattle.dac_messages.specs.declared.reply.Reply.{Reply}
-use Rattle.dac_model_node.specs.NodeValue.{NodeValue}
-use Rattle.dac_model_node.specs.Effect.{HasEffect}
+use Rattle.dac_model_node.specs.laws.Common.{Reply, NodeValue, HasEffect}
 use Rattle.dac_model_node.specs.laws.Effect.{takes_effect}
 use Rattle.dac_model_node.proofs.laws.events_take_effect.Goals as goal
 

@@ -1,4 +1,4 @@
-use Rattle.dac_model_world.specs.ModelWorld.{start}
+use Rattle.dac_model_world.specs.laws.Common.{start}
 use Rattle.dac_model_world.specs.laws.EveryList.{is_enough, runs_each_list, own_ran, each_list_converges}
 use Rattle.dac_model_world.proofs.laws.every_list_converges.Goals as goal
 

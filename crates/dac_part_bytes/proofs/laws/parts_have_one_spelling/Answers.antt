@@ -1,5 +1,5 @@
 use Rattle.std.proofs.Common.{arith}
-use Rattle.dac_config.specs.Table.{node_count}
+use Rattle.dac_part_bytes.proofs.Common.{node_count}
 use Rattle.dac_part_bytes.proofs.PartCodecs.{part_codecs}
 use Rattle.dac_part_bytes.proofs.laws.parts_have_one_spelling.Goals as goal
 

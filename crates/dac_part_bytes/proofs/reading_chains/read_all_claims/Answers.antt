@@ -1,7 +1,6 @@
 use Rattle.std.proofs.Common.{ap, Ok}
-use Rattle.dac_base.specs.laws.Ids.{apps_total, exact_apps}
-use Rattle.dac_bytes.specs.Reading.{counted_at}
-use Rattle.dac_part_bytes.specs.Reading.{all_claims_at, claims_in_order_at}
+use Rattle.dac_part_bytes.proofs.Common.{apps_total, exact_apps, counted_at, all_claims_at}
+use Rattle.dac_part_bytes.specs.Reading.{claims_in_order_at}
 use Rattle.dac_part_bytes.proofs.Entries.{map_of_entries}
 use Rattle.dac_part_bytes.proofs.reading_chains.read_all_claims.Goals as goal
 

@@ -1,7 +1,6 @@
 use Rattle.std.proofs.Common.{ap, Ok}
-use Rattle.dac_base.specs.laws.Ids.{nodes_total, exact_nodes}
-use Rattle.dac_bytes.specs.Reading.{counted_at}
-use Rattle.dac_part_bytes.specs.Reading.{all_lives_at, lives_in_order_at}
+use Rattle.dac_part_bytes.proofs.Common.{nodes_total, exact_nodes, counted_at, all_lives_at}
+use Rattle.dac_part_bytes.specs.Reading.{lives_in_order_at}
 use Rattle.dac_part_bytes.proofs.Entries.{map_of_entries}
 use Rattle.dac_part_bytes.proofs.reading_chains.read_all_lives.Goals as goal
 

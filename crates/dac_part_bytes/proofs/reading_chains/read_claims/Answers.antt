@@ -1,7 +1,5 @@
 use Rattle.std.proofs.Common.{arith}
-use Rattle.dac_bytes.specs.laws.Calls.{found_call, again_call}
-use Rattle.dac_part_bytes.specs.Reading.{all_claims_at}
-use Rattle.dac_part_bytes.specs.Spelling.{claims_bytes}
+use Rattle.dac_part_bytes.proofs.Common.{found_call, again_call, all_claims_at, claims_bytes}
 use Rattle.dac_part_bytes.specs.ChainForm.{AreClaimsInForm}
 use Rattle.dac_part_bytes.proofs.ChainLaws.{claims_takes, claims_again}
 use Rattle.dac_part_bytes.proofs.reading_chains.read_claims.Goals as goal

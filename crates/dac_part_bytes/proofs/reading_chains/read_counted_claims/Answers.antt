@@ -1,16 +1,7 @@
 use Rattle.std.proofs.Common.{Some, None, [], ◌∷◌, ◌++◌, ◌≡◌, sym, ap, ◌∙◌, arith}
-use Rattle.std.proofs.lemmas.Result.{err_from_is_err_and}
+use Rattle.dac_part_bytes.proofs.Common.{err_from_is_err_and, greater, AppId, app_cmp, apps_total, exact_apps, Claim, items_at, ends, goes_on, is_done, Fails-from, claim_at, reaches_more}
 use Rattle.std.specs.FinMap as map
-use Rattle.dac_chains.specs.Greatest.{greater}
-use Rattle.dac_base.specs.declared.AppId.{AppId}
-use Rattle.dac_base.specs.Ids.{app_cmp}
-use Rattle.dac_base.specs.laws.Ids.{apps_total, exact_apps}
-use Rattle.dac_chains.specs.declared.claims.Claim.{Claim}
 use Rattle.dac_chains.specs.Claims.{claim_cmp}
-use Rattle.dac_bytes.specs.Reading.{items_at}
-use Rattle.dac_bytes.specs.laws.Items.{ends, goes_on, is_done, Fails-from}
-use Rattle.dac_part_bytes.specs.Reading.{claim_at}
-use Rattle.dac_bytes.specs.laws.Ascending.{reaches_more}
 use Rattle.dac_part_bytes.proofs.ReadFacts.{claim_next}
 use Rattle.dac_part_bytes.proofs.ReadLoops.{starts_with, no_entries, entries_joined}
 use Rattle.dac_part_bytes.proofs.reading_chains.read_counted_claims.Goals as goal

@@ -1,12 +1,6 @@
 use Rattle.std.proofs.Common.{◌≡◌, ◌-◌, Some, None}
-use Rattle.dac_bytes.specs.Reading.{items_at}
-use Rattle.dac_bytes.specs.Items.{with_front}
+use Rattle.dac_part_bytes.proofs.Common.{items_at, with_front, AppId, app_cmp, Claim, claim_at, Reaches}
 use Rattle.std.specs.FinMap as map
-use Rattle.dac_base.specs.declared.AppId.{AppId}
-use Rattle.dac_base.specs.Ids.{app_cmp}
-use Rattle.dac_chains.specs.declared.claims.Claim.{Claim}
-use Rattle.dac_part_bytes.specs.Reading.{claim_at}
-use Rattle.dac_bytes.specs.laws.Ascending.{Reaches}
 use Rattle.dac_part_bytes.proofs.reading_chains.read_counted_claims.Given as goal
 
 -- the items read so far with those of the rest make the whole, and the previous key is the greatest so far

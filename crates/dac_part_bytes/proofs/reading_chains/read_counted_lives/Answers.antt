@@ -1,16 +1,7 @@
 use Rattle.std.proofs.Common.{Some, None, [], ◌∷◌, ◌++◌, ◌≡◌, sym, ap, ◌∙◌, arith}
-use Rattle.std.proofs.lemmas.Result.{err_from_is_err_and}
+use Rattle.dac_part_bytes.proofs.Common.{err_from_is_err_and, greater, NodeId, node_cmp, nodes_total, exact_nodes, Life, items_at, ends, goes_on, is_done, Fails-from, life_at, reaches_more}
 use Rattle.std.specs.FinMap as map
-use Rattle.dac_chains.specs.Greatest.{greater}
-use Rattle.dac_base.specs.declared.NodeId.{NodeId}
-use Rattle.dac_base.specs.Ids.{node_cmp}
-use Rattle.dac_base.specs.laws.Ids.{nodes_total, exact_nodes}
-use Rattle.dac_chains.specs.declared.lives.Life.{Life}
 use Rattle.dac_chains.specs.Lives.{life_cmp}
-use Rattle.dac_bytes.specs.Reading.{items_at}
-use Rattle.dac_bytes.specs.laws.Items.{ends, goes_on, is_done, Fails-from}
-use Rattle.dac_part_bytes.specs.Reading.{life_at}
-use Rattle.dac_bytes.specs.laws.Ascending.{reaches_more}
 use Rattle.dac_part_bytes.proofs.ReadFacts.{life_next}
 use Rattle.dac_part_bytes.proofs.ReadLoops.{starts_with, no_entries, entries_joined}
 use Rattle.dac_part_bytes.proofs.reading_chains.read_counted_lives.Goals as goal

@@ -1,12 +1,6 @@
 use Rattle.std.proofs.Common.{◌≡◌, ◌-◌, Some, None}
-use Rattle.dac_bytes.specs.Reading.{items_at}
-use Rattle.dac_bytes.specs.Items.{with_front}
+use Rattle.dac_part_bytes.proofs.Common.{items_at, with_front, NodeId, node_cmp, Life, life_at, Reaches}
 use Rattle.std.specs.FinMap as map
-use Rattle.dac_base.specs.declared.NodeId.{NodeId}
-use Rattle.dac_base.specs.Ids.{node_cmp}
-use Rattle.dac_chains.specs.declared.lives.Life.{Life}
-use Rattle.dac_part_bytes.specs.Reading.{life_at}
-use Rattle.dac_bytes.specs.laws.Ascending.{Reaches}
 use Rattle.dac_part_bytes.proofs.reading_chains.read_counted_lives.Given as goal
 
 -- the items read so far with those of the rest make the whole, and the previous key is the greatest so far

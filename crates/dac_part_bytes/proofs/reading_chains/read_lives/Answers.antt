@@ -1,8 +1,5 @@
 use Rattle.std.proofs.Common.{arith}
-use Rattle.dac_config.specs.Table.{node_count}
-use Rattle.dac_bytes.specs.laws.Calls.{found_call, again_call}
-use Rattle.dac_part_bytes.specs.Reading.{all_lives_at}
-use Rattle.dac_part_bytes.specs.Spelling.{lives_bytes}
+use Rattle.dac_part_bytes.proofs.Common.{node_count, found_call, again_call, all_lives_at, lives_bytes}
 use Rattle.dac_part_bytes.specs.ChainForm.{AreLivesInForm}
 use Rattle.dac_part_bytes.proofs.ChainLaws.{lives_takes, lives_again}
 use Rattle.dac_part_bytes.proofs.reading_chains.read_lives.Goals as goal

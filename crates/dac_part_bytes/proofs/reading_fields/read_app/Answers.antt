@@ -1,8 +1,6 @@
 use Rattle.std.specs.Prelude.{◌<◌}
 use Rattle.std.proofs.Common.{arith}
-use Rattle.dac_bytes.specs.laws.Calls.{exact_gives, found_call, again_call}
-use Rattle.dac_part_bytes.specs.Reading.{app_at}
-use Rattle.dac_part_bytes.specs.Spelling.{app_bytes}
+use Rattle.dac_part_bytes.proofs.Common.{exact_gives, found_call, again_call, app_at, app_bytes}
 use Rattle.dac_part_bytes.proofs.Apps.{app_takes, app_again}
 use Rattle.dac_part_bytes.proofs.reading_fields.read_app.Goals as goal
 

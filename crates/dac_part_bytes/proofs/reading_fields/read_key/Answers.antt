@@ -1,8 +1,5 @@
 use Rattle.std.proofs.Common.{arith}
-use Rattle.dac_bytes.specs.laws.Calls.{exact_gives, found_call, again_call}
-use Rattle.dac_part_bytes.specs.KeyedForm.{IsKeyAbove}
-use Rattle.dac_part_bytes.specs.Reading.{key_above_at}
-use Rattle.dac_part_bytes.specs.Spelling.{key_bytes}
+use Rattle.dac_part_bytes.proofs.Common.{exact_gives, found_call, again_call, IsKeyAbove, key_above_at, key_bytes}
 use Rattle.dac_part_bytes.proofs.KeyFields.{key_takes, key_again}
 use Rattle.dac_part_bytes.proofs.reading_fields.read_key.Goals as goal
 

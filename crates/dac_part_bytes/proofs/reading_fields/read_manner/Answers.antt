@@ -1,8 +1,7 @@
 use Rattle.std.specs.Prelude.{Option}
 use Rattle.std.proofs.Common.{arith}
-use Rattle.dac_base.specs.declared.NodeId.{NodeId}
+use Rattle.dac_part_bytes.proofs.Common.{NodeId, exact_gives, found_call, again_call}
 use Rattle.dac_chains.specs.declared.claims.How.{How}
-use Rattle.dac_bytes.specs.laws.Calls.{exact_gives, found_call, again_call}
 use Rattle.dac_part_bytes.specs.ChainForm.{IsConsistentOrigin}
 use Rattle.dac_part_bytes.specs.Reading.{manner_at}
 use Rattle.dac_part_bytes.specs.Spelling.{manner_bytes}

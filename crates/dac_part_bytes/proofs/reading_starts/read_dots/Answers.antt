@@ -1,14 +1,6 @@
 use Rattle.std.proofs.Common.{Some, None, [], ◌∷◌, ◌++◌, ◌≡◌, sym, ap, ◌∙◌, arith}
-use Rattle.std.proofs.lemmas.Result.{err_from_is_err_and}
+use Rattle.dac_part_bytes.proofs.Common.{err_from_is_err_and, Dot, dot_cmp, dots_total, in_order, items_at, ends, goes_on, is_done, Fails-from, known_dot_at, reaches_more}
 use Rattle.std.specs.FinSet as set
-use Rattle.dac_origins.specs.declared.dot.Dot.{Dot}
-use Rattle.dac_origins.specs.Dots.{dot_cmp}
-use Rattle.dac_origins.specs.laws.Dots.{dots_total}
-use Rattle.dac_origins.specs.InOrder.{in_order}
-use Rattle.dac_bytes.specs.Reading.{items_at}
-use Rattle.dac_bytes.specs.laws.Items.{ends, goes_on, is_done, Fails-from}
-use Rattle.dac_part_bytes.specs.Reading.{known_dot_at}
-use Rattle.dac_bytes.specs.laws.Ascending.{reaches_more}
 use Rattle.dac_part_bytes.proofs.ReadFacts.{known_dot_next}
 use Rattle.dac_part_bytes.proofs.ReadLoops.{starts_with, pushed_is, dots_pushed}
 use Rattle.dac_part_bytes.proofs.InOrder.{no_dots}

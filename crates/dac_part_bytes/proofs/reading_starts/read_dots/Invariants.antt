@@ -1,11 +1,5 @@
 use Rattle.std.proofs.Common.{◌≡◌, ◌-◌, Some, None}
-use Rattle.dac_bytes.specs.Reading.{items_at}
-use Rattle.dac_bytes.specs.Items.{with_front}
-use Rattle.dac_origins.specs.declared.dot.Dot.{Dot}
-use Rattle.dac_origins.specs.Dots.{dot_cmp}
-use Rattle.dac_origins.specs.InOrder.{in_order}
-use Rattle.dac_part_bytes.specs.Reading.{known_dot_at}
-use Rattle.dac_bytes.specs.laws.Ascending.{Reaches}
+use Rattle.dac_part_bytes.proofs.Common.{items_at, with_front, Dot, dot_cmp, in_order, known_dot_at, Reaches}
 use Rattle.dac_part_bytes.proofs.reading_starts.read_dots.Given as goal
 
 -- the items read so far with those of the rest make the whole, and the previous dot is the greatest so far

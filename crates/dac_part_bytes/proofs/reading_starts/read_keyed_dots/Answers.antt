@@ -1,7 +1,5 @@
 use Rattle.std.proofs.Common.{ap, Ok}
-use Rattle.dac_origins.specs.laws.Dots.{dots_total, exact_dots}
-use Rattle.dac_origins.specs.laws.InOrder.{in_order-same}
-use Rattle.dac_part_bytes.specs.Reading.{keyed_dots_at}
+use Rattle.dac_part_bytes.proofs.Common.{dots_total, exact_dots, in_order-same, keyed_dots_at}
 use Rattle.dac_part_bytes.proofs.reading_starts.read_keyed_dots.Goals as goal
 
 pub returns : goal.returns

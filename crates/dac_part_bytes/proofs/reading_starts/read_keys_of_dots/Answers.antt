@@ -1,14 +1,5 @@
 use Rattle.std.proofs.Common.{Some, None, [], ◌∷◌, ◌++◌, ◌≡◌, sym, ap, ◌∙◌}
-use Rattle.std.proofs.lemmas.Result.{err_from_is_err_and}
-use Rattle.std.proofs.lemmas.Bool.{and_from}
-use Rattle.std.specs.Prelude.{not}
-use Rattle.dac_wishes.specs.declared.key.Key.{Key}
-use Rattle.dac_wishes.specs.laws.Keys.{keys_total}
-use Rattle.dac_origins.specs.Dots.{Dots}
-use Rattle.dac_bytes.specs.Reading.{items_at}
-use Rattle.dac_bytes.specs.laws.Items.{ends, goes_on, is_done}
-use Rattle.dac_part_bytes.specs.Reading.{keyed_dots_at}
-use Rattle.dac_bytes.specs.laws.Ascending.{reaches_more}
+use Rattle.dac_part_bytes.proofs.Common.{err_from_is_err_and, and_from, not, Key, keys_total, Dots, items_at, ends, goes_on, is_done, keyed_dots_at, reaches_more}
 use Rattle.dac_part_bytes.proofs.ReadFacts.{keyed_dots_next}
 use Rattle.dac_part_bytes.proofs.ReadLoops.{pushed_is}
 use Rattle.dac_part_bytes.proofs.reading_starts.read_keys_of_dots.Goals as goal

@@ -1,11 +1,5 @@
 use Rattle.std.proofs.Common.{◌≡◌, ◌-◌, Some, None}
-use Rattle.dac_bytes.specs.Reading.{items_at}
-use Rattle.dac_bytes.specs.Items.{with_front}
-use Rattle.dac_wishes.specs.declared.key.Key.{Key}
-use Rattle.dac_origins.specs.Dots.{Dots}
-use Rattle.dac_wishes.specs.Keys.{key_cmp}
-use Rattle.dac_part_bytes.specs.Reading.{keyed_dots_at}
-use Rattle.dac_bytes.specs.laws.Ascending.{Reaches}
+use Rattle.dac_part_bytes.proofs.Common.{items_at, with_front, Key, Dots, key_cmp, keyed_dots_at, Reaches}
 use Rattle.dac_part_bytes.proofs.reading_starts.read_keys_of_dots.Given as goal
 
 -- the items read so far with those of the rest make the whole, and the previous key is the greatest so far

@@ -1,10 +1,7 @@
 use Rattle.std.proofs.Common.{arith}
+use Rattle.dac_part_bytes.proofs.Common.{Rest, found_call, again_call, starts_bytes, AreStartsInForm}
 use Rattle.dac_wishes.specs.WishesValue.{WishesValue}
-use Rattle.dac_bytes.specs.Reading.{Rest}
-use Rattle.dac_bytes.specs.laws.Calls.{found_call, again_call}
 use Rattle.dac_part_bytes.specs.Reading.{all_starts_at}
-use Rattle.dac_part_bytes.specs.Spelling.{starts_bytes}
-use Rattle.dac_part_bytes.specs.KeyedForm.{AreStartsInForm}
 use Rattle.dac_part_bytes.proofs.KeyedLaws.{starts_takes, starts_again}
 use Rattle.dac_part_bytes.proofs.reading_starts.read_wishes.Goals as goal
 

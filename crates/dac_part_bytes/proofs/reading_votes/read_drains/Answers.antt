@@ -1,6 +1,5 @@
 use Rattle.dac_wishes.specs.DrainsValue.{DrainsValue}
-use Rattle.dac_bytes.specs.Reading.{Rest}
-use Rattle.dac_bytes.specs.laws.Calls.{found_call, again_call}
+use Rattle.dac_part_bytes.proofs.Common.{Rest, found_call, again_call}
 use Rattle.dac_part_bytes.specs.Reading.{all_drains_at}
 use Rattle.dac_part_bytes.specs.Spelling.{drains_bytes}
 use Rattle.dac_part_bytes.specs.KeyedForm.{AreDrainsInForm}

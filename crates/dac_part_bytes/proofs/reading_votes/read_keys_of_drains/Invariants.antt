@@ -1,11 +1,7 @@
 use Rattle.std.proofs.Common.{◌≡◌, ◌-◌, Some, None}
-use Rattle.dac_bytes.specs.Reading.{items_at}
-use Rattle.dac_bytes.specs.Items.{with_front}
-use Rattle.dac_origins.specs.declared.dot.Origin.{Origin}
+use Rattle.dac_part_bytes.proofs.Common.{items_at, with_front, Origin, DotFlags, Reaches}
 use Rattle.dac_origins.specs.Dots.{origin_cmp}
-use Rattle.dac_wishes.specs.StoredVotes.{DotFlags}
 use Rattle.dac_part_bytes.proofs.ReadFacts.{drain_item}
-use Rattle.dac_bytes.specs.laws.Ascending.{Reaches}
 use Rattle.dac_part_bytes.proofs.reading_votes.read_keys_of_drains.Given as goal
 
 -- the items read so far with those of the rest make the whole, and the previous key is the greatest so far

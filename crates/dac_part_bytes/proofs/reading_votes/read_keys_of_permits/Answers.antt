@@ -1,13 +1,5 @@
 use Rattle.std.proofs.Common.{Some, None, [], ◌∷◌, ◌++◌, ◌≡◌, sym, ap, ◌∙◌}
-use Rattle.std.proofs.lemmas.Result.{err_from_is_err_and}
-use Rattle.std.proofs.lemmas.Bool.{and_from}
-use Rattle.std.specs.Prelude.{not}
-use Rattle.dac_wishes.specs.declared.key.Key.{Key}
-use Rattle.dac_wishes.specs.laws.Keys.{keys_total}
-use Rattle.dac_wishes.specs.StoredVotes.{DotFlags}
-use Rattle.dac_bytes.specs.Reading.{items_at}
-use Rattle.dac_bytes.specs.laws.Items.{ends, goes_on, is_done}
-use Rattle.dac_bytes.specs.laws.Ascending.{reaches_more}
+use Rattle.dac_part_bytes.proofs.Common.{err_from_is_err_and, and_from, not, Key, keys_total, DotFlags, items_at, ends, goes_on, is_done, reaches_more}
 use Rattle.dac_part_bytes.proofs.ReadFacts.{permit_item, permits_next}
 use Rattle.dac_part_bytes.proofs.ReadLoops.{pushed_is}
 use Rattle.dac_part_bytes.proofs.reading_votes.read_keys_of_permits.Goals as goal

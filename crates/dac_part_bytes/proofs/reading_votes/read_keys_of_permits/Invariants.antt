@@ -1,11 +1,6 @@
 use Rattle.std.proofs.Common.{◌≡◌, ◌-◌, Some, None}
-use Rattle.dac_bytes.specs.Reading.{items_at}
-use Rattle.dac_bytes.specs.Items.{with_front}
-use Rattle.dac_wishes.specs.declared.key.Key.{Key}
-use Rattle.dac_wishes.specs.Keys.{key_cmp}
-use Rattle.dac_wishes.specs.StoredVotes.{DotFlags}
+use Rattle.dac_part_bytes.proofs.Common.{items_at, with_front, Key, key_cmp, DotFlags, Reaches}
 use Rattle.dac_part_bytes.proofs.ReadFacts.{permit_item}
-use Rattle.dac_bytes.specs.laws.Ascending.{Reaches}
 use Rattle.dac_part_bytes.proofs.reading_votes.read_keys_of_permits.Given as goal
 
 -- the items read so far with those of the rest make the whole, and the previous key is the greatest so far

@@ -1,6 +1,5 @@
 use Rattle.dac_wishes.specs.PermissionsValue.{PermissionsValue}
-use Rattle.dac_bytes.specs.Reading.{Rest}
-use Rattle.dac_bytes.specs.laws.Calls.{found_call, again_call}
+use Rattle.dac_part_bytes.proofs.Common.{Rest, found_call, again_call}
 use Rattle.dac_part_bytes.specs.Reading.{all_permits_at}
 use Rattle.dac_part_bytes.specs.Spelling.{permits_bytes}
 use Rattle.dac_part_bytes.specs.KeyedForm.{ArePermitsInForm}

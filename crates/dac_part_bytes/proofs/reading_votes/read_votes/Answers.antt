@@ -1,12 +1,5 @@
 use Rattle.std.proofs.Common.{Some, None, [], ◌∷◌, ◌++◌, ◌≡◌, sym, ◌∙◌}
-use Rattle.std.proofs.lemmas.Result.{err_from_is_err_and}
-use Rattle.dac_origins.specs.declared.dot.Dot.{Dot}
-use Rattle.dac_origins.specs.laws.Dots.{dots_total}
-use Rattle.dac_lattice.specs.declared.flags.Flag.{Flag}
-use Rattle.dac_bytes.specs.Reading.{items_at}
-use Rattle.dac_bytes.specs.laws.Items.{ends, goes_on, is_done, Fails-from}
-use Rattle.dac_part_bytes.specs.Reading.{vote_at}
-use Rattle.dac_bytes.specs.laws.Ascending.{reaches_more}
+use Rattle.dac_part_bytes.proofs.Common.{err_from_is_err_and, Dot, dots_total, Flag, items_at, ends, goes_on, is_done, Fails-from, vote_at, reaches_more}
 use Rattle.dac_part_bytes.proofs.ReadFacts.{vote_next}
 use Rattle.dac_part_bytes.proofs.ReadLoops.{pushed_is}
 use Rattle.dac_part_bytes.proofs.reading_votes.read_votes.Goals as goal

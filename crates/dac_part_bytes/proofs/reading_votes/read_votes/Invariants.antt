@@ -1,11 +1,5 @@
 use Rattle.std.proofs.Common.{◌≡◌, ◌-◌, Some, None}
-use Rattle.dac_bytes.specs.Reading.{items_at}
-use Rattle.dac_bytes.specs.Items.{with_front}
-use Rattle.dac_origins.specs.declared.dot.Dot.{Dot}
-use Rattle.dac_lattice.specs.declared.flags.Flag.{Flag}
-use Rattle.dac_origins.specs.Dots.{dot_cmp}
-use Rattle.dac_part_bytes.specs.Reading.{vote_at}
-use Rattle.dac_bytes.specs.laws.Ascending.{Reaches}
+use Rattle.dac_part_bytes.proofs.Common.{items_at, with_front, Dot, Flag, dot_cmp, vote_at, Reaches}
 use Rattle.dac_part_bytes.proofs.reading_votes.read_votes.Given as goal
 
 -- the items read so far with those of the rest make the whole, and the previous dot is the greatest so far

@@ -1,12 +1,6 @@
 use Rattle.std.proofs.Common.{◌++◌, ◌∙◌, ap}
-use Rattle.std.specs.List.{flat_map}
-use Rattle.dac_lattice.specs.declared.flags.Flag.TheVariants.{Down}
-use Rattle.dac_bytes.specs.Spelling.{origin_bytes}
-use Rattle.dac_bytes.specs.declared.version.Version.TheVariants.{Two}
-use Rattle.dac_part_bytes.specs.Spelling.{keyed_votes_bytes}
+use Rattle.dac_part_bytes.proofs.Common.{flat_map, Down, origin_bytes, Two, keyed_votes_bytes, u32_bytes, votes_bytes}
 use Rattle.dac_wishes.specs.StoredDrains.{drains_by_origin}
-use Rattle.dac_bytes.specs.Numbers.{u32_bytes}
-use Rattle.dac_part_bytes.specs.Spelling.{votes_bytes}
 use Rattle.dac_part_bytes.proofs.OneByOne.{all_written, one_fewer, one_written}
 use Rattle.dac_part_bytes.proofs.writing.write_all_drains.Goals as goal
 

@@ -1,9 +1,5 @@
 use Rattle.std.proofs.Common.{◌≡◌, ◌++◌, length}
-use Rattle.std.specs.List.{flat_map}
-use Rattle.dac_lattice.specs.declared.flags.Flag.TheVariants.{Down}
-use Rattle.dac_bytes.specs.Spelling.{origin_bytes}
-use Rattle.dac_bytes.specs.declared.version.Version.TheVariants.{Two}
-use Rattle.dac_part_bytes.specs.Spelling.{keyed_votes_bytes}
+use Rattle.dac_part_bytes.proofs.Common.{flat_map, Down, origin_bytes, Two, keyed_votes_bytes}
 use Rattle.dac_part_bytes.proofs.writing.write_all_drains.Given as goal
 
 -- the bytes written and those of the remaining entries are all bytes

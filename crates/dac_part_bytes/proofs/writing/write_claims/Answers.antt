@@ -1,5 +1,4 @@
-use Rattle.dac_bytes.specs.Numbers.{u16_bytes}
-use Rattle.dac_part_bytes.specs.Spelling.{claim_bytes, claims_bytes}
+use Rattle.dac_part_bytes.proofs.Common.{u16_bytes, claim_bytes, claims_bytes}
 use Rattle.dac_part_bytes.proofs.Kept.{written_in_order}
 use Rattle.dac_part_bytes.proofs.writing.write_claims.Goals as goal
 

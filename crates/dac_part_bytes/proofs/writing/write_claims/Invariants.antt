@@ -1,6 +1,5 @@
 use Rattle.std.proofs.Common.{◌≡◌, ◌++◌, take}
-use Rattle.std.specs.List.{flat_map}
-use Rattle.dac_part_bytes.specs.Spelling.{claim_bytes}
+use Rattle.dac_part_bytes.proofs.Common.{flat_map, claim_bytes}
 use Rattle.dac_part_bytes.proofs.writing.write_claims.Given as goal
 
 abbrev pub invariant-loop-app : goal.invariant-loop-app

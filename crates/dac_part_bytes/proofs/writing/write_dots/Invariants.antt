@@ -1,6 +1,5 @@
 use Rattle.std.proofs.Common.{◌≡◌, ◌++◌, take}
-use Rattle.std.specs.List.{flat_map}
-use Rattle.dac_bytes.specs.Spelling.{dot_bytes}
+use Rattle.dac_part_bytes.proofs.Common.{flat_map, dot_bytes}
 use Rattle.dac_part_bytes.proofs.writing.write_dots.Given as goal
 
 abbrev pub invariant-loop-dot : goal.invariant-loop-dot

@@ -1,5 +1,4 @@
-use Rattle.dac_bytes.specs.Numbers.{u8_bytes}
-use Rattle.dac_part_bytes.specs.Spelling.{life_bytes, lives_bytes}
+use Rattle.dac_part_bytes.proofs.Common.{u8_bytes, life_bytes, lives_bytes}
 use Rattle.dac_part_bytes.proofs.Kept.{written_in_order}
 use Rattle.dac_part_bytes.proofs.writing.write_lives.Goals as goal
 

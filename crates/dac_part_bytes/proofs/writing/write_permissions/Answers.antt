@@ -1,10 +1,6 @@
 use Rattle.std.proofs.Common.{◌++◌, ◌∙◌, ap}
-use Rattle.std.specs.List.{flat_map}
-use Rattle.dac_lattice.specs.declared.flags.Flag.TheVariants.{Up}
-use Rattle.dac_part_bytes.specs.Spelling.{key_bytes, keyed_votes_bytes}
+use Rattle.dac_part_bytes.proofs.Common.{flat_map, Up, key_bytes, keyed_votes_bytes, u32_bytes, votes_bytes}
 use Rattle.dac_wishes.specs.PermitsByKey.{permits_by_key}
-use Rattle.dac_bytes.specs.Numbers.{u32_bytes}
-use Rattle.dac_part_bytes.specs.Spelling.{votes_bytes}
 use Rattle.dac_part_bytes.proofs.OneByOne.{all_written, one_fewer, one_written}
 use Rattle.dac_part_bytes.proofs.writing.write_permissions.Goals as goal
 

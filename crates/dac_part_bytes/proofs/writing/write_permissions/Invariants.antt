@@ -1,7 +1,5 @@
 use Rattle.std.proofs.Common.{◌≡◌, ◌++◌, length}
-use Rattle.std.specs.List.{flat_map}
-use Rattle.dac_lattice.specs.declared.flags.Flag.TheVariants.{Up}
-use Rattle.dac_part_bytes.specs.Spelling.{key_bytes, keyed_votes_bytes}
+use Rattle.dac_part_bytes.proofs.Common.{flat_map, Up, key_bytes, keyed_votes_bytes}
 use Rattle.dac_part_bytes.proofs.writing.write_permissions.Given as goal
 
 -- the bytes written and those of the remaining entries are all bytes

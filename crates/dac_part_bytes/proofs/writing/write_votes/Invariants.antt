@@ -1,5 +1,5 @@
 use Rattle.std.proofs.Common.{◌≡◌, ◌++◌, take}
-use Rattle.std.specs.List.{flat_map}
+use Rattle.dac_part_bytes.proofs.Common.{flat_map}
 use Rattle.dac_part_bytes.specs.Spelling.{vote_bytes}
 use Rattle.dac_part_bytes.proofs.writing.write_votes.Given as goal
 

@@ -1,12 +1,5 @@
 use Rattle.std.proofs.Common.{◌++◌, ◌∙◌, ap}
-use Rattle.std.specs.List.{flat_map}
-use Rattle.dac_origins.specs.Dots.{Dots}
-use Rattle.dac_origins.specs.InOrder.{in_order}
-use Rattle.dac_wishes.specs.declared.key.Key.{Key}
-use Rattle.dac_part_bytes.specs.Spelling.{keyed_dots_bytes}
-use Rattle.dac_wishes.specs.StartsByKey.{starts_by_key}
-use Rattle.dac_bytes.specs.Numbers.{u32_bytes}
-use Rattle.dac_part_bytes.specs.Spelling.{starts_bytes}
+use Rattle.dac_part_bytes.proofs.Common.{flat_map, Dots, in_order, Key, keyed_dots_bytes, starts_by_key, u32_bytes, starts_bytes}
 use Rattle.dac_part_bytes.proofs.OneByOne.{all_written, one_fewer, one_written}
 use Rattle.dac_part_bytes.proofs.writing.write_wishes.Goals as goal
 

@@ -1,7 +1,5 @@
 use Rattle.std.proofs.Common.{◌≡◌, ◌++◌, length}
-use Rattle.std.specs.List.{flat_map}
-use Rattle.dac_origins.specs.InOrder.{in_order}
-use Rattle.dac_part_bytes.specs.Spelling.{keyed_dots_bytes}
+use Rattle.dac_part_bytes.proofs.Common.{flat_map, in_order, keyed_dots_bytes}
 use Rattle.dac_part_bytes.proofs.writing.write_wishes.Given as goal
 
 -- the bytes written and those of the remaining entries are all bytes

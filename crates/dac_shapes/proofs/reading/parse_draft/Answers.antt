@@ -1,9 +1,6 @@
 use Rattle.std.proofs.Common.{◌≤◌, length, arith, le-ltb}
 use Rattle.std.proofs.lemmas.Result.{IfOk-weaker}
-use Rattle.dac_tokens.specs.Gives.{Gives}
-use Rattle.dac_shapes.specs.Shape.{file_at, draft_at}
-use Rattle.dac_shapes.specs.Views.{draft_of}
-use Rattle.dac_shapes.specs.Within.{IsWithinLimits}
+use Rattle.dac_shapes.specs.laws.Common.{Gives, file_at, draft_at, draft_of, IsWithinLimits}
 use Rattle.dac_shapes.proofs.Texts.{Tokenizes, whole, found_in, only_in, memory_in}
 use Rattle.dac_shapes.proofs.Within.{text_within}
 use Rattle.dac_shapes.proofs.reading.parse_draft.Goals as goal

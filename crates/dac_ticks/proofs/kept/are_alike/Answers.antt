@@ -1,6 +1,5 @@
 use Rattle.std.proofs.Common.{rules, ◌≡◌, ◌<◌, arith}
-use Rattle.std.proofs.lemmas.Bool.{false≢true}
-use Rattle.dac_config.specs.Table.{node_count, app_count}
+use Rattle.dac_ticks.specs.laws.Common.{false≢true, node_count, app_count}
 use Rattle.dac_ticks.proofs.Alike.{numbered_app, goes_for}
 use Rattle.dac_ticks.proofs.kept.are_alike.Goals as goal
 

@@ -1,5 +1,5 @@
 use Rattle.std.proofs.Common.{rules, ◌≡◌, refl, arith}
-use Rattle.dac_config.specs.Table.{node_count, default_permission}
+use Rattle.dac_ticks.specs.laws.Common.{node_count, default_permission}
 use Rattle.dac_ticks.proofs.Alike.{one_group}
 use Rattle.dac_ticks.proofs.kept.are_alike_for.Goals as goal
 

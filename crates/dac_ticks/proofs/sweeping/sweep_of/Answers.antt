@@ -1,16 +1,9 @@
 use Rattle.std.specs.Prelude.{IfSome}
 use Rattle.std.specs.Option.{option_copied}
 use Rattle.std.proofs.Common.{◌≡◌, ℕ, ◌+◌, ◌≤◌, List, sym, ap, subst, ◌∙◌, arith}
-use Rattle.dac_base.specs.declared.AppId.{AppId}
-use Rattle.dac_operations.specs.Operations.{Operation}
-use Rattle.dac_meaning.specs.StateValue.{StateValue}
-use Rattle.dac_config.specs.Table.{app_count}
+use Rattle.dac_ticks.specs.laws.Common.{AppId, Operation, StateValue, app_count, apps_of, waits_of, KnowsOwnBoot, greatest_counter, Sweep, sweep_from, swept, sweep_over, sweep_of, found_of}
 use Rattle.dac_board.specs.Boards.{Shows}
-use Rattle.dac_placement.specs.Placement.{apps_of}
-use Rattle.dac_decide.specs.FailoverWait.{waits_of}
-use Rattle.dac_commands.specs.Commands.{KnowsOwnBoot, greatest_counter}
-use Rattle.dac_ticks.specs.Ticks.{Sweep, sweep_from, swept, sweep_over, sweep_of}
-use Rattle.dac_ticks.specs.SweepSoFar.{added, found_of, so_far}
+use Rattle.dac_ticks.specs.SweepSoFar.{added, so_far}
 use Rattle.dac_ticks.specs.InWords.{IsSweep}
 use Rattle.dac_ticks.specs.laws.Sweeping.{numbered, apps_from, swept_is, sweep_more, swept_knows, swept_counter}
 use Rattle.dac_ticks.specs.laws.Words.{sweep_in_words}

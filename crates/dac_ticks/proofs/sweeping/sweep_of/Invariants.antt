@@ -1,6 +1,5 @@
 use Rattle.std.proofs.Common.{◌≡◌, ◌+◌, ◌≤◌}
-use Rattle.dac_commands.specs.Commands.{KnowsOwnBoot, greatest_counter}
-use Rattle.dac_ticks.specs.Ticks.{sweep_from, sweep_over}
+use Rattle.dac_ticks.specs.laws.Common.{KnowsOwnBoot, greatest_counter, sweep_from, sweep_over}
 use Rattle.dac_ticks.specs.SweepSoFar.{so_far, IsSparing}
 use Rattle.dac_ticks.specs.laws.Sweeping.{apps_from}
 use Rattle.dac_ticks.proofs.sweeping.sweep_of.Given as goal

@@ -1,6 +1,5 @@
 use Rattle.std.proofs.Common.{take}
-use Rattle.std.specs.List.{AllZip}
-use Rattle.dac_weave.specs.Names.{Begins}
+use Rattle.dac_weave.specs.laws.Common.{AllZip, Begins}
 use Rattle.dac_weave.proofs.cursor.cursors_of.Given as goal
 
 abbrev pub invariant-loop-journal : goal.invariant-loop-journal

@@ -1,10 +1,7 @@
 use Rattle.std.proofs.Common.{Ok, Err, sym, subst}
-use Rattle.dac_messages.specs.declared.reply.Reply.{Reply}
-use Rattle.dac_journal.specs.NodeValue.{NodeValue}
-use Rattle.dac_journal.specs.Step.{Steps}
+use Rattle.dac_weave.specs.laws.Common.{Reply, NodeValue, Steps, Repeats}
 use Rattle.dac_journal.specs.laws.Steps.{steps, answered_steps}
 use Rattle.dac_journal.specs.Changes.{changed}
-use Rattle.dac_weave.specs.Replay.{Repeats}
 use Rattle.dac_weave.proofs.Replays.{repeated}
 use Rattle.dac_weave.proofs.replay.repeat.Goals as goal
 

@@ -1,6 +1,5 @@
 use Rattle.std.proofs.Common.{◌≡◌, subst, false, nat_lt, ◌≤◌, ◌<◌, ℕ}
-use Rattle.dac_base.specs.declared.NodeId.{NodeId}
-use Rattle.dac_config.specs.Table.{node_count}
+use Rattle.dac_weave.specs.laws.Common.{NodeId, node_count}
 use Rattle.dac_weave.proofs.Replays.{replay_nowhere, outside, replay_start, read_turn, read_stop, read_end}
 use Rattle.dac_weave.proofs.replay.valid_prefix.Goals as goal
 

@@ -1,5 +1,5 @@
 use Rattle.std.proofs.Common.{◌+◌, Option, subst, sym, ℕ}
-use Rattle.dac_weave.specs.Woven.{IsUnfit}
+use Rattle.dac_weave.specs.laws.Common.{IsUnfit}
 use Rattle.dac_weave.proofs.Least.{SoFar, passed, failed, first_of}
 use Rattle.dac_weave.proofs.unfit.unfit.Goals as goal
 use Rattle.dac_weave.proofs.unfit.unfit.Goals.{then-is_unfit, else-is_unfit}

@@ -1,4 +1,4 @@
-use Rattle.dac_weave.specs.Woven.{IsUnfit}
+use Rattle.dac_weave.specs.laws.Common.{IsUnfit}
 use Rattle.dac_weave.proofs.Least.{SoFar}
 use Rattle.dac_weave.proofs.unfit.unfit.Given as goal
 

@@ -1,6 +1,5 @@
 use Rattle.std.proofs.Common.{◌<◌, ◌≤◌, All, length, subst}
-use Rattle.dac_base.specs.declared.limits.TheConstants.{MAX_NODES}
-use Rattle.dac_config.specs.Table.{Table}
+use Rattle.dac_config.proofs.Common.{MAX_NODES, Table}
 use Rattle.dac_config.proofs.config.Config.apps.Goals as goal
 
 pub returns-clause-groups : goal.returns-clause-groups

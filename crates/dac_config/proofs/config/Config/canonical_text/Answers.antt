@@ -1,7 +1,5 @@
 use Rattle.std.proofs.Common.{◌≡◌, ℕ, ◌≤◌, List, [], length, sym, subst}
-use Rattle.std.proofs.lemmas.Result.{IfOk-weaker}
-use Rattle.dac_config.specs.Canonical.{canonical_text}
-use Rattle.dac_config.specs.Says.{IsConfigOf, IsSaid}
+use Rattle.dac_config.proofs.Common.{IfOk-weaker, canonical_text, IsConfigOf, IsSaid}
 use Rattle.dac_config.proofs.Gaining.{finished}
 use Rattle.dac_config.proofs.Again.{canonical_says}
 use Rattle.dac_config.proofs.config.Config.canonical_text.Goals as goal

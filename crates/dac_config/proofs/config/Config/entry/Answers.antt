@@ -1,7 +1,5 @@
 use Rattle.std.proofs.Common.{length, ap, arith}
-use Rattle.std.proofs.lemmas.List.{length-map}
-use Rattle.dac_config.specs.Table.{Table}
-use Rattle.dac_config.specs.ConfigView.{app_row}
+use Rattle.dac_config.proofs.Common.{length-map, Table, app_row}
 use Rattle.dac_config.proofs.Tables.{entry_kept}
 use Rattle.dac_config.proofs.Places.{place_kept}
 use Rattle.dac_config.proofs.config.Config.entry.Goals as goal

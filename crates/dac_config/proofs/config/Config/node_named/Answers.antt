@@ -1,8 +1,6 @@
 use Rattle.std.proofs.Common.{bytes_eq, option_map, ap, sym, ◌∙◌}
-use Rattle.std.specs.List.{position_from}
-use Rattle.std.proofs.lemmas.Bool.{cond-true, cond-false}
+use Rattle.dac_config.proofs.Common.{position_from, cond-true, cond-false, at_drop_all}
 use Rattle.std.proofs.lemmas.Iterator.Adapters.{position_from-zero}
-use Rattle.std.proofs.lemmas.List.{at_drop_all}
 use Rattle.dac_config.proofs.Tables.{node_from}
 use Rattle.dac_config.proofs.config.Config.node_named.Goals as goal
 

@@ -1,11 +1,5 @@
 use Rattle.std.proofs.Common.{◌≤◌, ◌++◌, All, length, map, refl, sym, ap, subst, ◌∙◌}
-use Rattle.std.proofs.lemmas.List.{at_drop_all}
-use Rattle.std.proofs.lemmas.List.Elements.{All-nil}
-use Rattle.dac_base.specs.declared.limits.TheConstants.{MAX_NODES}
-use Rattle.dac_shapes.specs.Views.{draft_of, app_of, apps_of, permissions_of}
-use Rattle.dac_config.specs.Says.{IsTable}
-use Rattle.dac_config.specs.ConfigView.{node_row, app_row, IsPlaced}
-use Rattle.dac_config.specs.Numbering.{numbered_node, numbered_app}
+use Rattle.dac_config.proofs.Common.{at_drop_all, All-nil, MAX_NODES, draft_of, app_of, apps_of, permissions_of, IsTable, node_row, app_row, IsPlaced, numbered_node, numbered_app}
 use Rattle.dac_config.proofs.Names.{Differ, first_new, all_mapped}
 use Rattle.dac_config.proofs.Numbers.{few_numbered, small_numbered, table_numbered}
 use Rattle.dac_config.proofs.Tables.{left_from, row_pushed, still_new, all_pushed}

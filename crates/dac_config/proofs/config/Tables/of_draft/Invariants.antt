@@ -1,7 +1,5 @@
 use Rattle.std.proofs.Common.{◌≡◌, ◌++◌, map, drop, All}
-use Rattle.dac_shapes.specs.Views.{apps_of, permissions_of}
-use Rattle.dac_config.specs.Numbering.{numbered_app}
-use Rattle.dac_config.specs.ConfigView.{node_row, app_row, IsPlaced}
+use Rattle.dac_config.proofs.Common.{apps_of, permissions_of, numbered_app, node_row, app_row, IsPlaced}
 use Rattle.dac_config.proofs.Names.{Differ}
 use Rattle.dac_config.proofs.config.Tables.of_draft.Given as goal
 

@@ -1,6 +1,5 @@
 use Rattle.std.proofs.Common.{◌≡◌, ℕ, List, [], get_or, sym, refl, ap, ◌∙◌, arith}
-use Rattle.std.proofs.lemmas.Bool.{false≢true}
-use Rattle.std.proofs.lemmas.List.{ext_get_or, length-map}
+use Rattle.dac_config.proofs.Common.{false≢true, ext_get_or, length-map}
 use Rattle.dac_config.proofs.Alike.{nodes_of, group_at, one_below}
 use Rattle.dac_config.proofs.config.alike.same_groups.Goals as goal
 

@@ -1,8 +1,5 @@
 use Rattle.std.proofs.Common.{ℕ, ◌<◌, List, All, length, map, sym, ap, subst, ◌∙◌}
-use Rattle.std.specs.Global.{Vec}
-use Rattle.dac_shapes.specs.Views.{groups_of, permissions_of}
-use Rattle.dac_config.specs.Numbering.{numbers_from, permitted}
-use Rattle.dac_config.specs.ConfigView.{node_row, ArePlaces}
+use Rattle.dac_config.proofs.Common.{Vec, groups_of, permissions_of, numbers_from, permitted, node_row, ArePlaces}
 use Rattle.dac_config.proofs.Tables.{app_added, place_added}
 use Rattle.dac_config.proofs.Numbers.{members_numbered}
 use Rattle.dac_config.proofs.config.number.add_app.Goals as goal

@@ -1,9 +1,5 @@
 use Rattle.std.proofs.Common.{ℕ, List, Bor, map, ap, ◌∙◌}
-use Rattle.std.specs.Global.{Vec}
-use Rattle.std.proofs.lemmas.List.{at_drop_more, at_drop_all}
-use Rattle.dac_shapes.specs.Views.{names_of, groups_of}
-use Rattle.dac_config.specs.Numbering.{numbers_from}
-use Rattle.dac_config.specs.ConfigView.{node_row}
+use Rattle.dac_config.proofs.Common.{Vec, at_drop_more, at_drop_all, names_of, groups_of, numbers_from, node_row}
 use Rattle.dac_config.proofs.Tables.{one_pushed, all_pushed}
 use Rattle.dac_config.proofs.config.number.groups_of.Goals as goal
 

@@ -1,7 +1,5 @@
 use Rattle.std.proofs.Common.{◌≡◌, ◌++◌, map, drop}
-use Rattle.dac_shapes.specs.Views.{groups_of}
-use Rattle.dac_config.specs.Numbering.{numbers_from}
-use Rattle.dac_config.specs.ConfigView.{node_row}
+use Rattle.dac_config.proofs.Common.{groups_of, numbers_from, node_row}
 use Rattle.dac_config.proofs.config.number.groups_of.Given as goal
 
 abbrev pub invariant-loop-group : goal.invariant-loop-group

@@ -1,8 +1,5 @@
 use Rattle.std.proofs.Common.{sym, ◌∙◌}
-use Rattle.std.proofs.lemmas.Bool.{cond-true, cond-false}
-use Rattle.std.proofs.lemmas.List.{at_drop_more, at_drop_all}
-use Rattle.dac_shapes.specs.Views.{permissions_of}
-use Rattle.dac_config.specs.Numbering.{permitted}
+use Rattle.dac_config.proofs.Common.{cond-true, cond-false, at_drop_more, at_drop_all, permissions_of, permitted}
 use Rattle.dac_config.proofs.config.number.is_permitted.Goals as goal
 
 pub loop-permission-preserved : goal.loop-permission-preserved

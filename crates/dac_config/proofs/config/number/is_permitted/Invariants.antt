@@ -1,6 +1,5 @@
 use Rattle.std.proofs.Common.{◌≡◌, drop}
-use Rattle.dac_shapes.specs.Views.{permissions_of}
-use Rattle.dac_config.specs.Numbering.{permitted}
+use Rattle.dac_config.proofs.Common.{permissions_of, permitted}
 use Rattle.dac_config.proofs.config.number.is_permitted.Given as goal
 
 abbrev pub invariant-loop-permission : goal.invariant-loop-permission

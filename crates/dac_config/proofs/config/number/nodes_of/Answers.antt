@@ -1,8 +1,5 @@
 use Rattle.std.proofs.Common.{ap, map, ◌∙◌}
-use Rattle.std.proofs.lemmas.List.{at_drop_more, at_drop_all}
-use Rattle.dac_shapes.specs.Views.{names_of, draft_of}
-use Rattle.dac_config.specs.Numbering.{numbered_node}
-use Rattle.dac_config.specs.ConfigView.{node_row}
+use Rattle.dac_config.proofs.Common.{at_drop_more, at_drop_all, names_of, draft_of, numbered_node, node_row}
 use Rattle.dac_config.proofs.Tables.{one_pushed, all_pushed}
 use Rattle.dac_config.proofs.config.number.nodes_of.Goals as goal
 

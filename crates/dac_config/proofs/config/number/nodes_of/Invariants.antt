@@ -1,7 +1,5 @@
 use Rattle.std.proofs.Common.{◌≡◌, ◌++◌, map, drop}
-use Rattle.dac_shapes.specs.Views.{names_of, draft_of}
-use Rattle.dac_config.specs.Numbering.{numbered_node}
-use Rattle.dac_config.specs.ConfigView.{node_row}
+use Rattle.dac_config.proofs.Common.{names_of, draft_of, numbered_node, node_row}
 use Rattle.dac_config.proofs.config.number.nodes_of.Given as goal
 
 abbrev pub invariant-loop-name : goal.invariant-loop-name

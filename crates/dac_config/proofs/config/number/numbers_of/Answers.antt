@@ -1,10 +1,5 @@
 use Rattle.std.proofs.Common.{map, sym, ap, ◌∙◌, arith}
-use Rattle.std.proofs.lemmas.Bool.{cond-true, cond-false}
-use Rattle.std.proofs.lemmas.List.{at_drop_all}
-use Rattle.dac_shapes.specs.Limits.{is_among}
-use Rattle.dac_shapes.specs.Views.{names_of}
-use Rattle.dac_config.specs.Numbering.{numbers_from}
-use Rattle.dac_config.specs.ConfigView.{node_row}
+use Rattle.dac_config.proofs.Common.{cond-true, cond-false, at_drop_all, is_among, names_of, numbers_from, node_row}
 use Rattle.dac_config.proofs.Tables.{all_pushed}
 use Rattle.dac_config.proofs.Numbers.{numbers_more}
 use Rattle.dac_config.proofs.config.number.numbers_of.Goals.{then-is_among+in_ok-push, else-is_among}

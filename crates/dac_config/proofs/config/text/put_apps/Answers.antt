@@ -1,6 +1,5 @@
 use Rattle.std.proofs.Common.{map, length, ap, refl}
-use Rattle.std.proofs.lemmas.List.{at_drop_all}
-use Rattle.dac_config.specs.Canonical.{app_text}
+use Rattle.dac_config.proofs.Common.{at_drop_all, app_text}
 use Rattle.dac_config.proofs.Tables.{left_at, kept_members}
 use Rattle.dac_config.proofs.Gaining.{one_more, all_taken}
 use Rattle.dac_config.proofs.config.text.put_apps.Goals as goal

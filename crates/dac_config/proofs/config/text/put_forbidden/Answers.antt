@@ -1,7 +1,5 @@
 use Rattle.std.proofs.Common.{◌≡◌, ℕ, ◌+◌, ◌∷◌, not, List, map, filter, drop, refl, ap}
-use Rattle.std.proofs.lemmas.List.{at_drop_all}
-use Rattle.dac_config.specs.Table.{AppRow}
-use Rattle.dac_config.specs.Canonical.{forbidden_text}
+use Rattle.dac_config.proofs.Common.{at_drop_all, AppRow, forbidden_text}
 use Rattle.dac_config.proofs.Tables.{left_at}
 use Rattle.dac_config.proofs.Gaining.{then, one_more, same_left, all_taken}
 use Rattle.dac_config.proofs.config.text.put_forbidden.Goals as goal

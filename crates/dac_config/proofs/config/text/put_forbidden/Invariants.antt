@@ -1,6 +1,5 @@
 use Rattle.std.proofs.Common.{not, List, ℕ, map, drop, filter}
-use Rattle.dac_config.specs.Table.{AppRow}
-use Rattle.dac_config.specs.Canonical.{parted, forbidden_text}
+use Rattle.dac_config.proofs.Common.{AppRow, parted, forbidden_text}
 use Rattle.dac_config.proofs.Gaining.{Goes}
 use Rattle.dac_config.proofs.config.text.put_forbidden.Given as goal
 

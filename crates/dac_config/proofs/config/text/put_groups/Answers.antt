@@ -1,7 +1,5 @@
 use Rattle.std.proofs.Common.{List, ℕ, map, ap, refl, ◌∙◌}
-use Rattle.std.specs.Global.{Vec}
-use Rattle.std.proofs.lemmas.List.{at_drop_more, at_drop_all}
-use Rattle.dac_config.specs.Canonical.{group_text}
+use Rattle.dac_config.proofs.Common.{Vec, at_drop_more, at_drop_all, group_text}
 use Rattle.dac_config.proofs.Gaining.{one_more, all_taken}
 use Rattle.dac_config.proofs.config.text.put_groups.Goals as goal
 

@@ -1,6 +1,5 @@
 use Rattle.std.proofs.Common.{map, refl}
-use Rattle.std.proofs.lemmas.List.{at_drop_more, at_drop_all}
-use Rattle.dac_config.specs.Canonical.{node_name_text}
+use Rattle.dac_config.proofs.Common.{at_drop_more, at_drop_all, node_name_text}
 use Rattle.dac_config.proofs.Gaining.{one_more, all_taken}
 use Rattle.dac_config.proofs.config.text.put_members.Goals as goal
 

@@ -1,8 +1,5 @@
 use Rattle.std.proofs.Common.{◌≡◌, ℕ, ◌+◌, ◌∷◌, true, false, List, map, filter, drop, refl}
-use Rattle.std.proofs.lemmas.List.{at_drop_all}
-use Rattle.dac_config.specs.Table.{NodeRow}
-use Rattle.dac_config.specs.Canonical.{name_text}
-use Rattle.dac_config.specs.ConfigView.{node_row, is_in}
+use Rattle.dac_config.proofs.Common.{at_drop_all, NodeRow, name_text, node_row, is_in}
 use Rattle.dac_config.specs.declared.config.text.SyncList.{SyncList}
 use Rattle.dac_config.proofs.Tables.{left_at}
 use Rattle.dac_config.proofs.Gaining.{one_more, same_left, all_taken}

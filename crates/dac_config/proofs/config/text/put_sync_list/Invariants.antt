@@ -1,7 +1,5 @@
 use Rattle.std.proofs.Common.{List, ℕ, map, drop, filter}
-use Rattle.dac_config.specs.Table.{NodeRow}
-use Rattle.dac_config.specs.Canonical.{parted, name_text}
-use Rattle.dac_config.specs.ConfigView.{is_in}
+use Rattle.dac_config.proofs.Common.{NodeRow, parted, name_text, is_in}
 use Rattle.dac_config.proofs.Gaining.{Goes}
 use Rattle.dac_config.proofs.config.text.put_sync_list.Given as goal
 

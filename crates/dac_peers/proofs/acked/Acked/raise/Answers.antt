@@ -1,8 +1,6 @@
 use Rattle.std.proofs.Common.{◌≡◌, Some, ap, sym, ◌∙◌}
+use Rattle.dac_peers.specs.laws.Common.{same_Some, Numbers, greater, Position}
 use Rattle.std.specs.FinMap as map
-use Rattle.std.proofs.lemmas.Option.{same_Some}
-use Rattle.dac_deltas.specs.Numbers.{Numbers, greater}
-use Rattle.dac_peers.specs.declared.positions.Position.{Position}
 use Rattle.dac_peers.proofs.Latest.{of_node, raised_at, stay_latest}
 use Rattle.dac_peers.proofs.acked.Acked.raise.Goals as goal
 

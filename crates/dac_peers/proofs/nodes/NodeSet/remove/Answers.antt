@@ -1,8 +1,6 @@
 use Rattle.std.proofs.Common.{not, ◌&&◌, ap, sym, ◌∙◌}
-use Rattle.std.specs.Ordering.{eq_by_cmp}
+use Rattle.dac_peers.specs.laws.Common.{eq_by_cmp, node_cmp, nodes_total, exact_nodes}
 use Rattle.std.specs.FinSet as set
-use Rattle.dac_base.specs.Ids.{node_cmp}
-use Rattle.dac_base.specs.laws.Ids.{nodes_total, exact_nodes}
 use Rattle.dac_peers.proofs.nodes.NodeSet.remove.Goals as goal
 
 pub returns : goal.returns

@@ -1,5 +1,5 @@
 use Rattle.std.proofs.Common.{cond, ap, sym, ◌∙◌}
-use Rattle.dac_deltas.specs.Numbers.{raised}
+use Rattle.dac_peers.specs.laws.Common.{raised}
 use Rattle.dac_peers.specs.Peers.{acked_after}
 use Rattle.dac_peers.proofs.Changes.{nothing_raised}
 use Rattle.dac_peers.proofs.peers.Peers.ack_of.Goals as goal

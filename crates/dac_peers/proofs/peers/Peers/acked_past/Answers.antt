@@ -1,6 +1,5 @@
 use Rattle.std.proofs.Common.{ap, arith}
-use Rattle.dac_base.specs.declared.NodeId.{NodeId}
-use Rattle.dac_peers.specs.Peers.{number_acked}
+use Rattle.dac_peers.specs.laws.Common.{NodeId, number_acked}
 use Rattle.dac_peers.specs.laws.Least.{all_have_the_least, is_number}
 use Rattle.dac_peers.proofs.peers.Peers.acked_past.Goals as goal
 

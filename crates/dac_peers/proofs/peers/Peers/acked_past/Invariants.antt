@@ -1,5 +1,6 @@
 use Rattle.std.specs.Prelude.{◌≡◌, ◌<◌, None, IfSome, map as list_map, fold}
-use Rattle.dac_peers.specs.Peers.{others, lesser, number_acked}
+use Rattle.dac_peers.specs.laws.Common.{number_acked}
+use Rattle.dac_peers.specs.Peers.{others, lesser}
 use Rattle.dac_peers.proofs.peers.Peers.acked_past.Given as goal
 
 abbrev pub invariant-loop-number : goal.invariant-loop-number

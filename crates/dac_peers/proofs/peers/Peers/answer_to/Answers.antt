@@ -1,5 +1,5 @@
 use Rattle.std.proofs.Common.{inl, inr, ap, sym, ◌∙◌}
-use Rattle.dac_messages.specs.declared.message.Body.{Body}
+use Rattle.dac_peers.specs.laws.Common.{Body}
 use Rattle.dac_peers.specs.Peers.{got_by}
 use Rattle.dac_peers.proofs.Changes.{owed_already}
 use Rattle.dac_peers.proofs.peers.Peers.answer_to.Goals as goal

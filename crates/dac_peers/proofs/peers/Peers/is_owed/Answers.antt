@@ -1,9 +1,8 @@
 use Rattle.std.proofs.Common.{◌≡◌, ap, sym, ◌∙◌}
+use Rattle.dac_peers.specs.laws.Common.{PeersValue, lists_kept, node_cmp}
 use Rattle.std.specs.FinSet as set
-use Rattle.dac_peers.specs.Peers.{PeersValue}
-use Rattle.dac_peers.specs.Pending.{is_owed_then, lists_kept}
+use Rattle.dac_peers.specs.Pending.{is_owed_then}
 use Rattle.dac_peers.proofs.Changes.{is_owed_is, of_lists, of_none}
-use Rattle.dac_base.specs.Ids.{node_cmp}
 use Rattle.dac_peers.proofs.peers.Peers.is_owed.Goals as goal
 use Rattle.dac_peers.proofs.peers.Peers.is_owed.Goals.{in-Some, in-None}
 

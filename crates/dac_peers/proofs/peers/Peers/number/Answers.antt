@@ -1,9 +1,8 @@
 use Rattle.std.proofs.Common.{◌≡◌, ap, sym, ◌∙◌}
+use Rattle.dac_peers.specs.laws.Common.{PeersValue, lists_kept, origin_cmp}
 use Rattle.std.specs.FinMap as map
-use Rattle.dac_peers.specs.Peers.{PeersValue}
-use Rattle.dac_peers.specs.Pending.{number_then, lists_kept}
+use Rattle.dac_peers.specs.Pending.{number_then}
 use Rattle.dac_peers.proofs.Changes.{number_is, of_lists, of_none}
-use Rattle.dac_origins.specs.Dots.{origin_cmp}
 use Rattle.dac_peers.proofs.peers.Peers.number.Goals as goal
 use Rattle.dac_peers.proofs.peers.Peers.number.Goals.{in-Some, in-None}
 

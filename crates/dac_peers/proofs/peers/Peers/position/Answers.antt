@@ -1,9 +1,8 @@
 use Rattle.std.proofs.Common.{◌≡◌, ap, sym, ◌∙◌}
+use Rattle.dac_peers.specs.laws.Common.{PeersValue, lists_kept, node_cmp}
 use Rattle.std.specs.FinMap as map
-use Rattle.dac_peers.specs.Peers.{PeersValue}
-use Rattle.dac_peers.specs.Pending.{position_then, lists_kept}
+use Rattle.dac_peers.specs.Pending.{position_then}
 use Rattle.dac_peers.proofs.Changes.{position_is, of_lists, of_none}
-use Rattle.dac_base.specs.Ids.{node_cmp}
 use Rattle.dac_peers.proofs.peers.Peers.position.Goals as goal
 use Rattle.dac_peers.proofs.peers.Peers.position.Goals.{in-Some, in-None}
 

@@ -1,6 +1,6 @@
 use Rattle.std.proofs.Common.{◌≡◌, IfOk, ap, sym, subst, ◌∙◌}
+use Rattle.dac_peers.specs.laws.Common.{PeersValue}
 use Rattle.std.specs.FinSet as set
-use Rattle.dac_peers.specs.Peers.{PeersValue}
 use Rattle.dac_peers.specs.Pending.{answer_done}
 use Rattle.dac_peers.proofs.Changes.{never_owed}
 use Rattle.dac_peers.proofs.peers.Peers.shipped_to.Goals as goal

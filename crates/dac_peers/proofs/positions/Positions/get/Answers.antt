@@ -1,6 +1,6 @@
 use Rattle.std.proofs.Common.{ap, sym, ◌∙◌}
+use Rattle.dac_peers.specs.laws.Common.{nodes_total}
 use Rattle.std.specs.FinMap as map
-use Rattle.dac_base.specs.laws.Ids.{nodes_total}
 use Rattle.dac_peers.proofs.positions.Positions.get.Goals as goal
 
 pub returns : goal.returns

@@ -1,10 +1,7 @@
 use Rattle.std.proofs.Common.{◌≡◌, cond, Some, ap, sym, ◌∙◌}
-use Rattle.std.specs.Ordering.{eq_by_cmp}
+use Rattle.dac_peers.specs.laws.Common.{eq_by_cmp, node_cmp, nodes_total, exact_nodes, got_after}
 use Rattle.std.specs.FinMap as map
 use Rattle.std.specs.FinMap.Entries.{find, find-put}
-use Rattle.dac_base.specs.Ids.{node_cmp}
-use Rattle.dac_base.specs.laws.Ids.{nodes_total, exact_nodes}
-use Rattle.dac_peers.specs.Peers.{got_after}
 use Rattle.dac_peers.proofs.positions.Positions.raise.Goals as goal
 use Rattle.dac_peers.proofs.positions.Positions.raise.Goals.{in-Some, in-None}
 

@@ -1,6 +1,5 @@
 use Rattle.std.proofs.Common.{◌≡◌, fold}
-use Rattle.dac_shapes.specs.Written.{put_section, unsaid}
-use Rattle.dac_shapes.specs.Views.{draft_of, names_of, sections_of}
+use Rattle.dac_shapes.specs.laws.Common.{put_section, unsaid, draft_of, names_of, sections_of}
 use Rattle.dac_shapes.proofs.draft.Draft.of_sections.Given as goal
 
 abbrev pub invariant-loop-section : goal.invariant-loop-section

@@ -1,6 +1,5 @@
 use Rattle.std.proofs.Common.{◌≡◌}
-use Rattle.dac_shapes.specs.Written.{put_all}
-use Rattle.dac_shapes.specs.Views.{draft_of, params_of}
+use Rattle.dac_shapes.specs.laws.Common.{put_all, draft_of, params_of}
 use Rattle.dac_shapes.proofs.draft.Draft.put_section.Given as goal
 
 abbrev pub invariant-loop-param : goal.invariant-loop-param

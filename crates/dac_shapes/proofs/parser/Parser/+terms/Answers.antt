@@ -1,8 +1,5 @@
 use Rattle.std.proofs.Common.{◌≡◌, ◌<◌, ◌∙◌, sym, ap, true, arith, inl, inr}
-use Rattle.dac_tokens.specs.declared.token.Symbol.TheVariants.{Comma}
-use Rattle.dac_tokens.specs.Words.{located_of, word_of, is_end}
-use Rattle.dac_shapes.specs.Shape.{is_symbol, term_at}
-use Rattle.dac_shapes.specs.Views.{parser_state, tokens_left}
+use Rattle.dac_shapes.specs.laws.Common.{Comma, located_of, word_of, is_end, is_symbol, term_at, parser_state, tokens_left}
 use Rattle.dac_shapes.proofs.Loops.{failed, comma_no_end, is_enough, in_fail, in_empty, in_begin, terms_fail, terms_end, terms_bad, terms_fail_more, terms_go, opens}
 use Rattle.dac_shapes.specs.laws.TermCases.{by_name, by_number, by_text, by_mark, by_other_mark, by_end}
 use Rattle.dac_shapes.proofs.parser.Parser.+terms.Goals as goal

@@ -1,7 +1,5 @@
 use Rattle.std.proofs.Common.{◌≡◌, ℕ, ◌<◌, ◌≤◌, ◌+◌, ◌*◌, false, cond}
-use Rattle.dac_tokens.specs.Words.{located_of, word_of, is_end}
-use Rattle.dac_shapes.specs.Shape.{terms_in, term_at}
-use Rattle.dac_shapes.specs.Views.{parser_state, tokens_left}
+use Rattle.dac_shapes.specs.laws.Common.{located_of, word_of, is_end, terms_in, term_at, parser_state, tokens_left}
 use Rattle.dac_shapes.proofs.Loops.{GoesTerms}
 use Rattle.dac_shapes.proofs.parser.Parser.+terms.Given as goal
 

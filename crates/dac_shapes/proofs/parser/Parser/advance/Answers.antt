@@ -1,6 +1,5 @@
 use Rattle.std.proofs.Common.{Err, Ok}
-use Rattle.dac_tokens.specs.Words.{located_of}
-use Rattle.dac_shapes.specs.Views.{parser_state}
+use Rattle.dac_shapes.specs.laws.Common.{located_of, parser_state}
 use Rattle.dac_shapes.proofs.Loops.{failed, token_gives}
 use Rattle.dac_shapes.proofs.parser.Parser.advance.Goals as goal
 

@@ -1,6 +1,5 @@
 use Rattle.std.proofs.Common.{◌<◌, ◌∙◌, sym, arith}
-use Rattle.dac_tokens.specs.Words.{word_of}
-use Rattle.dac_shapes.specs.Views.{tokens_left}
+use Rattle.dac_shapes.specs.laws.Common.{word_of, tokens_left}
 use Rattle.dac_shapes.proofs.Loops.{failed, text_no_end, texts_fail, texts_end, texts_go}
 use Rattle.dac_shapes.proofs.parser.Parser.after_texts.Goals as goal
 

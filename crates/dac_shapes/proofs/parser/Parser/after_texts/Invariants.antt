@@ -1,6 +1,5 @@
 use Rattle.std.proofs.Common.{ℕ, ◌<◌, ◌≤◌}
-use Rattle.dac_shapes.specs.Shape.{texts_at}
-use Rattle.dac_shapes.specs.Views.{parser_state, tokens_left}
+use Rattle.dac_shapes.specs.laws.Common.{texts_at, parser_state, tokens_left}
 use Rattle.dac_shapes.proofs.Loops.{GoesTexts}
 use Rattle.dac_shapes.proofs.parser.Parser.after_texts.Given as goal
 

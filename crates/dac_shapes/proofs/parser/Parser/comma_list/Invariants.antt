@@ -1,7 +1,5 @@
 use Rattle.std.proofs.Common.{◌≤◌, [], map}
-use Rattle.dac_tokens.specs.Words.{located_of}
-use Rattle.dac_shapes.specs.Shape.{comma_list, room}
-use Rattle.dac_shapes.specs.Views.{parser_state, tokens_left}
+use Rattle.dac_shapes.specs.laws.Common.{located_of, comma_list, room, parser_state, tokens_left}
 use Rattle.dac_shapes.proofs.Loops.{Goes}
 use Rattle.dac_shapes.proofs.parser.Parser.comma_list.Given as goal
 

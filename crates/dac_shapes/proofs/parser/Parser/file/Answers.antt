@@ -1,8 +1,5 @@
 use Rattle.std.proofs.Common.{◌≡◌, ◌∙◌, refl, sym, ap, ℕ, List, Ok, eqb, length, cond}
-use Rattle.std.proofs.lemmas.Bool.{cond-true, cond-false}
-use Rattle.dac_tokens.specs.declared.fault.FaultKind.TheVariants.{NoDistributed}
-use Rattle.dac_shapes.specs.Written.{Section, Written, written}
-use Rattle.dac_shapes.specs.Shape.{State, list_of, section_at, end_at, file_at, fails}
+use Rattle.dac_shapes.specs.laws.Common.{cond-true, cond-false, NoDistributed, Section, Written, written, State, list_of, section_at, end_at, file_at, fails}
 use Rattle.dac_shapes.proofs.Loops.{length_apps}
 use Rattle.dac_shapes.proofs.parser.Parser.file.Goals as goal
 

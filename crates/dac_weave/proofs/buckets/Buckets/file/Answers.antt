@@ -1,7 +1,6 @@
 use Rattle.std.proofs.Common.{◌≡◌, ◌%◌, ◌<◌, Some, length, arith}
-use Rattle.std.specs.List.{slice_get}
+use Rattle.dac_weave.specs.laws.Common.{slice_get, slice_get_read}
 use Rattle.std.proofs.lemmas.Nat.{mod_below}
-use Rattle.std.proofs.lemmas.Option.{slice_get_read}
 use Rattle.dac_weave.proofs.Finding.{files, keeps, on_err}
 use Rattle.dac_weave.proofs.buckets.Buckets.file.Goals as goal
 

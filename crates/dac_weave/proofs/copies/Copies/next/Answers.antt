@@ -1,6 +1,5 @@
 use Rattle.std.proofs.Common.{◌≡◌, ◌<◌, ◌-◌, ℕ, List, Some, length, slice_index_or, subst, arith}
-use Rattle.std.specs.List.{slice_get}
-use Rattle.std.proofs.lemmas.Option.{slice_get-get_or}
+use Rattle.dac_weave.specs.laws.Common.{slice_get, slice_get-get_or}
 use Rattle.dac_weave.proofs.copies.Copies.next.Goals as goal
 
 pub returns : goal.returns

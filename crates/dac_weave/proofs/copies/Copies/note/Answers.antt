@@ -1,6 +1,5 @@
 use Rattle.std.proofs.Common.{◌≡◌, ◌<◌, Some, length, refl, arith}
-use Rattle.std.specs.List.{slice_get}
-use Rattle.std.proofs.lemmas.Option.{slice_get_read}
+use Rattle.dac_weave.specs.laws.Common.{slice_get, slice_get_read}
 use Rattle.dac_weave.proofs.Copied.{noted-more, noted-none}
 use Rattle.dac_weave.proofs.copies.Copies.note.Goals as goal
 

@@ -1,7 +1,5 @@
 use Rattle.std.proofs.Common.{◌≡◌, ◌<◌, ℕ, length, Some, arith, slice_index_or, ap, ◌∙◌, sym, subst, true≢false}
-use Rattle.std.specs.List.{slice_get}
-use Rattle.std.proofs.lemmas.Option.{slice_get-get_or}
-use Rattle.dac_weave.specs.Labels.{lent}
+use Rattle.dac_weave.specs.laws.Common.{slice_get, slice_get-get_or, lent}
 use Rattle.dac_weave.proofs.Finding.{filed-within, lent-at, none-more, nowhere}
 use Rattle.dac_weave.proofs.indexed_list.IndexedList.first.Goals as goal
 

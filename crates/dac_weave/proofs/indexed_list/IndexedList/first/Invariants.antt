@@ -1,5 +1,5 @@
 use Rattle.std.proofs.Common.{◌≡◌, ℕ, ◌<◌, Some}
-use Rattle.std.specs.List.{slice_get}
+use Rattle.dac_weave.specs.laws.Common.{slice_get}
 use Rattle.dac_weave.proofs.indexed_list.IndexedList.first.Given as goal
 
 abbrev pub invariant-loop-i : goal.invariant-loop-i

@@ -1,8 +1,5 @@
 use Rattle.std.proofs.Common.{◌≡◌, ◌<◌, length, sym, ap, ◌∙◌, arith}
-use Rattle.std.specs.Borrow.{Bor}
-use Rattle.std.proofs.lemmas.List.{length-map}
-use Rattle.std.proofs.lemmas.Option.{slice_get_within}
-use Rattle.dac_weave.specs.Labels.{lent}
+use Rattle.dac_weave.specs.laws.Common.{Bor, length-map, slice_get_within, lent}
 use Rattle.dac_weave.proofs.Copied.{copied}
 use Rattle.dac_weave.proofs.indexed_list.IndexedList.next_copy.Goals as goal
 

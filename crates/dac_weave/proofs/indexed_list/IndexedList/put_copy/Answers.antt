@@ -1,6 +1,5 @@
 use Rattle.std.proofs.Common.{◌≡◌, Some, length, rules, ap, ◌∙◌}
-use Rattle.std.specs.List.{slice_get}
-use Rattle.dac_weave.specs.Labels.{lent}
+use Rattle.dac_weave.specs.laws.Common.{slice_get, lent}
 use Rattle.dac_weave.proofs.Copied.{indexed-kept, indexed-noted}
 use Rattle.dac_weave.proofs.indexed_list.IndexedList.put_copy.Goals as goal
 

@@ -1,5 +1,5 @@
 use Rattle.std.proofs.Common.{◌≡◌, length, rules, ap, ◌∙◌, ◌++◌, ◌∷◌, [], List}
-use Rattle.std.specs.Borrow.{Bor}
+use Rattle.dac_weave.specs.laws.Common.{Bor}
 use Rattle.dac_weave.proofs.Finding.{lent-filed, lent-kept}
 use Rattle.dac_weave.proofs.Copied.{indexed-kept, alike-kept, alike-pushed}
 use Rattle.dac_weave.proofs.indexed_list.IndexedList.put_new.Goals as goal

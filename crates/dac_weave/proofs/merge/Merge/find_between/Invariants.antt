@@ -1,4 +1,4 @@
-use Rattle.dac_weave.specs.Placing.{BlockedBetween}
+use Rattle.dac_weave.specs.laws.Common.{BlockedBetween}
 use Rattle.dac_weave.proofs.merge.Merge.find_between.Given as goal
 
 abbrev pub invariant-loop-i : goal.invariant-loop-i

@@ -1,4 +1,4 @@
-use Rattle.dac_weave.specs.Placing.{IsLeft}
+use Rattle.dac_weave.specs.laws.Common.{IsLeft}
 use Rattle.dac_weave.proofs.Least.{SoFar}
 use Rattle.dac_weave.proofs.merge.Merge.least_left.Given as goal
 

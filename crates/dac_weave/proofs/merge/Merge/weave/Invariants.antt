@@ -1,5 +1,5 @@
 use Rattle.std.proofs.Common.{◌≤◌, length}
-use Rattle.dac_weave.specs.Placing.{Weaves}
+use Rattle.dac_weave.specs.laws.Common.{Weaves}
 use Rattle.dac_weave.proofs.Placed.{unplaced}
 use Rattle.dac_weave.proofs.merge.Merge.weave.Given as goal
 
