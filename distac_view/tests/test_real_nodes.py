@@ -38,13 +38,17 @@ def runs_out(_: Score) -> None:
     subprocess.run([sys.executable, "-c", f"import time; time.sleep({LASTING})"], timeout=SECONDS, check=False)
 
 
-class Bounds(InRoom):
-    """Comparisons and nodes end in time."""
+class InTime(InRoom):
+    """Tests that don't take long."""
 
     def setUp(self) -> None:
         super().setUp()
-        self.began = time.monotonic()
-        self.addCleanup(lambda: self.assertLess(time.monotonic() - self.began, MOST_SECONDS))
+        began = time.monotonic()
+        self.addCleanup(lambda: self.assertLess(time.monotonic() - began, MOST_SECONDS))
+
+
+class Bounds(InTime):
+    """Comparisons and nodes end in time."""
 
     def node(self, script: str) -> Node:
         """A node that is a script of the shell."""
@@ -95,7 +99,7 @@ class Bounds(InRoom):
         self.assertIsNotNone(cluster.name_server.returncode)
 
 
-class Verdicts(unittest.TestCase):
+class Verdicts(InTime):
     """What is printed, and the status."""
 
     def said(self, *words: str, **comparisons: object) -> "tuple[int, list[str]]":
