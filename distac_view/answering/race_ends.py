@@ -57,8 +57,8 @@ class Search:
 
 @dataclass
 class Found:
-    """An end while the search goes on: its schedules by kind, and the first and the shortest one of them, with its phases and its
-    events."""
+    """An end while the search goes on: its schedules by kind, and the first and the shortest of them, the latter with its phases
+    and events."""
 
     first: int
     shortest: int
@@ -76,8 +76,8 @@ class Found:
 class End:
     """An end: its final pages, its schedules, the shortest of these as a script, and as few of its lines as suffice.
 
-    It is played if the program printed, for both scripts, exactly what the models did. A whole schedule that is longer than a script
-    may be is no script: then the other one suffices. In a run as that schedule `distac record` can print the phases up to the last.
+    It is played if the program printed, for both scripts, exactly what the models did. If the whole schedule is longer than a script
+    may be, the other one suffices. `distac record` could print that schedule up to the phase `last_recorded`.
     """
 
     pages: Pages
