@@ -1,7 +1,7 @@
 -- The worked run with a loss: the world is ready after two nodes have noted the loss, and their round fails over.
 use Rattle.std.proofs.Common.{◌≡◌, append-nil, ℕ, ◌+◌, ◌≤◌, Bool, true, false, not, cond, ◌||◌, ◌&&◌, List, [], ◌∷◌, ◌++◌, length, Option, Some, None, option_map, Ok, refl, sym, ap, subst, ◌∙◌, arith, inl, inr}
-use Rattle.dac_settle.specs.laws.Common.{nat_lt, IsSome, ◌==◌, option_map_or, option_and_then, true≢false, NodeId, MAX_COUNTER, Operation, StateValue, join, AreOperationsOf, meaning_of, meaning-same, starts-meaning, dot, write, DistinctDots-agree, app_count, is_up, key_at, Failover, up_is, is_due_by, noted_at, Note, IsLost, waits_of, Noted, kept_is, WorldEvent, Hand, Boot, Crash, HearOp, Booted, Issued, Refusal, DeclaredDown, MomentBack, DotsUsedUp, greatest_counter, terms_used_up, Sweep, sweep_of, sweep_from, claim_of, is_mine, is_mine_by, ModelNode, ModelRunning, joined, shown, base_after, refusal_of, meanings, step_by, off_after, ModelWorld, AnsweredAs, happens, answered_by, world_after, NodeSet, SetWorld, no_sets, set_run, Sound, sound_run, sound_start, members_of, AreRounds, EndsInRounds, first_node, second_node, IsEither, the_app, worked_table, first_of, up_of, both_go_round, lost_node, lost_claim}
-use Rattle.std.specs.Prelude.{nat_eq}
+use Rattle.dac_settle.specs.laws.Common.{nat_lt, IsSome, option_map_or, option_and_then, true≢false, NodeId, MAX_COUNTER, Operation, StateValue, join, AreOperationsOf, meaning_of, meaning-same, starts-meaning, dot, write, DistinctDots-agree, app_count, is_up, key_at, Failover, up_is, is_due_by, noted_at, Note, IsLost, waits_of, Noted, kept_is, WorldEvent, Hand, Boot, Crash, HearOp, Booted, Issued, Refusal, DeclaredDown, MomentBack, DotsUsedUp, greatest_counter, terms_used_up, Sweep, sweep_of, sweep_from, claim_of, is_mine, is_mine_by, ModelNode, ModelRunning, joined, shown, base_after, refusal_of, meanings, step_by, off_after, ModelWorld, AnsweredAs, happens, answered_by, world_after, NodeSet, SetWorld, no_sets, set_run, Sound, sound_run, sound_start, members_of, AreRounds, EndsInRounds, first_node, second_node, IsEither, the_app, worked_table, first_of, up_of, both_go_round, lost_node, lost_claim}
+use Rattle.std.specs.Prelude.{nat_eq, ◌==◌}
 use Rattle.std.specs.Option.{is_some}
 use Rattle.std.proofs.lemmas.Bool.{false_from_ne_true}
 use Rattle.std.proofs.lemmas.List.{length-append}

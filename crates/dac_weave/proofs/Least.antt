@@ -1,6 +1,7 @@
 -- The journal of the least node, found by a linear search.
 use Rattle.std.proofs.Common.{◌≡◌, ℕ, zero, suc, ◌+◌, ◌<◌, ◌≤◌, Bool, true, false, true≢false, inl, inr, List, [], ◌∷◌, Option, Some, None, length, refl, sym, ap, subst, ◌∙◌, arith, below_more}
-use Rattle.dac_weave.specs.laws.Common.{MatchOption, IsTrue, ◌↔◌, slice_get_within, JournalValue, At, IsFirst}
+use Rattle.dac_weave.specs.laws.Common.{MatchOption, IsTrue, slice_get_within, JournalValue, At, IsFirst}
+use Rattle.std.specs.Prelude.{◌↔◌}
 use Rattle.dac_weave.specs.Names.{IsLesser}
 
 same_journal : (a b : JournalValue) → Some a ≡ Some b → a ≡ b

@@ -1,7 +1,7 @@
 -- One journal replayed alone.
 use Rattle.std.proofs.Common.{◌≡◌, ℕ, ◌+◌, ◌<◌, ◌≤◌, Bool, true, false, cond, zero, suc, List, [], ◌∷◌, ◌++◌, Some, None, Result, Ok, Err, length, take, map, get_or, lt-ltb, refl, sym, ap, subst, ◌∙◌, true≢false, arith}
-use Rattle.dac_weave.specs.laws.Common.{IsTrue, ◌↔◌, slice_get, option_map, take_more, length-map, slice_get-map, slice_get_within, slice_get_read, NodeId, Table, node_count, NodeValue, Event, Reply, Refusal, NoSuchNode, ModelNode, model_step, Steps, off_after, Record, JournalValue, Seen, as_seen, journal_seen, as_world_result, At, NodeStepped, moved, node_step, node_step_by, replayed, AreAnswered, Repeats}
-use Rattle.std.specs.Prelude.{nat_lt}
+use Rattle.dac_weave.specs.laws.Common.{IsTrue, slice_get, option_map, take_more, length-map, slice_get-map, slice_get_within, slice_get_read, NodeId, Table, node_count, NodeValue, Event, Reply, Refusal, NoSuchNode, ModelNode, model_step, Steps, off_after, Record, JournalValue, Seen, as_seen, journal_seen, as_world_result, At, NodeStepped, moved, node_step, node_step_by, replayed, AreAnswered, Repeats}
+use Rattle.std.specs.Prelude.{nat_lt, ◌↔◌}
 use Rattle.std.proofs.lemmas.Bool.Decides.{nat_tests}
 use Rattle.std.proofs.lemmas.Option.{get_or_from_slice_get, slice_get_past}
 use Rattle.dac_journal.specs.ModelNode.{shown}

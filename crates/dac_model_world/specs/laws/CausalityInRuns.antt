@@ -1,7 +1,7 @@
 -- Causal order at each controller after a run in which no single operation is handed.
 use Rattle.std.proofs.Common.{◌≡◌, Option, Some, None, refl, sym, ap, subst, ◌∙◌}
-use Rattle.dac_model_world.specs.laws.Common.{◌↔◌, option_map, Dot, Origin, IsVector, Key, StateValue, IsOperationOf, DotsDetermine, PermitStands, StartStands, DrainStands, some_same, WorldValue, ModelWorld, numbered, SetWorld, NodeSet, held_by, operations_of, HoldsSets, state_by, DistinctDots, IsPermitOf, IsStartOf, IsDrainOf, EndsStart, IsDotOfOne}
-use Rattle.std.specs.Prelude.{ℕ}
+use Rattle.dac_model_world.specs.laws.Common.{option_map, Dot, Origin, IsVector, Key, StateValue, IsOperationOf, DotsDetermine, PermitStands, StartStands, DrainStands, some_same, WorldValue, ModelWorld, numbered, SetWorld, NodeSet, held_by, operations_of, HoldsSets, state_by, DistinctDots, IsPermitOf, IsStartOf, IsDrainOf, EndsStart, IsDotOfOne}
+use Rattle.std.specs.Prelude.{ℕ, ◌↔◌}
 use Rattle.dac_model_world.specs.Convergence.{RunsWith}
 use Rattle.dac_model_world.specs.Causality.{IsMaximalPermit, IsMaximalStart, IsMaximalDrain, RunsHolding, IsCausal}
 use Rattle.dac_model_world.specs.laws.Operations.{DistinctDots-agree}

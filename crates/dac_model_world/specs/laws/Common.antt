@@ -7,7 +7,7 @@ pub use Rattle.std.specs.Cmp.{Equal-is, tied_itself}
 pub use Rattle.std.specs.List.{slice_get, list_any}
 pub use Rattle.std.specs.Option.{option_map, option_and_then, option_map_or}
 pub use Rattle.std.specs.Ordering.{eq_by_cmp, is_eq}
-pub use Rattle.std.specs.Prelude.{nat_lt, ◌↔◌, IfSome, IsTrue}
+pub use Rattle.std.specs.Prelude.{nat_lt, IfSome, IsTrue}
 pub use Rattle.dac_base.specs.declared.NodeId.{NodeId}
 pub use Rattle.dac_base.specs.declared.limits.TheConstants.{MAX_COUNTER}
 pub use Rattle.dac_config.specs.Table.{Table}

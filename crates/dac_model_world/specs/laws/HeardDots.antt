@@ -1,6 +1,7 @@
 -- Heard dots decide the order of the meanings of issued operations.
 use Rattle.std.proofs.Common.{◌≡◌, true, List, [], ◌∷◌, inl, refl, sym, subst}
-use Rattle.dac_model_world.specs.laws.Common.{◌↔◌, IsTrue, Operation, StateValue, meaning_of, IsOperationOf, AreOperationsOf, DotsDetermine, is_below, is_below-is}
+use Rattle.dac_model_world.specs.laws.Common.{IsTrue, Operation, StateValue, meaning_of, IsOperationOf, AreOperationsOf, DotsDetermine, is_below, is_below-is}
+use Rattle.std.specs.Prelude.{◌↔◌}
 use Rattle.std.specs.FinSet as set
 use Rattle.dac_origins.specs.Dots.{IsSubset}
 use Rattle.dac_model_world.specs.Made.{HeardDotsAreOrder, OneDotIsOrder}

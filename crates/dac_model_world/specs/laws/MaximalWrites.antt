@@ -1,7 +1,8 @@
 -- The writes that stand in a closed set's meaning are its maximal ones. It knows no dot that it hasn't heard, and has
 -- heard the dots of each origin from 1 without gaps.
 use Rattle.std.proofs.Common.{◌≡◌, ◌⊎◌, ℕ, zero, suc, ◌-◌, ◌<◌, ◌≤◌, Bool, true, false, ◌||◌, inl, inr, List, nat_eq, eq-eqb, refl, sym, ap, subst, ◌∙◌, arith, true≢false}
-use Rattle.dac_model_world.specs.laws.Common.{◌↔◌, list_any, false_from_ne_true, exact_unsigned_eq, Origin, Dot, dot, IsNext, IsVector, dots_total, exact_dots, same_dot, same_dot_is, same_dot_itself, Act, Operation, meaning_of, IsOperationOf, AreOperationsOf, DotsDetermine, has_dot, is_replaced, found, finds, heard-meaning, known-meaning, SetWorld, Issue, operations_of, IsDotOfOne}
+use Rattle.dac_model_world.specs.laws.Common.{list_any, false_from_ne_true, exact_unsigned_eq, Origin, Dot, dot, IsNext, IsVector, dots_total, exact_dots, same_dot, same_dot_is, same_dot_itself, Act, Operation, meaning_of, IsOperationOf, AreOperationsOf, DotsDetermine, has_dot, is_replaced, found, finds, heard-meaning, known-meaning, SetWorld, Issue, operations_of, IsDotOfOne}
+use Rattle.std.specs.Prelude.{◌↔◌}
 use Rattle.std.specs.FinSet as set
 use Rattle.dac_origins.specs.Dots.{Dots}
 use Rattle.dac_meaning.specs.Meaning.{replaces}

@@ -1,7 +1,7 @@
 -- A dot stands in the meaning of a set if one of the operations has it, and none replaces it.
 use Rattle.std.proofs.Common.{◌≡◌, ◌⊎◌, Bool, true, false, not, cond, inl, inr, List, Option, None, refl, sym, ap, subst, ◌∙◌}
-use Rattle.dac_model_world.specs.laws.Common.{◌↔◌, list_any, eq_by_cmp, is_eq, tied_itself, false≢true, and_parts, Dot, Origin, dot_cmp, origin_cmp, origins_total, exact_origins, Key, same_dot_is, same_dot_itself, same_dot, Act, Permit, Start, Stop, Drain, Operation, meaning_of, IsOperationOf, has_dot, is_replaced, found, finds, starts-meaning, permits-meaning, drains-meaning, PermitStands, StartStands, DrainStands, IsPermitOf, IsStartOf, IsDrainOf, EndsStart}
-use Rattle.std.specs.Prelude.{is_some}
+use Rattle.dac_model_world.specs.laws.Common.{list_any, eq_by_cmp, is_eq, tied_itself, false≢true, and_parts, Dot, Origin, dot_cmp, origin_cmp, origins_total, exact_origins, Key, same_dot_is, same_dot_itself, same_dot, Act, Permit, Start, Stop, Drain, Operation, meaning_of, IsOperationOf, has_dot, is_replaced, found, finds, starts-meaning, permits-meaning, drains-meaning, PermitStands, StartStands, DrainStands, IsPermitOf, IsStartOf, IsDrainOf, EndsStart}
+use Rattle.std.specs.Prelude.{is_some, ◌↔◌}
 use Rattle.std.specs.declared.cmp.Ordering.{Ordering}
 use Rattle.std.proofs.lemmas.Bool.{and_from}
 use Rattle.dac_origins.specs.Keys.{has_key}

@@ -1,7 +1,7 @@
 -- The greatest number that each origin acknowledged is recorded.
-use Rattle.std.specs.Prelude.{◌≡◌, ◌≢◌, ◌≤◌, ◌&&◌, ℕ, Bool, true, false, cond, nat_eq, nat_le, max, Option, None, Some, refl}
+use Rattle.std.specs.Prelude.{◌≡◌, ◌≢◌, ◌≤◌, ◌&&◌, ℕ, Bool, true, false, cond, nat_eq, nat_le, max, Option, None, Some, refl, ◌⊎◌}
 use Rattle.std.proofs.Common.{inl, inr, arith, leb, ap, sym, subst, ◌∙◌}
-use Rattle.dac_peers.specs.laws.Common.{◌⊎◌, eqb-true, leb-true, leb-false, true≢false, none-some, same_Some, eq_by_cmp, Origin, origin_cmp, origins_total, Numbers, greater, raised, Message, PeersValue}
+use Rattle.dac_peers.specs.laws.Common.{eqb-true, leb-true, leb-false, true≢false, none-some, same_Some, eq_by_cmp, Origin, origin_cmp, origins_total, Numbers, greater, raised, Message, PeersValue}
 use Rattle.std.proofs.lemmas.Bool.{eq-eqb, le-leb}
 use Rattle.std.specs.Ordering.{is_eq}
 use Rattle.std.specs.Cmp.{Equal-is}

@@ -2,7 +2,6 @@
 pub use Rattle.std.proofs.lemmas.Bool.{eqb-true, leb-true, leb-false, true≢false}
 pub use Rattle.std.proofs.lemmas.Option.{same_Some, none-some}
 pub use Rattle.std.specs.Ordering.{eq_by_cmp}
-pub use Rattle.std.specs.Prelude.{◌⊎◌}
 pub use Rattle.dac_base.specs.Ids.{node_cmp}
 pub use Rattle.dac_base.specs.declared.NodeId.{NodeId}
 pub use Rattle.dac_base.specs.laws.Ids.{nodes_total, exact_nodes}

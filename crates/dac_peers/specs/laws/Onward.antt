@@ -1,7 +1,7 @@
 -- Positions got never go back.
-use Rattle.std.specs.Prelude.{◌≡◌, ◌≢◌, ℕ, true, false, cond, nat_eq, nat_lt, max, Option, None, Some, refl}
+use Rattle.std.specs.Prelude.{◌≡◌, ◌≢◌, ℕ, true, false, cond, nat_eq, nat_lt, max, Option, None, Some, refl, ◌⊎◌}
 use Rattle.std.proofs.Common.{inl, inr, arith, leb, ap, sym, subst, ◌∙◌}
-use Rattle.dac_peers.specs.laws.Common.{◌⊎◌, eqb-true, leb-true, leb-false, true≢false, none-some, same_Some, eq_by_cmp, NodeId, node_cmp, nodes_total, exact_nodes, Origin, Body, Message, Position, PeersValue, got_after, heard_from}
+use Rattle.dac_peers.specs.laws.Common.{eqb-true, leb-true, leb-false, true≢false, none-some, same_Some, eq_by_cmp, NodeId, node_cmp, nodes_total, exact_nodes, Origin, Body, Message, Position, PeersValue, got_after, heard_from}
 use Rattle.std.proofs.lemmas.Bool.{eqb-false, ltb-true, ltb-false}
 use Rattle.std.specs.Ordering.{is_eq}
 use Rattle.std.specs.Cmp.{Equal-is}

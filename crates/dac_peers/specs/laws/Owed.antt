@@ -1,7 +1,7 @@
 -- Replies that are due.
-use Rattle.std.specs.Prelude.{◌≡◌, ◌≢◌, ◌↔◌, ◌||◌, ◌&&◌, not, ℕ, true, refl}
+use Rattle.std.specs.Prelude.{◌≡◌, ◌≢◌, ◌↔◌, ◌||◌, ◌&&◌, not, ℕ, true, refl, ◌⊎◌}
 use Rattle.std.proofs.Common.{inl, inr, ap, sym, ◌∙◌}
-use Rattle.dac_peers.specs.laws.Common.{◌⊎◌, true≢false, eq_by_cmp, NodeId, node_cmp, nodes_total, Origin, Body, Message, PeersValue, heard_from}
+use Rattle.dac_peers.specs.laws.Common.{true≢false, eq_by_cmp, NodeId, node_cmp, nodes_total, Origin, Body, Message, PeersValue, heard_from}
 use Rattle.std.specs.FinSet as set
 use Rattle.dac_messages.specs.declared.message.Body.TheVariants.{Whole, Interval, Nothing}
 use Rattle.dac_peers.specs.InWords.{IsOwed, HeardAreOwed, ShippedAreNotOwed}

@@ -1,7 +1,7 @@
 -- No incarnation acknowledged more deltas than there are.
-use Rattle.std.specs.Prelude.{◌≡◌, ℕ, Some}
+use Rattle.std.specs.Prelude.{◌≡◌, ℕ, Some, ◌⊎◌}
 use Rattle.std.proofs.Common.{inl, inr, sym, subst, ◌∙◌}
-use Rattle.dac_peers.specs.laws.Common.{◌⊎◌, none-some, Origin, Message, PeersValue, heard_from}
+use Rattle.dac_peers.specs.laws.Common.{none-some, Origin, Message, PeersValue, heard_from}
 use Rattle.std.specs.FinMap as map
 use Rattle.dac_deltas.specs.Numbers.{IsGreatest}
 use Rattle.dac_peers.specs.InWords.{Acknowledges, AcknowledgesAtMost, AcksAreWithin}

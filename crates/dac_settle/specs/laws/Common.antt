@@ -1,7 +1,7 @@
 -- The names that several proofs cite, passed on from one place. Declares nothing.
 pub use Rattle.std.proofs.lemmas.Bool.{true≢false, leb-true, and_from, le-ltb, false≢true, eqb-true, and_parts, eqb-false}
 pub use Rattle.std.specs.Option.{option_map_or, option_and_then}
-pub use Rattle.std.specs.Prelude.{nat_lt, nat_le, unwrap_or, IsSome, ◌==◌, All}
+pub use Rattle.std.specs.Prelude.{nat_lt, nat_le, unwrap_or, IsSome, All}
 pub use Rattle.std.specs.declared.cmp.Ordering.{Ordering}
 pub use Rattle.dac_base.specs.declared.AppId.{AppId}
 pub use Rattle.dac_base.specs.declared.NodeId.{NodeId}

@@ -2,8 +2,8 @@
 -- Then b is claimed at the first node, the only one where it can run. Now the second node runs fewer, so the rule makes
 -- it take over a.
 use Rattle.std.proofs.Common.{◌≡◌, ℕ, ◌<◌, Bool, true, false, cond, ◌&&◌, List, [], ◌∷◌, ◌++◌, length, Option, Some, None, option_map, refl, sym, ap, subst, ◌∙◌, arith, inl, inr}
-use Rattle.dac_settle.specs.laws.Common.{nat_lt, IsSome, ◌==◌, option_map_or, false≢true, eqb-false, NodeId, AppId, Origin, dot, Normal, IsGreatest, claim_cmp, Lives, IsLive, keyed_write, write, Operation, operation, StateValue, meaning_of, claim_said, In-append_left, In-append_right, In-append_cases, SaysFor, starts-meaning, permits-meaning, drains-meaning, Table, group_of, Verdict, Failover, Halted, Move, Takeover, Kept, Nobody, IsEligible, is_eligible, IsEarlier, IsFirst, load_of, key_at, IsStartedAt, is_up, holder_of, IsVerdict, verdict_of, candidate_of, preferred_is, verdict_in_words, MayRunAlike, IsGrown, first_node, second_node, IsEither, the_app, first_of, start_of, placed, IsGood}
-use Rattle.std.specs.Prelude.{nat_eq}
+use Rattle.dac_settle.specs.laws.Common.{nat_lt, IsSome, option_map_or, false≢true, eqb-false, NodeId, AppId, Origin, dot, Normal, IsGreatest, claim_cmp, Lives, IsLive, keyed_write, write, Operation, operation, StateValue, meaning_of, claim_said, In-append_left, In-append_right, In-append_cases, SaysFor, starts-meaning, permits-meaning, drains-meaning, Table, group_of, Verdict, Failover, Halted, Move, Takeover, Kept, Nobody, IsEligible, is_eligible, IsEarlier, IsFirst, load_of, key_at, IsStartedAt, is_up, holder_of, IsVerdict, verdict_of, candidate_of, preferred_is, verdict_in_words, MayRunAlike, IsGrown, first_node, second_node, IsEither, the_app, first_of, start_of, placed, IsGood}
+use Rattle.std.specs.Prelude.{nat_eq, ◌==◌}
 use Rattle.std.specs.Option.{is_some}
 use Rattle.std.specs.FinMap as map
 use Rattle.dac_chains.specs.declared.claims.Claim.{Claim}

@@ -1,7 +1,7 @@
 -- A second tick at the same moment claims nothing, and passes over only applications that the first did.
 use Rattle.std.proofs.Common.{◌≡◌, ◌⊎◌, ℕ, ◌+◌, ◌-◌, ◌<◌, ◌≤◌, Bool, true, false, not, cond, ◌&&◌, ◌||◌, List, [], ◌∷◌, ◌++◌, Option, None, Some, length, refl, sym, ap, ap₂, subst, ◌∙◌, arith, zero, suc, add-one, inl, inr, true≢false}
-use Rattle.dac_ticks.specs.laws.Common.{◌==◌, option_map_or, false≢true, and_parts, and_from, eqb-true, eq-eqb, MAX_COUNTER, NodeId, AppId, Origin, Table, node_count, app_count, IsLive, Lives, Act, StateValue, IsState, join, meaning_of, Verdict, Failover, Halted, Move, Kept, Nobody, is_eligible, is_up, key_at, apps_of, holder_of, IsVerdict, verdict_of, candidate_of, eligible_is, verdict_in_words, Noted, waits_of, next_operation, terms_used_up, Sweep, sweep_from, claim_of, is_mine, sweep_over}
-use Rattle.std.specs.Prelude.{nat_lt, is_some, MatchOption, filter, option_map}
+use Rattle.dac_ticks.specs.laws.Common.{option_map_or, false≢true, and_parts, and_from, eqb-true, eq-eqb, MAX_COUNTER, NodeId, AppId, Origin, Table, node_count, app_count, IsLive, Lives, Act, StateValue, IsState, join, meaning_of, Verdict, Failover, Halted, Move, Kept, Nobody, is_eligible, is_up, key_at, apps_of, holder_of, IsVerdict, verdict_of, candidate_of, eligible_is, verdict_in_words, Noted, waits_of, next_operation, terms_used_up, Sweep, sweep_from, claim_of, is_mine, sweep_over}
+use Rattle.std.specs.Prelude.{◌==◌, nat_lt, is_some, MatchOption, filter, option_map}
 use Rattle.std.specs.Option.{option_and_then}
 use Rattle.std.specs.FinSet as set
 use Rattle.std.specs.FinMap as map

@@ -3,7 +3,6 @@ pub use Rattle.std.proofs.lemmas.Bool.{false_from_ne_true, eqb-true, false≢tru
 pub use Rattle.std.proofs.lemmas.Cmp.{tied_itself}
 pub use Rattle.std.specs.Option.{option_map_or}
 pub use Rattle.std.specs.Ordering.{eq_by_cmp, is_eq}
-pub use Rattle.std.specs.Prelude.{◌==◌}
 pub use Rattle.dac_base.specs.declared.AppId.{AppId}
 pub use Rattle.dac_base.specs.declared.NodeId.{NodeId}
 pub use Rattle.dac_base.specs.declared.limits.TheConstants.{MAX_COUNTER}

@@ -1,7 +1,8 @@
 -- An application claimed in a sweep stays with its claimer to the end of the sweep, because later claims are for other
 -- applications and leave everything unchanged on which its verdict depends.
 use Rattle.std.proofs.Common.{◌≡◌, ℕ, ◌+◌, ◌<◌, ◌≤◌, true, false, List, [], ◌∷◌, Option, Some, refl, sym, ap, subst, ◌∙◌, arith, inl, inr}
-use Rattle.dac_ticks.specs.laws.Common.{◌==◌, option_map_or, and_parts, false≢true, eqb-true, eq-eqb, NodeId, AppId, Origin, Table, node_count, How, IsLive, Lives, Operation, StateValue, IsState, join, meaning_of, IsVerdict, candidate_of, verdict_of, verdict_in_words, Noted, next_operation, Sweep, sweep_from, claiming, claim_of, swept, sweep_over}
+use Rattle.dac_ticks.specs.laws.Common.{option_map_or, and_parts, false≢true, eqb-true, eq-eqb, NodeId, AppId, Origin, Table, node_count, How, IsLive, Lives, Operation, StateValue, IsState, join, meaning_of, IsVerdict, candidate_of, verdict_of, verdict_in_words, Noted, next_operation, Sweep, sweep_from, claiming, claim_of, swept, sweep_over}
+use Rattle.std.specs.Prelude.{◌==◌}
 use Rattle.std.specs.Option.{is_some}
 use Rattle.std.specs.FinMap as map
 use Rattle.std.proofs.lemmas.Bool.{true≢false}

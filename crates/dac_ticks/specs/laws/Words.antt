@@ -1,6 +1,7 @@
 -- A sweep agrees with the words.
 use Rattle.std.proofs.Common.{◌≡◌, ℕ, ◌+◌, ◌<◌, ◌≤◌, Bool, true, false, cond, List, [], ◌∷◌, ◌++◌, Option, None, Some, length, refl, sym, ap, subst, ◌∙◌, arith, append-nil, append_assoc, inl, inr}
-use Rattle.dac_ticks.specs.laws.Common.{◌==◌, option_map_or, false≢true, false_from_ne_true, and_parts, and_from, eqb-true, eq-eqb, MAX_COUNTER, NodeId, AppId, Origin, How, Operation, StateValue, join, meaning_of, Table, app_count, Verdict, Failover, Halted, Move, Kept, Nobody, apps_of, candidate_of, holder_of, is_eligible, IsVerdict, verdict_of, eligible_is, verdict_in_words, Noted, waits_of, greatest_counter, claim_act, terms_used_up, Sweep, sweep_from, passing, claiming, claimed_by, claim_of, is_mine, sweep_over, sweep_of, found_of}
+use Rattle.dac_ticks.specs.laws.Common.{option_map_or, false≢true, false_from_ne_true, and_parts, and_from, eqb-true, eq-eqb, MAX_COUNTER, NodeId, AppId, Origin, How, Operation, StateValue, join, meaning_of, Table, app_count, Verdict, Failover, Halted, Move, Kept, Nobody, apps_of, candidate_of, holder_of, is_eligible, IsVerdict, verdict_of, eligible_is, verdict_in_words, Noted, waits_of, greatest_counter, claim_act, terms_used_up, Sweep, sweep_from, passing, claiming, claimed_by, claim_of, is_mine, sweep_over, sweep_of, found_of}
+use Rattle.std.specs.Prelude.{◌==◌}
 use Rattle.std.specs.Option.{is_some, option_map}
 use Rattle.std.specs.FinMap as map
 use Rattle.std.proofs.lemmas.Bool.{true≢false}

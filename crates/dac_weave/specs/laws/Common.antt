@@ -7,7 +7,7 @@ pub use Rattle.std.specs.Borrow.{Bor}
 pub use Rattle.std.specs.Global.{Vec}
 pub use Rattle.std.specs.List.{slice_get, slice_set, AllZip}
 pub use Rattle.std.specs.Option.{option_map}
-pub use Rattle.std.specs.Prelude.{MatchOption, IsTrue, ◌↔◌}
+pub use Rattle.std.specs.Prelude.{MatchOption, IsTrue}
 pub use Rattle.dac_base.specs.declared.NodeId.{NodeId}
 pub use Rattle.dac_config.specs.Table.{Table, node_count}
 pub use Rattle.dac_operations.specs.Operations.{Operation}
