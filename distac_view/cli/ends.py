@@ -82,7 +82,7 @@ def add_ends(parser: argparse.ArgumentParser) -> None:
     parser.add_argument("--schedules", metavar="N", type=count_from_one, default=SCHEDULES, help=about)
     about = "the seed of the schedules, 1 if absent: the same one gives the same answer"
     parser.add_argument("--seed", metavar="S", type=seed, default=1, help=about)
-    about = "a folder for the scripts of each end: end-N.distac, and end-N-whole.distac with its whole schedule"
+    about = "a folder for the scripts of each end: end-N.distac, and end-N-whole.distac with its whole schedule, if a script may be so long"
     parser.add_argument("--keep", metavar="FOLDER", help=about)
     about = "a line that the final page of each running node must have, its first words, or a regular expression for either"
     parser.add_argument("--expect", metavar="PATTERN", nargs="+", action="extend", default=[], help=about)

@@ -13,8 +13,8 @@ from contextlib import redirect_stderr, redirect_stdout
 from unittest import mock
 
 import real_erlang
-from erlang_nodes import ENDING, Cluster, Node, held
-from real_shared import AGREE, DIFFER, NoAnswer, Score, limit
+from erlang_nodes import Cluster, Node
+from real_shared import AGREE, DIFFER, Score
 from support import InRoom
 
 # What a comparison may take here, and what none of these tests takes even on a busy machine.
@@ -77,12 +77,23 @@ class Bounds(InTime):
             self.assertIsNone(node.ask("nodes", 0.1))
         self.assertFalse(node.is_up)
 
-    def test_signals_wait_until_all_nodes_have_ended(self) -> None:
-        node = self.node("exec cat")
-        with self.assertRaises(NoAnswer), limit(SECONDS), held(ENDING):
-            time.sleep(SECONDS + 0.5)
-            node.kill()
-        self.assertFalse(node.is_up)
+    def test_an_alarm_while_nodes_are_ended(self) -> None:
+        nodes, kill = [self.node("exec cat"), self.node("exec cat")], Node.kill
+        cluster, score = self.cluster(*nodes), Score()
+
+        def slowly(node: Node) -> None:
+            time.sleep(SECONDS + 0.2)
+            kill(node)
+
+        def compare(_: Score) -> None:
+            with mock.patch.object(Cluster, "__enter__", lambda cluster: cluster), cluster:
+                pass
+
+        with mock.patch.object(Node, "kill", slowly), redirect_stdout(io.StringIO()):
+            score.make("slow", compare, SECONDS)
+        self.assertEqual(score.differing, [f"slow: no answer in {SECONDS} s"])
+        self.assertEqual([node.is_up for node in nodes], [False, False])
+        self.assertIsNotNone(cluster.name_server.returncode)
 
     def test_nodes_of_a_comparison_without_end(self) -> None:
         node = self.node("exec cat")
