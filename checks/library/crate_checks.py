@@ -9,6 +9,8 @@ from checks.library.crates import Crates
 LIST = "docs/crate-list.txt"
 CODE_PATH = re.compile(r"(?<![\w:.])(\w+)::")
 DEFINITION_PATH = re.compile(r"\bRattle\.(\w+)\b")
+IMPORT = re.compile(r"^use Rattle\.(\w+)\.(\S+)\.\{([^}]*)\}", re.MULTILINE)
+PASSED_ON = re.compile(r"^(?:unfoldable )?pub use Rattle\.(\w+)\.\S+\.\{([^}]*)\}", re.MULTILINE)
 
 
 def layer_faults(crates: Crates) -> Iterator[str]:
@@ -22,8 +24,18 @@ def layer_faults(crates: Crates) -> Iterator[str]:
                 yield f"crates.txt: {crate} lists {below}, {why}"
 
 
+def named_through(root: pathlib.Path, text: str) -> Iterator[str]:
+    """The crates and libraries of names that this text imports from a module which passes them on."""
+    for crate, module, names in IMPORT.findall(text):
+        file = root / "crates" / crate / f"{module.replace('.', '/')}.antt"
+        if module.endswith(".Common") and file.is_file():
+            for origin, passed in PASSED_ON.findall(file.read_text(encoding="utf-8")):
+                if set(names.split(", ")) & set(passed.split(", ")):
+                    yield origin
+
+
 def named_in(folder: pathlib.Path, known: FrozenSet[str]) -> FrozenSet[str]:
-    """The crates and libraries named by a crate's files."""
+    """The crates and libraries named by a crate's files, or by a module that passes on names which these import."""
     named = set()
     for file in folder.rglob("*"):
         if "out" in file.relative_to(folder).parts or file.suffix not in (".rt", ".antt"):
@@ -34,6 +46,7 @@ def named_in(folder: pathlib.Path, known: FrozenSet[str]) -> FrozenSet[str]:
             named.update(CODE_PATH.findall(text))
         else:
             text = re.sub(r"(^|\s)--[^\n]*", " ", text)
+            named.update(named_through(folder.parent.parent, text))
         named.update(DEFINITION_PATH.findall(text))
     return frozenset(named) & known
 

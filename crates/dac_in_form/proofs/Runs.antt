@@ -1,6 +1,6 @@
 -- Issued operations and shipped messages of each run are in form: a loop over events.
 use Rattle.std.proofs.Common.{◌≡◌, ℕ, ◌<◌, ◌≤◌, ◌+◌, ◌-◌, Bool, true, false, cond, nat_eq, List, [], ◌∷◌, ◌++◌, length, Option, Some, None, Ok, Err, refl, sym, ap, subst, ◌∙◌, inl, inr, arith, leb-false, leb-true, ltb-true}
-use Rattle.dac_in_form.proofs.Common.{nat_lt, AllByRecursion, slice_get, option_map, exact_unsigned_eq, MAX_COUNTER, NodeId, node_cmp, Origin, Operation, StateValue, IsOperationOf, Table, node_count, Note, waits_of, IsOrigin, Two, WorldEvent, Message, Event, Boot, Crash, Tick, Ship, Hear, HearOp, none_is, ModelNode, ModelRunning, joined, running_shown, shown, refusal_on, refusal_of, Transition, note_of, step_by, up, comes_up, transition_on, some_same, ModelWorld, InEachRun, Run, start, happens, answered_by, shipped_by, Agree-within, DistinctDots-agree, AreInForm, HeldAreInForm, RunIsInForm}
+use Rattle.dac_in_form.proofs.Common.{nat_lt, AllByRecursion, slice_get, option_map, exact_unsigned_eq, MAX_COUNTER, NodeId, node_cmp, Origin, Operation, StateValue, IsOperationOf, Table, node_count, Note, waits_of, IsOrigin, Two, WorldEvent, Message, Event, Boot, Crash, Hear, none_is, ModelNode, ModelRunning, joined, running_shown, shown, refusal_on, refusal_of, Transition, note_of, step_by, up, comes_up, transition_on, some_same, ModelWorld, InEachRun, Run, start, happens, answered_by, shipped_by, Agree-within, DistinctDots-agree, AreInForm, HeldAreInForm, RunIsInForm}
 use Rattle.std.specs.Prelude.{nat_le}
 use Rattle.std.specs.FinMap as map
 use Rattle.std.proofs.lemmas.List.{length-append}
@@ -9,7 +9,6 @@ use Rattle.dac_meaning.specs.laws.Members.{In-append_left, In-append_right, In-a
 use Rattle.dac_events.specs.declared.What.{What}
 use Rattle.dac_events.specs.declared.refusal.Refusal.TheVariants.{IncarnationsUsedUp}
 use Rattle.dac_events.specs.declared.world_fault.WorldFault.TheVariants.{NoSuchNode}
-use Rattle.dac_messages.specs.declared.event.Event.TheVariants.{Command as Commanded}
 use Rattle.dac_model_node.specs.Effect.{issued_by}
 use Rattle.dac_model_node.specs.EventRefusals.{refusal_off, refusal_by}
 use Rattle.dac_model_node.specs.Transitions.{moment_of}
@@ -66,11 +65,7 @@ next_at_most m n h = omega arith
 boot_at_most : (last : ℕ) (e : Event) → refusal_off last e ≡ None → last + 1 ≤ MAX_INCARNATION
 boot_at_most last (Boot now) none = next_at_most MAX_INCARNATION last (leb-false MAX_INCARNATION last (none_is ((nat_le MAX_INCARNATION last, IncarnationsUsedUp) ∷ []) none).0)
 boot_at_most last Crash none = no_off none
-boot_at_most last (Commanded c) none = no_off none
-boot_at_most last (Tick now) none = no_off none
-boot_at_most last (Ship to) none = no_off none
-boot_at_most last (Hear m) none = no_off none
-boot_at_most last (HearOp o) none = no_off none
+boot_at_most last _ none = no_off none
 
 -- the log and the peer table after a transition
 goes_as : (r : ModelRunning) (note : Note) (transition : Transition) (q : ModelRunning) → goes_on r note transition ≡ Some q → (q.log ≡ r.log ++ transition.adds) × (q.peers ≡ transition.peers)

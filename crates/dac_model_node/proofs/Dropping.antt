@@ -1,8 +1,7 @@
 -- Which deltas a node drops.
 use Rattle.std.proofs.Common.{◌≡◌, ◌⊎◌, ◌↔◌, ℕ, ◌+◌, ◌-◌, ◌<◌, ◌≤◌, Bool, true, false, length, Option, Some, None, inl, inr, refl, sym, ap, subst, ◌∙◌, arith}
-use Rattle.dac_model_node.specs.laws.Common.{min, max, nat_eq, nat_lt, ltb-true, ltb-false, eqb-true, NodeId, StateValue, Table, node_count, KeptDeltas, MAX_DELTAS, Event, Boot, Crash, Tick, Ship, Hear, HearOp, Reply, Ticked, Held, Shipped, PeersValue, RunningValue, LeavesRunning, RunsOn, deltas_in, had_by_all}
+use Rattle.dac_model_node.specs.laws.Common.{min, max, nat_eq, nat_lt, ltb-true, ltb-false, eqb-true, NodeId, StateValue, Table, node_count, KeptDeltas, MAX_DELTAS, Event, Boot, Hear, Reply, Ticked, Held, Shipped, PeersValue, RunningValue, LeavesRunning, RunsOn, deltas_in, had_by_all}
 use Rattle.std.proofs.lemmas.Bool.{eqb-false}
-use Rattle.dac_messages.specs.declared.event.Event.TheVariants.{Command as Commanded}
 use Rattle.dac_messages.specs.declared.reply.Reply.TheVariants.{Booted, Crashed, Issued, GaveUp, Heard}
 use Rattle.dac_peers.specs.Peers.{number_acked, acked_by_all}
 use Rattle.dac_peers.specs.InWords.{IsNumberOf, IsOther}
@@ -103,11 +102,7 @@ nothing_had k h = omega (arith, h)
 had_in_words : (t : Table) (e : Event) (u : RunningValue) (k : ℕ) → (k < had_by_all t e u) ↔ IsHadByAll t e u k
 had_in_words t (Hear m) u k = had_is u.peers u.state (node_count t) u.origin.node k
 had_in_words t (Boot now) u k = (nothing_had k, λ h. absurd h)
-had_in_words t Crash u k = (nothing_had k, λ h. absurd h)
-had_in_words t (Commanded c) u k = (nothing_had k, λ h. absurd h)
-had_in_words t (Tick now) u k = (nothing_had k, λ h. absurd h)
-had_in_words t (Ship to) u k = (nothing_had k, λ h. absurd h)
-had_in_words t (HearOp o) u k = (nothing_had k, λ h. absurd h)
+had_in_words t _ u k = (nothing_had k, λ h. absurd h)
 
 base_in_words : (t : Table) (r : RunningValue) (e : Event) (reply : Reply) (u : RunningValue) → RunsOn t r e reply u → (k : ℕ) → k < u.kept.count → (k < u.kept.base) ↔ ((k < r.kept.base) ⊎ ((k + MAX_DELTAS < u.kept.count) ⊎ (k < had_by_all t e u)))
 base_in_words t r e reply u runs k there =

@@ -1,33 +1,22 @@
 -- The effects of changes.
 use Rattle.std.proofs.Common.{◌≡◌, ◌-◌, ◌≤◌, ◌+◌, ℕ, Bool, true, false, cond, List, [], ◌∷◌, length, Option, Some, None, refl, sym, ap, subst, ◌∙◌, arith, true≢false}
-use Rattle.std.specs.Prelude.{fold, min}
+use Rattle.dac_node.proofs.Common.{fold, MAX_COUNTER, Operation, StateValue, join, meaning_of, is_below, Table, pushed, Noted, content_of, Hear, Reply, none_is, RunningValue, refusal_by, brings, transition_of, IsNoting, Notes, news, noting, ChangeValue, Effect, Fits, Prepared}
+use Rattle.std.specs.Prelude.{min}
 use Rattle.std.specs.Option.{option_to_list}
-use Rattle.dac_base.specs.declared.limits.TheConstants.{MAX_COUNTER}
 use Rattle.dac_base.specs.declared.NodeId.{NodeId}
-use Rattle.dac_operations.specs.Operations.{Operation}
-use Rattle.dac_meaning.specs.StateValue.{StateValue, IsState, join}
-use Rattle.dac_meaning.specs.Meaning.{meaning_of}
-use Rattle.dac_meaning.specs.Below.{is_below}
-use Rattle.dac_config.specs.Table.{Table, node_count}
+use Rattle.dac_meaning.specs.StateValue.{IsState}
+use Rattle.dac_config.specs.Table.{node_count}
 use Rattle.dac_peers.specs.Peers.{PeersValue, acked_by_all, heard_from}
-use Rattle.dac_deltas.specs.KeptDeltas.{KeptDeltas, cut, pushed, trimmed}
-use Rattle.dac_decide.specs.declared.waits.Noted.{Noted}
-use Rattle.dac_messages.specs.Bodies.{content_of}
+use Rattle.dac_deltas.specs.KeptDeltas.{KeptDeltas, cut, trimmed}
 use Rattle.dac_messages.specs.declared.message.Message.{Message}
 use Rattle.dac_messages.specs.declared.event.Event.{Event}
-use Rattle.dac_messages.specs.declared.event.Event.TheVariants.{Hear}
-use Rattle.dac_messages.specs.declared.reply.Reply.{Reply}
 use Rattle.dac_events.specs.declared.refusal.Refusal.TheVariants.{DotsUsedUp}
-use Rattle.dac_model_node.specs.dac_commands.laws.Written.{none_is}
-use Rattle.dac_model_node.specs.NodeValue.{RunningValue}
-use Rattle.dac_model_node.specs.EventRefusals.{refusal_by, refusal_to_hear_op, overflows}
-use Rattle.dac_model_node.specs.Transitions.{Transition, keeps, brings, transition_of, hears_message}
-use Rattle.dac_model_node.specs.Accepted.{AreNewest, IsNoting, running_by}
+use Rattle.dac_model_node.specs.EventRefusals.{refusal_to_hear_op, overflows}
+use Rattle.dac_model_node.specs.Transitions.{Transition, keeps, hears_message}
+use Rattle.dac_model_node.specs.Accepted.{AreNewest, running_by}
 use Rattle.dac_model_node.specs.laws.Numbers.{fits, room_to_hear}
 use Rattle.dac_node.specs.declared.change.After.{After}
-use Rattle.dac_node.specs.declared.change.After.TheVariants.{Notes}
-use Rattle.dac_node.specs.After.{running_after, adds_of, news, noting, message_notes, IsAt, FitsIn}
-use Rattle.dac_node.specs.Changes.{ChangeValue, Effect, Fits, Prepared}
+use Rattle.dac_node.specs.After.{running_after, adds_of, message_notes, IsAt, FitsIn}
 
 -- trimming below number 0 drops nothing
 pub trimmed_none : (k : KeptDeltas StateValue) → k ≡ trimmed k 0

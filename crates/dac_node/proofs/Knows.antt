@@ -1,17 +1,13 @@
 -- A state that knows the operation of its own boot.
 use Rattle.std.proofs.Common.{◌≡◌, Bool, true, false, ◌||◌, List, [], ◌∷◌, refl, ap, ◌∙◌}
-use Rattle.std.specs.Prelude.{fold}
+use Rattle.dac_node.proofs.Common.{fold, StateValue, bottom, join, meaning_of, KnowsOwnBoot, up}
 use Rattle.std.specs.FinSet as set
 use Rattle.dac_origins.specs.declared.dot.Origin.{Origin}
 use Rattle.dac_origins.specs.Dots.{dot}
 use Rattle.dac_origins.specs.laws.Dots.{dots_total}
 use Rattle.dac_wishes.specs.laws.KeyedWrites.{same_dot_itself}
-use Rattle.dac_meaning.specs.StateValue.{StateValue, bottom, join}
 use Rattle.dac_meaning.specs.laws.StateLaws.{known-join}
-use Rattle.dac_meaning.specs.Meaning.{meaning_of}
 use Rattle.dac_meaning.specs.laws.Readers.{known-meaning}
-use Rattle.dac_model_node.specs.dac_commands.Commands.{KnowsOwnBoot}
-use Rattle.dac_model_node.specs.Step.{up}
 
 -- a join keeps what is known
 pub knows-join : (o : Origin) (s t : StateValue) → KnowsOwnBoot o s → KnowsOwnBoot o (join s t)

@@ -1,3 +1,4 @@
+pub mod Common
 pub mod Knows
 pub mod Effects
 pub mod Ticks

@@ -1,20 +1,9 @@
 -- The effect of a tick that finds the start gate open.
 use Rattle.std.proofs.Common.{◌≡◌, ℕ, true, List, [], Option, Some, None, sym, ap, ◌∙◌}
-use Rattle.std.specs.Prelude.{fold, unwrap_or, MatchOption}
-use Rattle.dac_meaning.specs.StateValue.{StateValue, join}
-use Rattle.dac_config.specs.Table.{Table}
-use Rattle.dac_deltas.specs.KeptDeltas.{pushed}
-use Rattle.dac_decide.specs.declared.waits.Noted.{Noted}
+use Rattle.dac_node.proofs.Common.{fold, unwrap_or, MatchOption, StateValue, join, Table, pushed, Noted, Reply, RunningValue, meanings, transition_of, IsNoting, Ticks, TickChange, IsTickAt, ChangeValue, Effect}
 use Rattle.dac_messages.specs.declared.event.Event.TheVariants.{Tick}
-use Rattle.dac_messages.specs.declared.reply.Reply.{Reply}
 use Rattle.dac_model_node.specs.dac_ticks.Ticks.{Sweep}
-use Rattle.dac_model_node.specs.NodeValue.{RunningValue}
-use Rattle.dac_model_node.specs.Transitions.{keeps, meanings, transition_of}
-use Rattle.dac_model_node.specs.Accepted.{IsNoting}
-use Rattle.dac_node.specs.declared.change.After.TheVariants.{Ticks}
-use Rattle.dac_node.specs.declared.ticking.TickChange.{TickChange}
-use Rattle.dac_node.specs.After.{IsTickAt}
-use Rattle.dac_node.specs.Changes.{ChangeValue, Effect}
+use Rattle.dac_model_node.specs.Transitions.{keeps}
 use Rattle.dac_node.proofs.Effects.{effect_by, trimmed_none}
 
 -- the state that a tick leaves is the present one with its deltas

@@ -41,10 +41,7 @@ line_leads : (t : Table) (w : ModelWorld) (line : ScriptLine) → run_from t w (
 line_leads t w (says.Event event) = refl
 line_leads t w says.Share = tells t w (pairs_in w)
 line_leads t w (says.Page node) = refl
-line_leads t w (says.State node) = refl
-line_leads t w (says.Same first second) = refl
-line_leads t w (says.Bytes message) = refl
-line_leads t w (says.Feed bytes) = refl
+line_leads t w _ = refl
 
 lines_lead : (t : Table) (w : ModelWorld) (lines : List ScriptLine) → run_from t w (events_from t w lines) ≡ world_from t w lines
 lines_lead t w [] = refl

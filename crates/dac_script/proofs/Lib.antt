@@ -1,6 +1,5 @@
 mod Parting
 mod LineByLine
-mod ReadOn
 mod Told
 mod SpelledLines
 mod LiveLines

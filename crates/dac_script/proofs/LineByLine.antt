@@ -1,31 +1,17 @@
 -- Reading a script line by line. A line is either sound, or its least fault is returned.
 use Rattle.std.proofs.Common.{◌≡◌, ℕ, ◌+◌, ◌-◌, ◌<◌, ◌≤◌, Bool, true, false, cond, List, [], ◌∷◌, ◌++◌, length, sym, ap, subst, ◌∙◌, arith, append-nil, length-append}
-use Rattle.std.specs.Prelude.{All, Option, Some, None, IfSome, IfNone, filter}
-use Rattle.std.specs.Borrow.{Bor}
-use Rattle.std.specs.List.{AllZip}
-use Rattle.std.proofs.lemmas.List.{get_or_at, take_at}
-use Rattle.std.proofs.lemmas.List.Elements.{All-push, filter-append}
+use Rattle.dac_script.specs.laws.Common.{IfNone, Bor, AllZip, get_or_at, take_at, All-push, filter-append, Table, ScriptFaultKind, Failure, words_of, IsFaultless, IsLeast, lines_of, is_said, IsScriptFailure}
+use Rattle.std.specs.Prelude.{All, Option, Some, None, IfSome, filter}
 use Rattle.std.proofs.lemmas.Option.{slice_get-get_or}
-use Rattle.dac_config.specs.Table.{Table}
+use Rattle.std.proofs.lemmas.Slice.Zip.{all_zipped_more}
 use Rattle.dac_script.specs.declared.fault.ScriptFault.{ScriptFault}
-use Rattle.dac_script.specs.declared.fault.ScriptFaultKind.{ScriptFaultKind}
-use Rattle.dac_script.specs.declared.failure.Failure.{Failure}
 use Rattle.dac_script.specs.declared.failure.Failure.TheVariants as failure
-use Rattle.dac_script.specs.Words.{words_of}
-use Rattle.dac_script.specs.LineFaults.{IsFaultless, IsLeast}
-use Rattle.dac_script.specs.Script.{lines_of, is_said, ReadsAs, IsFirstFault, IsScriptFailure, IsLineFailure}
+use Rattle.dac_script.specs.Script.{ReadsAs, IsFirstFault, IsLineFailure}
 
 -- a text begins with its first line
 begins : (rest line : List ℕ) (behind : Option (Bor (List ℕ))) → IfNone behind (lines_of rest ≡ line ∷ []) → IfSome behind (λ b. lines_of rest ≡ line ∷ lines_of b.now) → (more : List (List ℕ)) × (lines_of rest ≡ line ∷ more)
 begins rest line None last next = ([], last)
 begins rest line (Some b) last next = (lines_of b.now, next)
-
--- appending a pair that satisfies R
-zip_push : {A B : Type 0} (R : A → B → Type 0) (xs : List A) (ys : List B) (x : A) (y : B) → AllZip R xs ys → R x y → AllZip R (xs ++ x ∷ []) (ys ++ y ∷ [])
-zip_push R [] [] x y all here = (here, tt)
-zip_push R [] (b ∷ ys) x y all here = absurd all
-zip_push R (a ∷ xs) [] x y all here = absurd all
-zip_push R (a ∷ xs) (b ∷ ys) x y all here = (all.0, zip_push R xs ys x y all.1 here)
 
 module _ {Line : Type 0} (Spells : Table → Line → List (List ℕ) → Type 0)
     (HasFault : Table → List (List ℕ) → ScriptFaultKind → Type 0) (table : Table) where
@@ -60,7 +46,7 @@ module _ {Line : Type 0} (Spells : Table → Line → List (List ℕ) → Type 0
       let more : filter is_said (before ++ line ∷ []) ≡ filter is_said before ++ line ∷ [] =
       filter-append is_said before (line ∷ []) ∙ ap (λ (b : Bool). filter is_said before ++ cond b (line ∷ []) []) says in
       record {
-        said = subst (λ lines. AllZip Tells lines (script ++ said ∷ [])) (sym more) (zip_push Tells (filter is_said before) script line said reads.said read.0);
+        said = subst (λ lines. AllZip Tells lines (script ++ said ∷ [])) (sym more) (all_zipped_more Tells (filter is_said before) script line said reads.said read.0);
         faultless = subst (All Fine) (sym more) (All-push Fine _ _ reads.faultless read.1);
       }
 
@@ -81,18 +67,14 @@ module _ {Line : Type 0} (Spells : Table → Line → List (List ℕ) → Type 0
       }
 
   -- the failure of a line is that of the script
-  script_fails_by : (text rest line : List ℕ) (more : List (List ℕ)) (number : ℕ) (script : List Line) (why : Failure) → lines_of rest ≡ line ∷ more
-      → (is_said line ≡ true) × IsLineFailure Spells HasFault table number line why → IsReadTo text rest number script → IsScriptFailure Spells HasFault table (lines_of text) why
-  script_fails_by text rest line more number script (failure.Input fault) is fails so_far = fails.1
-  script_fails_by text rest line more number script (failure.Config fault) is fails so_far = fails.1
-  script_fails_by text rest line more number script (failure.Script fault) is fails so_far =
-      subst (λ lines. IsFirstFault Spells HasFault table lines fault) (sym (so_far.lines ∙ ap (λ l. so_far.before ++ l) is))
-      (first_fault so_far.before more line script fault (fails.1.0 ∙ so_far.counted) fails.0 fails.1.1 so_far.reads)
-  script_fails_by text rest line more number script failure.NoMemory is fails so_far = tt
-
   pub script_fails : (text rest line : List ℕ) (behind : Option (Bor (List ℕ))) (number : ℕ) (script : List Line) (why : Failure)
       → IfNone behind (lines_of rest ≡ line ∷ []) → IfSome behind (λ b. lines_of rest ≡ line ∷ lines_of b.now)
       → (is_said line ≡ true) × IsLineFailure Spells HasFault table number line why → IsReadTo text rest number script → IsScriptFailure Spells HasFault table (lines_of text) why
-  script_fails text rest line behind number script why last next fails so_far =
-      let begun = begins rest line behind last next in
-      script_fails_by text rest line begun.0 number script why begun.1 fails so_far
+  script_fails text rest line behind number script why last next fails so_far = by why fails.1
+    where
+      by : (why : Failure) → IsLineFailure Spells HasFault table number line why → IsScriptFailure Spells HasFault table (lines_of text) why
+      by (failure.Script fault) failed =
+          let begun = begins rest line behind last next in
+          subst (λ lines. IsFirstFault Spells HasFault table lines fault) (sym (so_far.lines ∙ ap (λ l. so_far.before ++ l) begun.1))
+          (first_fault so_far.before begun.0 line script fault (failed.0 ∙ so_far.counted) fails.0 failed.1 so_far.reads)
+      by why failed = failed

@@ -1,16 +1,12 @@
 -- Searching for the line that splits an input.
 use Rattle.std.proofs.Common.{◌≡◌, ℕ, ◌+◌, ◌-◌, ◌<◌, ◌≤◌, false, List, [], ◌∷◌, ◌++◌, length, take, drop, get_or, eqb, refl, sym, ap, subst, ◌∙◌, arith, append_assoc, length-append}
-use Rattle.std.specs.Prelude.{All, ◌≢◌, Option, Some, None, IfSome, IfNone, unwrap_or}
-use Rattle.std.specs.Borrow.{Bor}
-use Rattle.std.proofs.lemmas.Bool.{eqb-true}
-use Rattle.std.proofs.Math.Seq.{take-append_seam}
-use Rattle.std.proofs.lemmas.List.{take_all, drop-drop, length-drop}
+use Rattle.dac_script.specs.laws.Common.{IfNone, Bor, join_with_byte, eqb-true, take-append_seam, take_all, length-drop, All-push, join_with_byte-slice_split, slice_split_none, lines_of, divider, with_feeds, IsParted}
+use Rattle.std.specs.Prelude.{All, ◌≢◌, Option, Some, None, IfSome, unwrap_or}
+use Rattle.std.proofs.lemmas.List.{drop-drop}
 use Rattle.std.proofs.lemmas.List.Sums.{split_at_first, passes_at_first, fails_before_first}
 use Rattle.std.proofs.lemmas.List.Elements.{All-from_get_or}
-use Rattle.std.proofs.lemmas.List.Elements.{All-push}
-use Rattle.std.proofs.lemmas.List.Splits.{join_with_byte-slice_split, slice_split_first, slice_split_none}
-use Rattle.dac_script.specs.Script.{lines_of}
-use Rattle.dac_script.specs.Input.{divider, line_len, with_feeds, IsParted}
+use Rattle.std.proofs.lemmas.List.Splits.{slice_split_first}
+use Rattle.dac_script.specs.Input.{line_len}
 
 -- the loop's invariant: whole lines without a divider, then the rest
 pub record IsFront (text rest : List ℕ) : Type 0 where
@@ -32,30 +28,19 @@ front_more text rest line behind whole more unmarked front = record {
 }
 
 -- the invariant's lines end where the rest begins
-front_len : (text rest : List ℕ) (front : IsFront text rest) → length text - length rest ≡ length (with_feeds front.before)
-front_len text rest front = omega (arith, ap length front.text_is, length-append (with_feeds front.before) rest)
+front_take : (text rest : List ℕ) (front : IsFront text rest) → take (length text - length rest) text ≡ with_feeds front.before
+front_take text rest front =
+    let len : length text - length rest ≡ length (with_feeds front.before) = omega (arith, ap length front.text_is, length-append (with_feeds front.before) rest) in
+    ap (λ n. take n text) len ∙ ap (take (length (with_feeds front.before))) front.text_is ∙ take-append_seam (with_feeds front.before) rest
 
-pub front_take : (text rest : List ℕ) (front : IsFront text rest) → take (length text - length rest) text ≡ with_feeds front.before
-front_take text rest front = ap (λ n. take n text) (front_len text rest front) ∙ ap (take (length (with_feeds front.before))) front.text_is ∙ take-append_seam (with_feeds front.before) rest
-
-pub parted_at_end : (text rest config : List ℕ) → lines_of rest ≡ divider ∷ [] → config ≡ take (length text - length rest) text → IsFront text rest → IsParted text config []
-parted_at_end text rest config last is_config front = record {
+parted_at : (text rest config script : List ℕ) (behind : List (List ℕ)) → lines_of rest ≡ divider ∷ behind → script ≡ join_with_byte 10 behind → config ≡ take (length text - length rest) text → IsFront text rest → IsParted text config script
+parted_at text rest config script behind more is_script is_config front = record {
   before = front.before;
-  behind = [];
-  lines = front.lines ∙ ap (λ l. front.before ++ l) last;
-  first = front.first;
-  config_is = is_config ∙ front_take text rest front;
-  script_is = refl;
-}
-
-pub parted_before : (text rest config behind : List ℕ) → lines_of rest ≡ divider ∷ lines_of behind → config ≡ take (length text - length rest) text → IsFront text rest → IsParted text config behind
-parted_before text rest config behind more is_config front = record {
-  before = front.before;
-  behind = lines_of behind;
+  behind = behind;
   lines = front.lines ∙ ap (λ l. front.before ++ l) more;
   first = front.first;
   config_is = is_config ∙ front_take text rest front;
-  script_is = sym (join_with_byte-slice_split 10 behind);
+  script_is = is_script;
 }
 
 pub unparted : (text rest line : List ℕ) → lines_of rest ≡ line ∷ [] → line ≢ divider → IsFront text rest → All (λ line. line ≢ divider) (lines_of text)
@@ -83,8 +68,7 @@ behind_of text back n e = take_all (length back - 1) (drop 1 back) (omega (arith
 pub parted_here : (text rest config line : List ℕ) (behind : Option (Bor (List ℕ))) (script none : Bor (List ℕ)) → IfNone behind (lines_of rest ≡ line ∷ []) → IfSome behind (λ b. lines_of rest ≡ line ∷ lines_of b.now)
     → line ≡ divider → config ≡ take (length text - length rest) text → script ≡ unwrap_or behind none → none.now ≡ [] → IsFront text rest → IsParted text config script.now
 parted_here text rest config line None script none last more marked is_config is_script empty front =
-    subst (λ s. IsParted text config s) (sym (ap (λ (b : Bor (List ℕ)). b.now) is_script ∙ empty))
-    (parted_at_end text rest config (last ∙ ap (λ l. l ∷ []) marked) is_config front)
+    parted_at text rest config script.now [] (last ∙ ap (λ l. l ∷ []) marked) (ap (λ (b : Bor (List ℕ)). b.now) is_script ∙ empty) is_config front
 parted_here text rest config line (Some behind) script none last more marked is_config is_script empty front =
-    subst (λ s. IsParted text config s) (sym (ap (λ (b : Bor (List ℕ)). b.now) is_script))
-    (parted_before text rest config behind.now (more ∙ ap (λ l. l ∷ lines_of behind.now) marked) is_config front)
+    parted_at text rest config script.now (lines_of behind.now) (more ∙ ap (λ l. l ∷ lines_of behind.now) marked)
+    (ap (λ (b : Bor (List ℕ)). b.now) is_script ∙ sym (join_with_byte-slice_split 10 behind.now)) is_config front

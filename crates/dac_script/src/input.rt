@@ -83,37 +83,6 @@ fn read_on<R: Read>(
     Ok(())
 }
 
-/// Reads an input of at most `most` bytes to its end.
-///
-/// Stops after `most + 1` bytes or [`MAX_READS`] reads. Interrupted reads are repeated; any other failed read is an
-/// error.
-pub(crate) fn read_within<R: Read>(
-    alloc: Global,
-    source: &mut Source<'_, R>,
-    most: usize,
-) -> Result<Vec<u8>, Failure>
-    requires { most < usize.MAX }
-    ensures whole { IfOk result (λ text. IfSome source.old.left (λ bytes. text.items ≡ bytes)) }
-    ensures short { IfOk result (λ text. length text.items ≤ most) }
-    ensures stops { TakesAtMost source.old.left source.new.left (most + 1) }
-    ensures same_reader { source.new.reader ≡ source.old.reader }
-    ensures failed { IfErr result (IsReadFailure most source.old.left) }
-    ensures reads { IsReadBy result source.new }
-{
-    let mut text = Vec::new(alloc);
-    while source.is_open() {
-        let room = most + 1 - text.len();
-        read_on(source, room, &mut text)?;
-        if text.len() > most {
-            return Err(Failure::Input(InputFault::TooLong));
-        }
-    }
-    match source.progress() {
-        Progress::Ended => Ok(text),
-        Progress::Open | Progress::Failed => Err(Failure::Input(InputFault::Read)),
-    }
-}
-
 /// Reads an input to its end.
 ///
 /// Fails with `TooLong` if it has more than [`MAX_INPUT`] bytes, with `Read` if a read fails or the input doesn't end
@@ -126,5 +95,17 @@ pub fn read_input<R: Read>(alloc: Global, source: &mut Source<'_, R>) -> Result<
     ensures failed { IfErr result (IsReadFailure MAX_INPUT source.old.left) }
     ensures reads { IsReadBy result source.new }
 {
-    read_within(alloc, source, MAX_INPUT)
+    let mut text = Vec::new(alloc);
+    // Interrupted reads are repeated.
+    while source.is_open() {
+        let room = MAX_INPUT + 1 - text.len();
+        read_on(source, room, &mut text)?;
+        if text.len() > MAX_INPUT {
+            return Err(Failure::Input(InputFault::TooLong));
+        }
+    }
+    match source.progress() {
+        Progress::Ended => Ok(text),
+        Progress::Open | Progress::Failed => Err(Failure::Input(InputFault::Read)),
+    }
 }

@@ -1,18 +1,20 @@
-//! Script lines of `sim`.
+//! Scripts of `sim` and their lines.
 
-ghost use Rattle.std.specs.Prelude.{◌≡◌, ◌∷◌, IfOk, map};
+ghost use Rattle.std.specs.Prelude.{◌≡◌, ◌∷◌, IfOk, IfErr, All, map};
 ghost use Rattle.dac_config.specs.Table.{node_count};
 ghost use Rattle.dac_script.specs.Forms.{event_form, form_of, Spells};
 ghost use Rattle.dac_script.specs.Forms.Slot.{Word};
 ghost use Rattle.dac_script.specs.Actors.{HasActors};
 ghost use Rattle.dac_script.specs.Requests.{what_of};
 ghost use Rattle.dac_script.specs.LineFaults.{ask_roles, roles_of, HasFault};
-ghost use Rattle.dac_script.specs.Script.{IsReading};
+ghost use Rattle.dac_script.specs.Script.{lines_of, IsReading, ReadsAs, IsScriptFailure};
 ghost use Rattle.dac_script.specs.Values.{slot_of};
 ghost use Rattle.dac_script.specs.Verbs.{ask_text, text_of};
 
 use crate::byte_list::ByteList;
+use crate::failure::Failure;
 use crate::fault::ScriptFaultKind;
+use crate::lines::{ReadsLine, read_lines};
 use crate::values::{Values, values_of};
 use crate::verb::{Ask, Verb, roles_of, verb_of};
 use dac_base::{NoMemory, NodeId};
@@ -146,4 +148,33 @@ pub fn line_of(
         Ok(values) => Ok(Ok(line(verb, values))),
         Err(kind) => Ok(Err(kind)),
     }
+}
+
+impl ReadsLine for ScriptLine {
+    ghost spells = { Spells };
+
+    ghost has_fault = { HasFault };
+
+    ghost has_actors = { HasActors };
+
+    fn read_words(
+        alloc: Global,
+        config: &Config,
+        words: &[&[u8]],
+    ) -> Result<Result<ScriptLine, ScriptFaultKind>, NoMemory> {
+        line_of(alloc, config, words)
+    }
+}
+
+/// Reads a script of `distac sim`. Lines end at a line feed or at the end of the text, and are counted from 1. Empty
+/// lines and lines that begin with `%` are skipped.
+///
+/// Fails with the least fault of the first faulty line.
+pub fn read_script(alloc: Global, config: &Config, text: &[u8]) -> Result<Vec<ScriptLine>, Failure>
+    ensures ok { IfOk result
+        (λ script. ReadsAs Spells HasFault config.now (lines_of text.now) script.items) }
+    ensures actors { IfOk result (λ script. All (HasActors (node_count config.now)) script.items) }
+    ensures fault { IfErr result (IsScriptFailure Spells HasFault config.now (lines_of text.now)) }
+{
+    read_lines(alloc, config, text)
 }

@@ -1,22 +1,31 @@
-//! Script lines of `live`.
+//! Inputs of `live`: scripts and their lines.
 
-ghost use Rattle.std.specs.Prelude.{◌≡◌, IfOk, MatchResult, map};
+ghost use Rattle.std.specs.Prelude.{◌≡◌, IfOk, IfErr, IfSome, MatchResult, All, map};
 ghost use Rattle.dac_config.specs.Table.{node_count};
 ghost use Rattle.dac_script.specs.Forms.{AllTell};
+ghost use Rattle.dac_script.specs.Input.{IsReadWithinBound};
 ghost use Rattle.dac_script.specs.LineFaults.{IsLeast};
-ghost use Rattle.dac_script.specs.LiveCallers.{is_caller_word, caller_of, with_caller, HasActors};
+ghost use Rattle.dac_script.specs.LiveCallers.{caller_of, with_caller, HasActors};
 ghost use Rattle.dac_script.specs.LiveFaults.{IsAskedWrong, HasFault};
 ghost use Rattle.dac_script.specs.LiveForms.{asked_form, SpellsLive};
-ghost use Rattle.dac_script.specs.Script.{IsReading};
+ghost use Rattle.dac_script.specs.LiveInputs.{SaysLiveScript, IsLiveFailureOf};
+ghost use Rattle.dac_script.specs.Script.{lines_of, IsReading, ReadsAs, IsScriptFailure};
+ghost use Rattle.dac_script.specs.Sources.{IsReadBy};
 
 use crate::byte_list::ByteList;
+use crate::failure::Failure;
 use crate::fault::ScriptFaultKind;
 use crate::line::{Request, request_for};
+use crate::lines::{ReadsLine, read_lines};
+use crate::preparing::prepare_lines;
+use crate::source::Source;
 use crate::values::{Values, least_of, values_of};
 use crate::verb::{Role, ask_of, ask_roles};
+use crate::words::all_digits;
 use dac_base::{NoMemory, NodeId};
 use dac_config::Config;
 use std::alloc::Global;
+use std::io::Read;
 
 /// A line of a live script, other than empty lines and comments.
 #[derive(Drop)]
@@ -41,13 +50,6 @@ pub enum LiveLine {
     Feed(ByteList),
     /// Ends a phase.
     Phase,
-}
-
-/// Returns whether the word is in the place of a caller's number: it has only digits.
-fn is_caller_word(word: &[u8]) -> bool
-    ensures { result ≡ is_caller_word word.now }
-{
-    word.iter().all(|byte| byte.is_ascii_digit())
 }
 
 /// The caller's number, from 1 to 4, without leading zeros.
@@ -139,9 +141,63 @@ pub fn live_line_of(
             Err(kind) => Ok(Err(kind)),
         };
     }
-    if !is_caller_word(first) {
+    // A word in the place of a caller's number has only digits.
+    if !all_digits(first) {
         return Ok(Err(ScriptFaultKind::BadWord));
     }
     let said = asked(alloc, config, rest)?;
     Ok(with_caller(caller_of(first), said))
+}
+
+impl ReadsLine for LiveLine {
+    ghost spells = { SpellsLive };
+
+    ghost has_fault = { HasFault };
+
+    ghost has_actors = { HasActors };
+
+    fn read_words(
+        alloc: Global,
+        config: &Config,
+        words: &[&[u8]],
+    ) -> Result<Result<LiveLine, ScriptFaultKind>, NoMemory> {
+        live_line_of(alloc, config, words)
+    }
+}
+
+/// Reads a script of `distac live`. Lines end at a line feed or at the end of the text, and are counted from 1. Empty
+/// lines and lines that begin with `%` are skipped.
+///
+/// Fails with the least fault of the first faulty line.
+pub fn read_live_script(
+    alloc: Global,
+    config: &Config,
+    text: &[u8],
+) -> Result<Vec<LiveLine>, Failure>
+    ensures ok { IfOk result
+        (λ script. ReadsAs SpellsLive HasFault config.now (lines_of text.now) script.items) }
+    ensures actors { IfOk result (λ script. All (HasActors (node_count config.now)) script.items) }
+    ensures fault { IfErr result
+        (IsScriptFailure SpellsLive HasFault config.now (lines_of text.now)) }
+{
+    read_lines(alloc, config, text)
+}
+
+/// Reads and checks a whole input of `distac live`: its size, its configuration, then its script. Fails with the first
+/// fault.
+pub fn prepare_live<R: Read>(
+    alloc: Global,
+    source: &mut Source<'_, R>,
+) -> Result<(Config, Vec<LiveLine>), Failure>
+    ensures says { IfOk result
+        (λ both. IfSome source.old.left (λ bytes. SaysLiveScript bytes both.0 both.1.items)) }
+    ensures actors { IfOk result (λ both. All (HasActors (node_count both.0)) both.1.items) }
+    ensures fails { IfErr result
+        (λ why. IfSome source.old.left (λ bytes. IsLiveFailureOf bytes why)) }
+    ensures reads { IsReadBy result source.new }
+    // Whatever the result, at most one byte beyond the bound was read.
+    ensures bound { IsReadWithinBound source.old.left source.new.left }
+    ensures same_reader { source.new.reader ≡ source.old.reader }
+{
+    prepare_lines(alloc, source)
 }

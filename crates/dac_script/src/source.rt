@@ -113,19 +113,11 @@ impl<'a, R: Read> Source<'a, R> {
         self.progress = match &result {
             Ok(0) => Progress::Ended,
             Ok(_) => Progress::Open,
-            Err(error) => progress_after(error.kind()),
+            Err(error) => match error.kind() {
+                ErrorKind::Interrupted => Progress::Open,
+                _ => Progress::Failed,
+            },
         };
         result
-    }
-}
-
-/// The outcome after a read with this error.
-fn progress_after(kind: ErrorKind) -> Progress
-    ensures interrupted { kind ≡ ErrorKind.Interrupted → result ≡ Progress.Open }
-    ensures failed { kind ≢ ErrorKind.Interrupted → result ≡ Progress.Failed }
-{
-    match kind {
-        ErrorKind::Interrupted => Progress::Open,
-        _ => Progress::Failed,
     }
 }

@@ -57,33 +57,26 @@ pub(crate) fn ask_of(word: &[u8]) -> Option<Ask>
     ensures { result ≡ ask_of word.now }
 {
     if word == b"boot".as_slice() {
-        return Some(Ask::Boot);
+        Some(Ask::Boot)
+    } else if word == b"crash".as_slice() {
+        Some(Ask::Crash)
+    } else if word == b"tick".as_slice() {
+        Some(Ask::Tick)
+    } else if word == b"down".as_slice() {
+        Some(Ask::Down)
+    } else if word == b"permit".as_slice() {
+        Some(Ask::Permit)
+    } else if word == b"start".as_slice() {
+        Some(Ask::Start)
+    } else if word == b"stop".as_slice() {
+        Some(Ask::Stop)
+    } else if word == b"drain".as_slice() {
+        Some(Ask::Drain)
+    } else if word == b"takeover".as_slice() {
+        Some(Ask::Takeover)
+    } else {
+        None
     }
-    if word == b"crash".as_slice() {
-        return Some(Ask::Crash);
-    }
-    if word == b"tick".as_slice() {
-        return Some(Ask::Tick);
-    }
-    if word == b"down".as_slice() {
-        return Some(Ask::Down);
-    }
-    if word == b"permit".as_slice() {
-        return Some(Ask::Permit);
-    }
-    if word == b"start".as_slice() {
-        return Some(Ask::Start);
-    }
-    if word == b"stop".as_slice() {
-        return Some(Ask::Stop);
-    }
-    if word == b"drain".as_slice() {
-        return Some(Ask::Drain);
-    }
-    if word == b"takeover".as_slice() {
-        return Some(Ask::Takeover);
-    }
-    None
 }
 
 /// Parses the first word of a line.
@@ -91,33 +84,26 @@ pub(crate) fn verb_of(word: &[u8]) -> Option<Verb>
     ensures { result ≡ verb_of word.now }
 {
     if word == b"ship".as_slice() {
-        return Some(Verb::Ship);
+        Some(Verb::Ship)
+    } else if word == b"hear".as_slice() {
+        Some(Verb::Hear)
+    } else if word == b"hand".as_slice() {
+        Some(Verb::Hand)
+    } else if word == b"share".as_slice() {
+        Some(Verb::Share)
+    } else if word == b"page".as_slice() {
+        Some(Verb::Page)
+    } else if word == b"state".as_slice() {
+        Some(Verb::State)
+    } else if word == b"same".as_slice() {
+        Some(Verb::Same)
+    } else if word == b"bytes".as_slice() {
+        Some(Verb::Bytes)
+    } else if word == b"feed".as_slice() {
+        Some(Verb::Feed)
+    } else {
+        Some(Verb::Ask(ask_of(word)?))
     }
-    if word == b"hear".as_slice() {
-        return Some(Verb::Hear);
-    }
-    if word == b"hand".as_slice() {
-        return Some(Verb::Hand);
-    }
-    if word == b"share".as_slice() {
-        return Some(Verb::Share);
-    }
-    if word == b"page".as_slice() {
-        return Some(Verb::Page);
-    }
-    if word == b"state".as_slice() {
-        return Some(Verb::State);
-    }
-    if word == b"same".as_slice() {
-        return Some(Verb::Same);
-    }
-    if word == b"bytes".as_slice() {
-        return Some(Verb::Bytes);
-    }
-    if word == b"feed".as_slice() {
-        return Some(Verb::Feed);
-    }
-    Some(Verb::Ask(ask_of(word)?))
 }
 
 /// The roles of a request's other words.

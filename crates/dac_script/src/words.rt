@@ -44,7 +44,7 @@ fn all_quotable(name: &[u8]) -> bool
     name.iter().all(|byte| is_quotable(*byte))
 }
 
-fn all_digits(digits: &[u8]) -> bool
+pub(crate) fn all_digits(digits: &[u8]) -> bool
     ensures { result ≡ list_all is_ascii_digit digits.now }
 {
     digits.iter().all(|byte| byte.is_ascii_digit())

@@ -1,14 +1,8 @@
 -- The nodes of a list, group by group.
 use Rattle.std.proofs.Common.{◌≡◌, ℕ, Bool, true, false, ◌+◌, ◌-◌, ◌<◌, ◌≤◌, ◌==◌, List, [], ◌++◌, Option, Some, None, get_or, cond, refl, sym, ap, ap₂, ◌∙◌, arith, append-nil}
-use Rattle.std.proofs.lemmas.Bool.{eq-eqb}
+use Rattle.dac_status.proofs.Common.{eq-eqb, MAX_NODES, NodeId, AppId, Table, group_of, node_count, Mark, label_text, labels_of, member_in, group_in, group_text, IsNext}
 use Rattle.std.proofs.lemmas.Map.Views.{exact_unsigned_eq}
-use Rattle.dac_base.specs.declared.limits.TheConstants.{MAX_NODES}
-use Rattle.dac_base.specs.declared.NodeId.{NodeId}
-use Rattle.dac_base.specs.declared.AppId.{AppId}
-use Rattle.dac_config.specs.Table.{Table, group_of, node_count}
-use Rattle.dac_status.specs.declared.marks.Mark.{Mark}
-use Rattle.dac_status.specs.Texts.{mark_text, mark_in, label_text, labels_of, member_in, member_text, group_in, group_text, groups_of}
-use Rattle.dac_status.specs.Chains.{IsNext}
+use Rattle.dac_status.specs.Texts.{mark_text, mark_in, member_text, groups_of}
 use Rattle.dac_status.proofs.Places.{node_numbered, placed_at, listed_at}
 use Rattle.dac_status.proofs.Lines.{texts, put_more, texts_end, same_texts}
 

@@ -1,3 +1,4 @@
+mod Common
 mod Places
 mod Running
 mod Passing

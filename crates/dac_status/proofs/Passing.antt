@@ -1,17 +1,16 @@
 -- A walk through entries in the order of their keys: lookups after some entries were passed.
 use Rattle.std.proofs.Common.{◌≡◌, ◌∙◌, ℕ, ◌+◌, ◌<◌, ◌≤◌, ◌==◌, Bool, true, false, cond, List, [], ◌∷◌, nat_eq, Option, None, Some, Bor, is_some, length, refl, sym, ap, subst, arith, true≢false}
+use Rattle.dac_status.proofs.Common.{both_ways, false≢true, eqb-true, AppId, NodeId, key_cmp, is_permitted_by, are_permits, are_starts, Table, is_permitted_at, StateValue, IsBefore, WalkValue, first_key}
 use Rattle.std.specs.Prelude.{nat_lt}
 use Rattle.std.specs.List.{list_all, list_any}
 use Rattle.std.specs.Option.{option_copied}
 use Rattle.std.specs.declared.cmp.Ordering.{Ordering}
 use Rattle.std.specs.declared.cmp.Ordering.TheVariants.{Less, Equal, Greater}
 use Rattle.std.specs.Ordering.{is_lt, nat_cmp, ordering_reverse, ordering_then}
-use Rattle.std.specs.Cmp.{both_ways, tied_itself}
+use Rattle.std.specs.Cmp.{tied_itself}
 use Rattle.std.specs.FinMap.{find}
 use Rattle.std.specs.FinSet as set
-use Rattle.std.proofs.lemmas.Bool.{false≢true, false_from_ne_true, or_left, ltb-true, eqb-true}
-use Rattle.dac_base.specs.declared.AppId.{AppId}
-use Rattle.dac_base.specs.declared.NodeId.{NodeId}
+use Rattle.std.proofs.lemmas.Bool.{false_from_ne_true, or_left, ltb-true}
 use Rattle.dac_base.specs.Ids.{node_cmp}
 use Rattle.dac_base.specs.laws.Ids.{apps_total, nodes_total}
 use Rattle.dac_origins.specs.declared.dot.Dot.{Dot}
@@ -23,22 +22,19 @@ use Rattle.dac_store.specs.DotSets.{is_empty_set}
 use Rattle.dac_store.specs.Parts.{HasSameFrom}
 use Rattle.dac_store.specs.laws.DotSets.{set_laws}
 use Rattle.dac_wishes.specs.declared.key.Key.{Key}
-use Rattle.dac_wishes.specs.Keys.{key_cmp}
 use Rattle.dac_wishes.specs.laws.Keys.{exact_keys, keys_total}
 use Rattle.dac_wishes.specs.Writes.{Writes, same_dot, write}
 use Rattle.dac_wishes.specs.laws.KeyedWrites.{same_dot_itself}
-use Rattle.dac_wishes.specs.PermissionsValue.{is_permitted_by, permits_at, is_permitting}
+use Rattle.dac_wishes.specs.PermissionsValue.{permits_at, is_permitting}
 use Rattle.dac_wishes.specs.PermitsByKey.{permits_by_key}
-use Rattle.dac_wishes.specs.laws.PermitsByKey.{are_permits, by_key_again, permits_stored}
+use Rattle.dac_wishes.specs.laws.PermitsByKey.{by_key_again, permits_stored}
 use Rattle.dac_wishes.specs.StoredPermits.{DotFlags}
 use Rattle.dac_wishes.specs.StartsByKey.{starts_by_key}
-use Rattle.dac_wishes.specs.laws.StartsByKey.{are_starts, contains-writes_of, writes_again}
+use Rattle.dac_wishes.specs.laws.StartsByKey.{contains-writes_of, writes_again}
 use Rattle.dac_wishes.specs.WishesValue.{is_wished}
 use Rattle.dac_wishes.specs.laws.Wished.{is_wished-some}
-use Rattle.dac_config.specs.Table.{Table, default_permission}
-use Rattle.dac_placement.specs.Placement.{is_permitted_at}
-use Rattle.dac_meaning.specs.StateValue.{StateValue, wishes_of}
-use Rattle.dac_status.specs.Walks.{IsBefore, WalkValue, first_key}
+use Rattle.dac_config.specs.Table.{default_permission}
+use Rattle.dac_meaning.specs.StateValue.{wishes_of}
 
 -- ---- keys in order
 

@@ -1,27 +1,14 @@
 -- Where applications run and their first choices, computed from the marks of nodes.
 use Rattle.std.proofs.Common.{◌≡◌, ◌∙◌, ℕ, ◌<◌, ◌==◌, Bool, true, false, cond, not, ◌&&◌, List, Option, None, Some, option_map, get_or, refl, sym, ap}
-use Rattle.std.specs.Option.{is_some, option_and_then, option_map_or}
-use Rattle.std.specs.Cmp.{both_ways}
+use Rattle.dac_status.proofs.Common.{option_map_or, both_ways, false≢true, eqb-true, eq-eqb, MAX_APPS, AppId, NodeId, Origin, Claim, Life, live_at, Table, app_count, group_of, node_count, StateValue, is_started_at, is_up, key_at, runner_of, Mark, Down, is_ok, live_in, mark_at, mark_of, marks_of}
+use Rattle.std.specs.Option.{is_some, option_and_then}
 use Rattle.std.specs.FinMap as map
-use Rattle.std.proofs.lemmas.Bool.{false≢true, eqb-true, eq-eqb}
-use Rattle.dac_base.specs.declared.limits.TheConstants.{MAX_APPS}
-use Rattle.dac_base.specs.declared.AppId.{AppId}
-use Rattle.dac_base.specs.declared.NodeId.{NodeId}
-use Rattle.dac_origins.specs.declared.dot.Origin.{Origin}
-use Rattle.dac_chains.specs.declared.claims.Claim.{Claim}
-use Rattle.dac_chains.specs.declared.lives.Life.{Life}
-use Rattle.dac_chains.specs.Lives.{live_at}
-use Rattle.dac_config.specs.Table.{Table, app_count, group_of, node_count}
-use Rattle.dac_meaning.specs.StateValue.{StateValue}
-use Rattle.dac_placement.specs.Placement.{holder_of, is_allowed_at, is_eligible, is_started_at, is_up, key_at, load_of, rank_of, runner_of, runs_at}
+use Rattle.dac_placement.specs.Placement.{holder_of, is_allowed_at, is_eligible, load_of, rank_of, runs_at}
 use Rattle.dac_placement.specs.declared.ranking.Rank.{Rank}
 use Rattle.dac_placement.specs.Choices.{load_by, rank_by}
 use Rattle.dac_placement.specs.laws.Counting.{load_alike}
 use Rattle.dac_placement.specs.laws.Tests as tests
-use Rattle.dac_status.specs.declared.marks.Mark.{Mark}
-use Rattle.dac_status.specs.declared.marks.Mark.TheVariants.{Down}
-use Rattle.dac_status.specs.Kept.{is_ok, is_there, runners_of, runs_in}
-use Rattle.dac_status.specs.Summaries.{live_in, mark_at, mark_of, marks_of}
+use Rattle.dac_status.specs.Kept.{is_there, runners_of, runs_in}
 use Rattle.dac_status.proofs.Places.{app_numbered, node_numbered, placed_at}
 use Rattle.dac_status.proofs.Staying.{mark_placed, marked}
 

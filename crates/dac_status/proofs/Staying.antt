@@ -1,24 +1,11 @@
 -- Whether an application stays, computed from the marks of its holder and of the other nodes.
 use Rattle.std.proofs.Common.{◌≡◌, ◌∙◌, ℕ, ◌<◌, ◌==◌, Bool, true, false, cond, not, ◌&&◌, List, Option, None, Some, option_map, get_or, refl, sym, ap}
-use Rattle.std.specs.Option.{option_map_or}
+use Rattle.dac_status.proofs.Common.{option_map_or, false≢true, eq-eqb, MAX_NODES, AppId, NodeId, Origin, Claim, Life, live_at, Table, node_count, StateValue, is_permitted_at, is_started_at, is_up, key_at, standing_of, Mark, is_ok, lives_of, live_in, mark_at, mark_of, marks_of}
 use Rattle.std.specs.FinMap as map
-use Rattle.std.proofs.lemmas.Bool.{false≢true, eq-eqb}
-use Rattle.dac_base.specs.declared.limits.TheConstants.{MAX_NODES}
-use Rattle.dac_base.specs.declared.AppId.{AppId}
-use Rattle.dac_base.specs.declared.NodeId.{NodeId}
-use Rattle.dac_origins.specs.declared.dot.Origin.{Origin}
-use Rattle.dac_chains.specs.declared.claims.Claim.{Claim}
-use Rattle.dac_chains.specs.declared.lives.Life.{Life}
-use Rattle.dac_chains.specs.Lives.{live_at}
-use Rattle.dac_config.specs.Table.{Table, node_count}
-use Rattle.dac_meaning.specs.StateValue.{StateValue}
 use Rattle.dac_placement.specs.declared.standing.Standing.{Standing}
 use Rattle.dac_placement.specs.declared.standing.Standing.TheVariants.{Unclaimed, Lost, Stopped, Barred, Upheld}
-use Rattle.dac_placement.specs.Placement.{is_drained_at, is_permitted_at, is_started_at, is_up, key_at, standing_at, standing_of}
-use Rattle.dac_status.specs.declared.marks.Mark.{Mark}
+use Rattle.dac_placement.specs.Placement.{is_drained_at, standing_at}
 use Rattle.dac_status.specs.declared.marks.Mark.TheVariants as mark
-use Rattle.dac_status.specs.Kept.{is_ok}
-use Rattle.dac_status.specs.Summaries.{lives_of, live_in, mark_at, mark_of, marks_of}
 use Rattle.dac_status.proofs.Places.{node_numbered, placed_at}
 
 -- the mark by three tests: permitted, drained and started

@@ -1,30 +1,13 @@
 -- The result of a call, from the results of the calls that it makes.
 use Rattle.std.proofs.Common.{◌≡◌, ℕ, ◌≤◌, List, ◌++◌, length, None, Some, Result, Ok, Err, refl, sym, ap, subst, ◌∙◌, append_assoc}
+use Rattle.dac_wire.specs.laws.Common.{Table, after, whole, IsBytes, IsCodec, ReadFault, PartCodecs, IsInForm, parts_at, preamble_fault, version_in, unless, packet_in, Gives, in_packet, fields_at, PREAMBLE, WireFault, TooLong, BadMagic, BadVersion, OtherConfig, Short, NoMemory, Packet, MAX_MESSAGE, IsPacket, packet_code, kind_of_packet, preamble_bytes, content_bytes, packet_bytes, u8_bytes, Version}
 use Rattle.std.specs.Prelude.{IfOk}
-use Rattle.dac_config.specs.Table.{Table}
-use Rattle.dac_bytes.specs.Reading.{after, whole}
-use Rattle.dac_bytes.specs.Takes.{IsBytes, IsCodec}
-use Rattle.dac_bytes.specs.declared.fault.ReadFault.{ReadFault}
-use Rattle.dac_part_bytes.specs.PartCodecs.{PartCodecs}
-use Rattle.dac_state.specs.StateForm.{IsInForm}
-use Rattle.dac_state.specs.StateReading.{parts_at}
 use Rattle.dac_state.specs.StateSpelling as state
-use Rattle.dac_wire.specs.Decoding.{preamble_fault, version_in, unless, packet_in}
-use Rattle.dac_wire.specs.Faults.{Fails, Gives, in_packet}
-use Rattle.dac_wire.specs.Reading.{fields_at}
-use Rattle.dac_wire.specs.declared.coding.TheConstants.{PREAMBLE}
-use Rattle.dac_wire.specs.declared.fault.WireFault.{WireFault}
+use Rattle.dac_wire.specs.Faults.{Fails}
 use Rattle.dac_wire.specs.declared.fault.WireFaultKind.{WireFaultKind}
-use Rattle.dac_wire.specs.declared.fault.WireFaultKind.TheVariants.{TooLong, BadMagic, BadVersion, OtherConfig, Short, BadNumber, BadOrder, BadName, NotInList, NotKnown, Trailing, NoMemory}
-use Rattle.dac_wire.specs.declared.packet.Packet.{Packet}
-use Rattle.dac_wire.specs.declared.packet.TheConstants.{MAX_MESSAGE}
-use Rattle.dac_wire.specs.Form.{IsPacket}
-use Rattle.dac_wire.specs.Codes.{packet_code, kind_of_packet}
-use Rattle.dac_wire.specs.Spelling.{preamble_bytes, content_bytes, packet_bytes}
-use Rattle.dac_bytes.specs.Numbers.{u8_bytes}
+use Rattle.dac_wire.specs.declared.fault.WireFaultKind.TheVariants.{BadNumber, BadOrder, BadName, NotInList, NotKnown, Trailing}
 use Rattle.dac_wire.specs.laws.Fronts.{IsReal, front_real, version_is}
 use Rattle.dac_wire.specs.laws.PacketLaws.{packet_found, packet_again}
-use Rattle.dac_bytes.specs.declared.version.Version.{Version}
 
 -- a fault that isn't `NoMemory` is the definition's fault
 fails_with : {X : Type 0} (kind : WireFaultKind) (e : WireFault) (read : Result X WireFault) → ¬ (kind ≡ NoMemory) → read ≡ Err e → Fails kind e read

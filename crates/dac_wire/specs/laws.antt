@@ -1,3 +1,4 @@
+pub mod Common
 pub mod ActLaws
 pub mod CodeLaws
 pub mod Fronts

@@ -71,5 +71,4 @@ takes_effect t me last (Some r) noted Crash none is = record { left = tt; later 
 takes_effect t me last (Some r) noted (Commanded c) none is = record { left = commands_take_effect t r.origin r.state c is (obeyed t r c none).0; later = later_command t r.origin r.state c }
 takes_effect t me last (Some r) noted (Tick now) none is = tick_effect t last r noted is now (opening_at t r now) none
 takes_effect t me last (Some r) noted (Ship to) none is = record { left = tt; later = nothing_later r.state }
-takes_effect t me last (Some r) noted (Hear m) none is = record { left = tt; later = nothing_later r.state }
-takes_effect t me last (Some r) noted (HearOp o) none is = record { left = tt; later = nothing_later r.state }
+takes_effect t me last (Some r) noted _ none is = record { left = tt; later = nothing_later r.state }

@@ -45,8 +45,7 @@ module _ (t : Table) (me : NodeId) (last : ℕ) where
   goes_by None r (Commanded c) is stays = record { run = _; on = refl; opened = is }
   goes_by None r (Tick now) is stays = by_tick t r (running_shown t r) (note_of (joined r.log) (Tick now)) (waits_of t (note_of (joined r.log) (Tick now) ∷ r.notes)) now (opening_at t (running_shown t r) now) (opens t (running_shown t r) now is)
   goes_by None r (Ship to) is stays = record { run = _; on = refl; opened = is }
-  goes_by None r (Hear m) is stays = record { run = _; on = refl; opened = is }
-  goes_by None r (HearOp o) is stays = record { run = _; on = refl; opened = is }
+  goes_by None r _ is stays = record { run = _; on = refl; opened = is }
 
   found_by : (x : Option Refusal) (r : ModelRunning) (e : Event) → r.is_open ≡ true → ¬ (Answers SaysShut (step_by x t me (node_of (Some r)) e).answer)
   found_by (Some why) r e is = λ shut. shut
@@ -55,8 +54,7 @@ module _ (t : Table) (me : NodeId) (last : ℕ) where
   found_by None r (Commanded c) is = λ shut. shut
   found_by None r (Tick now) is = not_by_tick t (running_shown t r) (waits_of t (note_of (joined r.log) (Tick now) ∷ r.notes)) now (opening_at t (running_shown t r) now) (opens t (running_shown t r) now is)
   found_by None r (Ship to) is = λ shut. shut
-  found_by None r (Hear m) is = λ shut. shut
-  found_by None r (HearOp o) is = λ shut. shut
+  found_by None r _ is = λ shut. shut
 
 -- ---- any node
 

@@ -2,7 +2,7 @@
 -- computes to it. Conversely a refusal is returned only for its cause.
 use Rattle.std.specs.Prelude.{◌≡◌, ◌⊎◌, ◌↔◌, ℕ, ◌+◌, ◌<◌, ◌≤◌, Bool, true, false, not, ◌||◌, List, [], ◌∷◌, Option, None, Some, refl}
 use Rattle.std.proofs.Common.{sym, ap, subst, ◌∙◌, inl, inr, arith}
-use Rattle.dac_model_node.specs.laws.Common.{nat_eq, nat_le, IfSome, false_from_ne_true, eq-eqb, false≢true, MAX_INCARNATION, MAX_COUNTER, NodeId, AppId, Origin, IsLive, Table, node_count, app_count, group_of, StateValue, meaning_of, is_below, content_of, Down, Permit, Start, Stop, Drain, Takeover, Message, Event, Boot, Crash, Tick, Ship, Hear, HearOp, Refusal, Off, AlreadyOn, DeclaredDown, UnknownApp, UnknownNode, OnSelf, NotInList, MomentBack, NotLive, NotForMe, number_of, no_node, no_app, unlisted, not_live, declared_down, NodeValue, RunningValue, too_many_deltas, overflows, is_for, refusal_on, refusal_by, refusal_of, causes_of_event, IsOneOf}
+use Rattle.dac_model_node.specs.laws.Common.{nat_eq, nat_le, IfSome, false_from_ne_true, eq-eqb, false≢true, MAX_INCARNATION, MAX_COUNTER, NodeId, AppId, Origin, IsLive, Table, node_count, app_count, group_of, StateValue, meaning_of, is_below, content_of, Down, Permit, Start, Stop, Drain, Takeover, Message, Event, Boot, Crash, Tick, Ship, Hear, Refusal, Off, AlreadyOn, DeclaredDown, UnknownApp, UnknownNode, OnSelf, NotInList, MomentBack, NotLive, NotForMe, number_of, no_node, no_app, unlisted, not_live, declared_down, NodeValue, RunningValue, too_many_deltas, overflows, is_for, refusal_on, refusal_by, refusal_of, causes_of_event, IsOneOf}
 use Rattle.std.proofs.lemmas.Bool.{and_right, or_left, or_right}
 use Rattle.dac_messages.specs.declared.event.Event.TheVariants.{Command as Commanded}
 use Rattle.dac_model_node.specs.EventRefusals.{refusal_off}
@@ -212,21 +212,14 @@ module _ (t : Table) (last : ℕ) (r : RunningValue) where
       of_event (Commanded c) h = tt
       of_event (Tick now) h = tt
       of_event (Boot now) h = absurd (false≢true h)
-      of_event Crash h = absurd (false≢true h)
-      of_event (Ship to) h = absurd (false≢true h)
-      of_event (Hear m) h = absurd (false≢true h)
-      of_event (HearOp o) h = absurd (false≢true h)
+      of_event _ h = absurd (false≢true h)
 
 -- ---- nodes that are off, and boots
 
 off_event : (last : ℕ) (e : Event) → ¬ IsBoot e → refusal_off last e ≡ Some Off
 off_event last (Boot now) never = absurd (never tt)
 off_event last Crash never = refl
-off_event last (Commanded c) never = refl
-off_event last (Tick now) never = refl
-off_event last (Ship to) never = refl
-off_event last (Hear m) never = refl
-off_event last (HearOp o) never = refl
+off_event last _ never = refl
 
 boot_off : (last : ℕ) (e : Event) → IsBoot e → last < MAX_INCARNATION → refusal_off last e ≡ None
 boot_off last (Boot now) is room = let h = failing (nat_le MAX_INCARNATION last) (at_least MAX_INCARNATION last) (λ (full : MAX_INCARNATION ≤ last). omega (arith, full, room)) in rw h

@@ -58,11 +58,7 @@ by_run t me last (Some r) (Tick now) reply is = tt
 by_run t me last (Some r) (Hear m) reply is = tt
 by_run t me last (Some r) (HearOp o) reply is = tt
 by_run t me last None (Boot now) reply is = tt
-by_run t me last None Crash reply is = tt
-by_run t me last None (Commanded c) reply is = tt
-by_run t me last None (Tick now) reply is = tt
-by_run t me last None (Hear m) reply is = tt
-by_run t me last None (HearOp o) reply is = tt
+by_run t me last None _ reply is = tt
 
 pub ships_in_words : ShipsInWords
 ships_in_words t me d e reply is = by_run t me d.last d.running e reply is

@@ -1,6 +1,6 @@
 -- The model node, and the program's node as which it shows.
 use Rattle.std.proofs.Common.{◌≡◌, ℕ, ◌-◌, Bool, true, false, cond, List, ◌∷◌, ◌++◌, length, Option, Some, None, Ok, Err, refl, sym, ap, subst, ◌∙◌, arith, true≢false}
-use Rattle.dac_model_node.specs.laws.Common.{fold, max, unwrap_or, IfSome, NodeId, Table, StateValue, bottom, join, pushed, trimmed, PeersValue, Opening, Shut, Opened, GiveUp, Noted, Note, waits_of, Event, Boot, Crash, Tick, Ship, Hear, HearOp, Reply, Refusal, NoMemory, NodeValue, RunningValue, ModelNode, ModelRunning, base_after, shown, running_shown, joined, refusal_of, Transition, transition_of, ticks_by, opening_at, note_of, model_step, step_by, accepted, transition_on, goes_on, AcceptedAs, AreNewest, IsNotingBy, running_by, left_by, reply_by, MAX_DELTAS}
+use Rattle.dac_model_node.specs.laws.Common.{fold, max, unwrap_or, IfSome, NodeId, Table, StateValue, bottom, join, pushed, trimmed, PeersValue, Opening, Shut, Opened, GiveUp, Noted, Note, waits_of, Event, Boot, Crash, Tick, Ship, Reply, Refusal, NoMemory, NodeValue, RunningValue, ModelNode, ModelRunning, base_after, shown, running_shown, joined, refusal_of, Transition, transition_of, ticks_by, opening_at, note_of, model_step, step_by, accepted, transition_on, goes_on, AcceptedAs, AreNewest, IsNotingBy, running_by, left_by, reply_by, MAX_DELTAS}
 use Rattle.std.specs.Option.{option_map}
 use Rattle.std.proofs.lemmas.List.{length-drop}
 use Rattle.std.proofs.lemmas.List.Sums.{fold-append}
@@ -27,8 +27,7 @@ quiet_transition t r n m Crash h = refl
 quiet_transition t r n m (Commanded c) h = refl
 quiet_transition t r n m (Tick now) h = quiet_tick (opening_at t r now) t r n m now h
 quiet_transition t r n m (Ship to) h = refl
-quiet_transition t r n m (Hear msg) h = refl
-quiet_transition t r n m (HearOp o) h = refl
+quiet_transition t r n m _ h = refl
 
 quiet_run : (r : RunningValue) (n m : List (Option Noted)) (transition : Transition) → transition.notes ≡ false → running_by r n transition ≡ running_by r m transition
 quiet_run r n m transition h =

@@ -1,6 +1,6 @@
 -- Ships send messages to the nodes that they name.
 use Rattle.std.proofs.Common.{◌≡◌, ℕ, true, false, inl, inr, cond, List, [], ◌∷◌, Option, Some, None, Result, Ok, Err, refl, sym, ap, subst, ◌∙◌}
-use Rattle.dac_model_world.specs.laws.Common.{nat_lt, option_map, NodeId, Origin, Operation, Table, Opening, Shut, Opened, GiveUp, Noted, waits_of, WorldEvent, What, Deliver, Hand, Message, Event, Tick, Ship, Off, WorldFault, NoSuchNode, RunningValue, ModelRunning, joined, shown, running_shown, refusal_of, refusal_by, ticks_by, opening_at, note_of, step_by, accepted, ModelWorld, happens, happens_by, answered_by, event_of, Step, Run, SetWorld, set_step}
+use Rattle.dac_model_world.specs.laws.Common.{nat_lt, option_map, NodeId, Origin, Operation, Table, Opening, Shut, Noted, waits_of, WorldEvent, What, Deliver, Hand, Message, Event, Tick, Ship, Off, WorldFault, NoSuchNode, RunningValue, ModelRunning, joined, shown, running_shown, refusal_of, refusal_by, ticks_by, opening_at, note_of, step_by, accepted, ModelWorld, happens, happens_by, answered_by, event_of, Step, Run, SetWorld, set_step}
 use Rattle.dac_events.specs.declared.What.TheVariants.{Ship as Ships}
 use Rattle.dac_model_world.specs.ModelWorld.{counted}
 use Rattle.dac_model_world.specs.Addressed.{IsAddressed, AreAddressed}
@@ -24,8 +24,7 @@ ships_to os ms _ to e = cc
 -- ---- one event of the world
 tick_ships_none : (t : Table) (e : WorldEvent) (r : RunningValue) (noted : List (Option Noted)) (now : ℕ) (opening : Opening) → ((to : NodeId) → e.what ≡ Ships to → ⊥) → IsAddressed e (Ok (ticks_by opening t r noted now).reply)
 tick_ships_none t e r noted now Shut none = none
-tick_ships_none t e r noted now GiveUp none = none
-tick_ships_none t e r noted now Opened none = none
+tick_ships_none t e r noted now _ none = none
 
 module _ (t : Table) (w : ModelWorld) (s : SetWorld) (h : Sound w s) (e : WorldEvent) where
   abbrev refused_by : Option ModelRunning → Event → Type 0

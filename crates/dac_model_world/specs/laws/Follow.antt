@@ -1,6 +1,6 @@
 -- The program's world follows the model worlds that show as it.
 use Rattle.std.proofs.Common.{◌≡◌, ℕ, ◌<◌, Bool, true, false, cond, inl, inr, List, ◌∷◌, ◌++◌, Option, Some, None, Result, Ok, Err, length, nat_eq, refl, sym, ap, subst, ◌∙◌, lt-ltb, eq-eqb, get_or, true≢false}
-use Rattle.dac_model_world.specs.laws.Common.{nat_lt, IfSome, option_map, slice_get, exact_unsigned_eq, false_from_ne_true, NodeId, Table, Opening, Shut, Opened, GiveUp, Noted, waits_of, WorldEvent, Event, Crash, Tick, Reply, Crashed, Refusal, Off, NoMemory, WorldFault, NoSuchNode, Refused, NodeValue, RunningValue, ModelNode, ModelRunning, joined, shown, running_shown, refusal_of, refusal_by, ticks_by, opening_at, note_of, model_step, step_by, accepted, Stepped, AcceptedAs, left_by, reply_by, WorldValue, ModelWorld, Shows, happens, happens_by, answered_by, event_of, numbered, with_node, issued_by, shipped_by, out_of_memory, Step, Follows, Goes, step_accepted, some_same}
+use Rattle.dac_model_world.specs.laws.Common.{nat_lt, IfSome, option_map, slice_get, exact_unsigned_eq, false_from_ne_true, NodeId, Table, Opening, Shut, Noted, waits_of, WorldEvent, Event, Crash, Tick, Reply, Crashed, Refusal, Off, NoMemory, WorldFault, NoSuchNode, Refused, NodeValue, RunningValue, ModelNode, ModelRunning, joined, shown, running_shown, refusal_of, refusal_by, ticks_by, opening_at, note_of, model_step, step_by, accepted, Stepped, AcceptedAs, left_by, reply_by, WorldValue, ModelWorld, Shows, happens, happens_by, answered_by, event_of, numbered, with_node, issued_by, shipped_by, out_of_memory, Step, Follows, Goes, step_accepted, some_same}
 use Rattle.std.specs.Prelude.{unwrap_or, IsOk, IfOk, IfErr, OnErr}
 use Rattle.std.proofs.lemmas.Option.{slice_get_read}
 use Rattle.dac_model_node.specs.Hearing.{HearsExactly}
@@ -35,8 +35,7 @@ refusal_same t w v h me e old here = ap (λ x. refusal_of t x e) (node_shown t w
 -- only a crash has this reply
 tick_stays : (opening : Opening) (t : Table) (r : RunningValue) (noted : List (Option Noted)) (now : ℕ) → ◌≡◌ {A = Result Reply Refusal} (Ok (ticks_by opening t r noted now).reply) (Ok Crashed) → ⊥
 tick_stays Shut t r noted now h = cc
-tick_stays GiveUp t r noted now h = cc
-tick_stays Opened t r noted now h = cc
+tick_stays _ t r noted now h = cc
 
 only_crash : (t : Table) (me : NodeId) (last : ℕ) (running : Option ModelRunning) (e : Event) → (accepted t me last running e).answer ≡ Ok Crashed → e ≡ Crash
 only_crash t me last None e h = cc

@@ -1,6 +1,6 @@
 -- A hear reports whether it brought a dot that the node hadn't heard.
 use Rattle.std.proofs.Common.{◌≡◌, ℕ, Bool, true, false, not, cond, List, [], ◌∷◌, Option, Some, None, ◌⊎◌, Ok, Err, inl, inr, refl, sym, ap, subst, ◌∙◌, true≢false}
-use Rattle.dac_model_world.specs.laws.Common.{IsTrue, nat_lt, option_map, list_any, false_from_ne_true, NodeId, same_dot_is, Operation, StateValue, meaning_of, IsOperationOf, AreOperationsOf, DotsDetermine, has_dot, heard-meaning, found, finds, Table, Opening, Shut, Opened, GiveUp, Noted, waits_of, WorldEvent, What, content_of, Event, Boot, Tick, Hear, HearOp, NoSuchNode, is_below, is_below-is, RunningValue, ModelRunning, joined, shown, running_shown, refusal_of, refusal_by, ticks_by, opening_at, note_of, step_by, accepted, ModelWorld, happens, happens_by, answered_by, event_of, Step, Run, SetWorld, NodeSet, held_by, brought_to, set_step, HasDot}
+use Rattle.dac_model_world.specs.laws.Common.{IsTrue, nat_lt, option_map, list_any, false_from_ne_true, NodeId, same_dot_is, Operation, StateValue, meaning_of, IsOperationOf, AreOperationsOf, DotsDetermine, has_dot, heard-meaning, found, finds, Table, Opening, Shut, Noted, waits_of, WorldEvent, What, content_of, Event, Boot, Tick, Hear, HearOp, NoSuchNode, is_below, is_below-is, RunningValue, ModelRunning, joined, shown, running_shown, refusal_of, refusal_by, ticks_by, opening_at, note_of, step_by, accepted, ModelWorld, happens, happens_by, answered_by, event_of, Step, Run, SetWorld, NodeSet, held_by, brought_to, set_step, HasDot}
 use Rattle.std.specs.Prelude.{◌↔◌}
 use Rattle.std.specs.FinSet as set
 use Rattle.dac_events.specs.declared.refusal.Refusal.TheVariants.{AlreadyOn}
@@ -72,8 +72,7 @@ told_news w s n what body r h on b =
 
 no_news : (t : Table) (s : SetWorld) (e : WorldEvent) (r : RunningValue) (noted : List (Option Noted)) (now : ℕ) (opening : Opening) → TellsNews s e (Ok (ticks_by opening t r noted now).reply)
 no_news t s e r noted now Shut = tt
-no_news t s e r noted now GiveUp = tt
-no_news t s e r noted now Opened = tt
+no_news t s e r noted now _ = tt
 
 news_ok : (t : Table) (w : ModelWorld) (s : SetWorld) (e : WorldEvent) (at : Event) (running : Option ModelRunning) → Sound w s → event_of w.operations w.messages e.what ≡ Ok at → refusal_of t (shown t (w.node e.node)) at ≡ None → (w.node e.node).running ≡ running →
     let step = accepted t e.node (w.node e.node).last running at in

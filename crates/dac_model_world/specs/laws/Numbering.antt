@@ -1,13 +1,13 @@
 -- Issued operations are in order: those of an incarnation have the counters 1, 2, 3 and so on. An operation replaces
 -- only dots that were issued, and names no incarnation of a node later than its last.
 use Rattle.std.proofs.Common.{◌≡◌, ◌⊎◌, ℕ, suc, ◌<◌, ◌≤◌, ◌+◌, ◌-◌, Bool, true, false, cond, ◌||◌, List, [], ◌∷◌, ◌++◌, length, Option, Some, None, inl, inr, refl, sym, ap, subst, ◌∙◌, append-nil, append_assoc, le_trans, arith}
-use Rattle.dac_model_world.specs.laws.Common.{eq_by_cmp, is_eq, Equal-is, tied_itself, NodeId, Dot, Origin, dot, origin_cmp, exact_origins, origins_total, Life, IsGreatest, IsSaid, life_cmp, same_dot_is, same_dot_itself, Act, Down, Permit, Start, Stop, Drain, Operation, meaning_of, IsOperationOf, AreOperationsOf, has_dot, names, pairs, life_said, of_said, Within-append, In-append_left, In-append_right, In-append_cases, found, finds, known-meaning, lives-meaning, lives_are, HasDot, AreOwn}
+use Rattle.dac_model_world.specs.laws.Common.{eq_by_cmp, is_eq, Equal-is, tied_itself, NodeId, Dot, Origin, dot, origin_cmp, exact_origins, origins_total, Life, IsGreatest, IsSaid, life_cmp, same_dot_is, same_dot_itself, Act, Down, Permit, Operation, meaning_of, IsOperationOf, AreOperationsOf, has_dot, names, pairs, life_said, of_said, Within-append, In-append_left, In-append_right, In-append_cases, found, finds, known-meaning, lives-meaning, lives_are, HasDot, AreOwn}
 use Rattle.std.specs.Prelude.{filter}
 use Rattle.std.specs.FinMap as map
 use Rattle.std.specs.FinSet as set
 use Rattle.std.proofs.lemmas.Bool.{or_cases}
 use Rattle.dac_lattice.specs.declared.flags.Flag.TheVariants.{Up as IsUp}
-use Rattle.dac_operations.specs.declared.act.Act.TheVariants.{Up, Claim}
+use Rattle.dac_operations.specs.declared.act.Act.TheVariants.{Up}
 use Rattle.dac_meaning.specs.Meaning.{replaces}
 use Rattle.dac_meaning.specs.Chained.{SaysFor}
 use Rattle.dac_model_world.specs.Issuing.{is_of, count_of}
@@ -138,10 +138,7 @@ module _ (ops : List Operation) (last : NodeId → ℕ) (os : List Operation) (o
       let bound : inc ≤ last node = h.lives said.0 (inside said.0 said.1.0) node (record { inc = inc; flag = IsUp }) said.1.1 in
       subst (λ (q : NodeId × ℕ). q.1 ≤ last q.0) (λ i. (p.0 i, (p.1 i).inc)) bound
   new_life n l (Permit key value over) ends e = none_some e
-  new_life n l (Start key over) ends e = none_some e
-  new_life n l (Stop key over) ends e = none_some e
-  new_life n l (Drain node inc value over) ends e = none_some e
-  new_life n l (Claim app term how from) ends e = none_some e
+  new_life n l _ ends e = none_some e
 
   latest_more : (at : Origin) → IsLatest at (ops ++ o ∷ [])
   latest_more at = elim (is_of at o) as (λ b. is_of at o ≡ b → IsLatest at (ops ++ o ∷ [])) [

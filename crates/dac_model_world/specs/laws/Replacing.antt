@@ -72,10 +72,7 @@ command_replaces t s (Takes app) = tt
 command_ends : (t : Table) (own : Origin) (s : StateValue) (c : Command) → refusal_of_command t own s c ≡ None → EndsLive s (act_of t s c)
 command_ends t own s (Downs node) none = let says = (writes_what_is_said t own s (Downs node) none).says in subst (EndsLive s) (sym says.1.0) says.1.1
 command_ends t own s (Permits app node value) none = tt
-command_ends t own s (Starts app node) none = tt
-command_ends t own s (Stops app node) none = tt
-command_ends t own s (Drains node value) none = tt
-command_ends t own s (Takes app) none = tt
+command_ends t own s _ none = tt
 
 -- the next operation at a set's meaning
 next_after : (s : StateValue) (os : List Operation) (own : Origin) (act : Act) → s ≡ meaning_of os → IsNext s.known own (next_operation s own act).dot → Replaces s act → EndsLive s act → IsNextAfter os (next_operation s own act)

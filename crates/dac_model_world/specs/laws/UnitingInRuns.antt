@@ -1,6 +1,6 @@
 -- Ships send the sender's whole set, and hearing unites the receiver's set with it.
 use Rattle.std.proofs.Common.{◌≡◌, ℕ, true, false, cond, inl, inr, List, [], ◌∷◌, ◌++◌, Option, Some, None, Ok, Err, refl, sym, ap, subst, ◌∙◌}
-use Rattle.dac_model_world.specs.laws.Common.{nat_lt, option_map, NodeId, Operation, Table, Opening, Shut, Opened, GiveUp, Noted, waits_of, WorldEvent, What, Message, Event, Boot, Crash, Tick, Ship, Hear, HearOp, NoSuchNode, RunningValue, ModelRunning, joined, shown, running_shown, refusal_of, refusal_by, message_of, ticks_by, opening_at, note_of, step_by, accepted, ModelWorld, happens, happens_by, answered_by, event_of, Step, Run, SetWorld, NodeSet, with_set, united, copied_by, copied_to, brought_to, operations_of, alone, set_step, IsPut, Unites, AllUnite}
+use Rattle.dac_model_world.specs.laws.Common.{nat_lt, option_map, NodeId, Operation, Table, Opening, Shut, Noted, waits_of, WorldEvent, What, Message, Event, Boot, Crash, Tick, Ship, Hear, HearOp, NoSuchNode, RunningValue, ModelRunning, joined, shown, running_shown, refusal_of, refusal_by, message_of, ticks_by, opening_at, note_of, step_by, accepted, ModelWorld, happens, happens_by, answered_by, event_of, Step, Run, SetWorld, NodeSet, with_set, united, copied_by, copied_to, brought_to, operations_of, alone, set_step, IsPut, Unites, AllUnite}
 use Rattle.dac_messages.specs.declared.event.Event.TheVariants.{Command as Commanded}
 use Rattle.dac_model_world.specs.ModelWorld.{counted}
 use Rattle.dac_model_world.specs.Uniting.{HearsSo}
@@ -38,8 +38,7 @@ module _ (w : ModelWorld) (s : SetWorld) (n : NodeId) (r : ModelRunning) (h : So
 
 tick_unites : (t : Table) (s : SetWorld) (n : NodeId) (what : What) (r : RunningValue) (noted : List (Option Noted)) (now : ℕ) (opening : Opening) → Unites s n what (Ok (ticks_by opening t r noted now).reply)
 tick_unites t s n what r noted now Shut = tt
-tick_unites t s n what r noted now GiveUp = tt
-tick_unites t s n what r noted now Opened = tt
+tick_unites t s n what r noted now _ = tt
 
 unite_ok : (t : Table) (w : ModelWorld) (s : SetWorld) (n : NodeId) (what : What) (e : Event) (running : Option ModelRunning) → Sound w s → event_of w.operations w.messages what ≡ Ok e → refusal_of t (shown t (w.node n)) e ≡ None → (w.node n).running ≡ running →
     let step = accepted t n (w.node n).last running e in

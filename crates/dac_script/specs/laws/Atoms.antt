@@ -1,19 +1,15 @@
 -- A word has a name exactly if it is an atom of that name.
-use Rattle.std.proofs.Common.{◌≡◌, ℕ, ◌+◌, Bool, true, false, cond, not, ◌&&◌, List, [], ◌∷◌, ◌++◌, length, take, slice_index, All, Some, None, codes, ◌==◌, refl, sym, ap, subst, ◌∙◌, arith, inl, inr, length-append}
+use Rattle.std.proofs.Common.{◌≡◌, ℕ, ◌+◌, true, cond, not, ◌&&◌, List, [], ◌∷◌, ◌++◌, length, take, slice_index, All, Some, None, codes, ◌==◌, refl, sym, ap, subst, ◌∙◌, arith, inl, inr, length-append}
+use Rattle.dac_script.specs.laws.Common.{list_all, bytes_eq, and_from, and_parts, cond-true, cond_both, eq-eqb, eqb-true, nat_tests, take_all, take_at, get_or_at, none-some, same_Some, cond_some, bytes_eq-Decides, name_in}
 use Rattle.std.specs.Bool.{Decides}
-use Rattle.std.specs.List.{list_all}
-use Rattle.std.specs.Str.{bytes_eq}
 use Rattle.std.specs.Char.{IsAsciiLowercase}
-use Rattle.std.proofs.lemmas.Bool.{and_from, and_parts, cond-true, eq-eqb, eqb-true}
-use Rattle.std.proofs.lemmas.Bool.Decides.{nat_tests, Decides-and, Decides-by_and, Decides-not}
-use Rattle.std.proofs.lemmas.List.{take_all, take_at, take_more, get_or_at}
-use Rattle.std.proofs.lemmas.Option.{none-some, same_Some, cond_some}
-use Rattle.std.proofs.lemmas.Slice.Eq.{bytes_eq-Decides}
+use Rattle.std.proofs.lemmas.Bool.Decides.{Decides-and, Decides-by_and, Decides-not}
+use Rattle.std.proofs.lemmas.List.{take_more}
 use Rattle.dac_tokens.specs.Scan.{is_name_byte, is_quotable}
 use Rattle.dac_tokens.specs.TokenGrammar.{Begins, IsNameByte, IsBareAtom, IsQuotable, IsQuoted}
 use Rattle.dac_tokens.specs.laws.NameBytes.{tells_letter, tells_name_byte}
 use Rattle.dac_config.specs.Canonical.{begins_small, is_bare}
-use Rattle.dac_script.specs.Words.{before_quote, quoted_name, name_in}
+use Rattle.dac_script.specs.Words.{before_quote, quoted_name}
 use Rattle.dac_script.specs.Forms.{IsAtom}
 
 -- ---- tests of bytes
@@ -72,20 +68,18 @@ ends_quoted (c ∷ cs) name e =
 
 begins_quoted : (word name : List ℕ) → quoted_name word ≡ Some name → IsQuoted name word
 begins_quoted [] name e = absurd (none-some name e)
-begins_quoted (b ∷ bs) name e = by (b == 39) refl e
-  where
-    by : (quote : Bool) → (b == 39) ≡ quote → cond quote (before_quote bs) None ≡ Some name → IsQuoted name (b ∷ bs)
-    by true quote e =
-        let inner = ends_quoted bs name e in
-        (ap (λ (c : ℕ). c ∷ bs) (eqb-true b 39 quote) ∙ ap (λ (l : List ℕ). 39 ∷ l) inner.0, inner.1)
-    by false quote e = absurd (none-some name e)
+begins_quoted (b ∷ bs) name e =
+    cond_both (b == 39) (before_quote bs) None (λ o. o ≡ Some name → IsQuoted name (b ∷ bs))
+    (λ quote e.
+    let inner = ends_quoted bs name e in
+    (ap (λ (c : ℕ). c ∷ bs) (eqb-true b 39 quote) ∙ ap (λ (l : List ℕ). 39 ∷ l) inner.0, inner.1))
+    (λ _ e. absurd (none-some name e)) e
 
 -- a word with a name is an atom of that name
 pub name_spelled : (name word : List ℕ) → name_in word ≡ Some name → IsAtom name word
-name_spelled name word e = by (is_bare word) refl e
-  where
-    by : (bare : Bool) → is_bare word ≡ bare → cond bare (Some word) (quoted_name word) ≡ Some name → IsAtom name word
-    by true bare e =
-        let same = same_Some word name e in
-        inl (same, subst IsBareAtom same ((tells_bare word).0 bare))
-    by false bare e = inr (begins_quoted word name e)
+name_spelled name word e =
+    cond_both (is_bare word) (Some word) (quoted_name word) (λ o. o ≡ Some name → IsAtom name word)
+    (λ bare e.
+    let same = same_Some word name e in
+    inl (same, subst IsBareAtom same ((tells_bare word).0 bare)))
+    (λ _ e. inr (begins_quoted word name e)) e

@@ -1,14 +1,6 @@
 -- Exactly empty lines and comments are skipped.
-use Rattle.std.proofs.Common.{◌≡◌, ◌==◌, ℕ, List, [], ◌∷◌, refl, subst}
-use Rattle.std.specs.Prelude.{All, filter}
-use Rattle.std.specs.List.{AllZip}
-use Rattle.std.proofs.lemmas.Bool.{cond-true, ne_eqb, not_from_false}
-use Rattle.std.proofs.lemmas.List.Elements.{All-tail}
-use Rattle.dac_config.specs.Table.{Table}
-use Rattle.dac_script.specs.declared.fault.ScriptFaultKind.{ScriptFaultKind}
-use Rattle.dac_script.specs.Words.{words_of}
-use Rattle.dac_script.specs.LineFaults.{IsFaultless}
-use Rattle.dac_script.specs.Script.{is_said}
+use Rattle.std.proofs.Common.{◌≡◌, ◌==◌, ℕ, List, [], ◌∷◌, filter, All, refl, subst}
+use Rattle.dac_script.specs.laws.Common.{AllZip, cond-true, ne_eqb, not_from_false, All-tail, Table, ScriptFaultKind, words_of, IsFaultless, is_said}
 use Rattle.dac_script.specs.OwnWords.{BeginsWith, OnlyCommentsAreSkipped}
 
 module _ {Line : Type 0} (Spells : Table → Line → List (List ℕ) → Type 0)

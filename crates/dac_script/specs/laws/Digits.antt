@@ -1,17 +1,15 @@
 -- A word spells bytes exactly if it has an even number of lower-case hexadecimal digits, and it is then the text of
 -- those bytes.
-use Rattle.std.proofs.Common.{◌≡◌, ℕ, zero, suc, ◌+◌, ◌-◌, ◌*◌, ◌/◌, ◌%◌, ◌<◌, Bool, true, false, cond, not, ◌&&◌, ◌||◌, List, [], ◌∷◌, length, leb, ltb, nat_le, slice_index, ◌==◌, Option, Some, None, Result, Ok, Err, refl, sym, ap, ◌∙◌, arith, inl, inr}
-use Rattle.std.specs.Prelude.{is_some, slice_index_or}
-use Rattle.std.specs.Char.{is_ascii_digit}
-use Rattle.std.specs.List.{AllPass, list_all}
+use Rattle.std.proofs.Common.{◌≡◌, ℕ, zero, suc, ◌+◌, ◌-◌, ◌*◌, ◌/◌, ◌%◌, ◌<◌, Bool, true, false, cond, not, ◌&&◌, ◌||◌, List, [], ◌∷◌, length, leb, ltb, slice_index, ◌==◌, Some, None, Result, Ok, Err, refl, sym, ap, ◌∙◌, arith, inl, inr}
+use Rattle.dac_script.specs.laws.Common.{list_all, and_from, and_parts, cases_eq, cond-true, eqb-true, ltb-true, not-true, nat_tests, AllPass-from_list_all, list_all-from_AllPass, none-some, same_Some, bytes_in, IsNoHex}
+use Rattle.std.specs.Prelude.{slice_index_or}
+use Rattle.std.specs.List.{AllPass}
 use Rattle.std.specs.Result.{result_ok, result_unwrap_or}
-use Rattle.std.proofs.lemmas.Bool.{false≢true, agree_below_at, and_from, and_parts, both_ways, cases_eq, cond-true, eqb-true, leb-true, ltb-true, not-true, or_cases}
-use Rattle.std.proofs.lemmas.List.Sums.{AllPass-from_list_all, list_all-from_AllPass}
+use Rattle.std.proofs.lemmas.Bool.{agree_below_at, both_ways, or_cases}
 use Rattle.hex.specs.Hex.{IsBytes, decode_of, encode_lower, encode_with, is_hex_digit, lower_digits}
 use Rattle.hex.specs.declared.error.FromHexError.{FromHexError}
 use Rattle.hex.proofs.HexLemmas.{decode_of-digits, decode_of-encode_lower, decode_of-ok}
-use Rattle.dac_script.specs.Words.{is_small_digit, bytes_in}
-use Rattle.dac_script.specs.LineFaults.{IsNoHex}
+use Rattle.dac_script.specs.Words.{is_small_digit}
 
 -- a lower-case hexadecimal digit is a hexadecimal digit
 is_digit : (digit : ℕ) → is_small_digit digit ≡ true → is_hex_digit digit ≡ true
@@ -19,13 +17,9 @@ is_digit digit small = grind (arith)
 
 -- the bytes found are the decoded digits
 decoded : (word bytes : List ℕ) (b : Bool) (r : Result (List ℕ) FromHexError) → cond b (result_ok r) None ≡ Some bytes → (b ≡ true) × (r ≡ Ok bytes)
-decoded word bytes true (Ok xs) is = (refl, ap (λ o. result_of o xs) is)
-  where
-    result_of : Option (List ℕ) → List ℕ → Result (List ℕ) FromHexError
-    result_of None ys = Ok ys
-    result_of (Some zs) ys = Ok zs
-decoded word bytes true (Err e) is = absurd (false≢true (ap is_some is))
-decoded word bytes false r is = absurd (false≢true (ap is_some is))
+decoded word bytes true (Ok xs) is = (refl, ap Ok (same_Some xs bytes is))
+decoded word bytes true (Err e) is = absurd (none-some bytes is)
+decoded word bytes false r is = absurd (none-some bytes is)
 
 pub some_bytes : (word bytes : List ℕ) → bytes_in word ≡ Some bytes → ¬ IsNoHex word
 some_bytes word bytes is h =
@@ -47,7 +41,7 @@ no_bytes word none = elim (cases_eq (length word % 2) 1) [
   | inl odd ↦ inl odd
   | inr even ↦ inr (λ small.
       let r = spelled word (omega (arith, even)) small in
-      false≢true (sym (ap is_some (sym r.1 ∙ none))))
+      none-some r.0 (sym none ∙ r.1))
 ]
 
 -- ---- the bytes of a word
@@ -81,10 +75,7 @@ abbrev has_place : ℕ → Bool
 has_place digit = not (is_small_digit digit) || (ltb (place_of digit) 16 && (slice_index lower_digits (place_of digit) == digit))
 
 below : (digit : ℕ) → is_small_digit digit ≡ true → digit < 103
-below digit small = elim (or_cases (is_ascii_digit digit) (nat_le 97 digit && nat_le digit 102) small) [
-  | inl number ↦ omega (arith, leb-true digit 57 (and_parts (leb 48 digit) (leb digit 57) number).1)
-  | inr letter ↦ omega (arith, leb-true digit 102 (and_parts (leb 97 digit) (leb digit 102) letter).1)
-]
+below digit small = grind (arith, nat_tests)
 
 placed : (digit : ℕ) → is_small_digit digit ≡ true → (place_of digit < 16) × (slice_index lower_digits (place_of digit) ≡ digit)
 placed digit small =

@@ -1,14 +1,10 @@
 -- A word is read as a number exactly if it is that number's decimal text and the number isn't too large.
 use Rattle.std.proofs.Common.{◌≡◌, ℕ, ◌+◌, ◌-◌, ◌*◌, ◌^◌, ◌<◌, ◌≤◌, true, not, ◌&&◌, List, [], ◌∷◌, length, get_or, nat_le, Some, None, decimal, leb, ◌==◌, refl, sym, ap, subst, ◌∙◌, arith, inl, inr}
-use Rattle.std.specs.List.{list_all}
-use Rattle.std.specs.Char.{is_ascii_digit}
-use Rattle.std.proofs.lemmas.Bool.{false≢true, and_from, and_parts, cases_lt, cond-true, eqb-false, le-leb, leb-true, ne_eqb, not-true, not_from_false}
-use Rattle.std.proofs.lemmas.Fmt.{decimal_digit, decimal_nonempty, first_decimal, digits_decimal, digits_value-decimal, decimal-digits_value}
-use Rattle.std.proofs.lemmas.Option.{cond_some}
+use Rattle.dac_script.specs.laws.Common.{list_all, is_ascii_digit, false≢true, and_from, and_parts, cond-true, ne_eqb, not-true, not_from_false, decimal_digit, cond_some, value_from, MAX_NUMBER, number_in}
+use Rattle.std.proofs.lemmas.Bool.{cases_lt, eqb-false, le-leb, leb-true}
+use Rattle.std.proofs.lemmas.Fmt.{decimal_nonempty, first_decimal, digits_decimal, digits_value-decimal, decimal-digits_value}
 use Rattle.std.proofs.lemmas.Str.Parse.{IsDigitsTest, FoldsDigits, IsNumeralModel, numerals_by_fold}
-use Rattle.dac_tokens.specs.Digits.{value_from}
-use Rattle.dac_script.specs.declared.words.TheConstants.{MAX_NUMBER}
-use Rattle.dac_script.specs.Words.{is_digits, number_in}
+use Rattle.dac_script.specs.Words.{is_digits}
 
 -- ---- digits
 

@@ -1,10 +1,7 @@
 -- The words of a line are separated by its spaces.
 use Rattle.std.proofs.Common.{◌≡◌, ◌≢◌, ℕ, ◌<◌, Bool, false, not, List, [], ◌∷◌, ◌++◌, length, filter, All, ◌==◌, refl, sym, ap, subst, ◌∙◌, arith, inl, inr, append_assoc, append-nil}
-use Rattle.std.specs.List.{slice_split}
-use Rattle.std.proofs.lemmas.Bool.{cases_eq, cond-true, eq-eqb, ne_eqb, not_from_false}
-use Rattle.std.proofs.lemmas.List.Elements.{All-cons, All-head, All-nil, All-push, All-tail, All-weaker, filter-append}
-use Rattle.std.proofs.lemmas.List.Splits.{slice_split-cons_yes, slice_split_at, slice_split_none}
-use Rattle.dac_script.specs.Words.{words_of}
+use Rattle.dac_script.specs.laws.Common.{slice_split, cases_eq, cond-true, eq-eqb, ne_eqb, not_from_false, All-cons, All-head, All-nil, All-push, All-tail, filter-append, slice_split-cons_yes, slice_split_at, slice_split_none, words_of}
+use Rattle.std.proofs.lemmas.List.Elements.{All-weaker}
 use Rattle.dac_script.specs.Forms.{AreSpaces, IsWord, EndsWord, HasWords}
 use Rattle.dac_script.specs.InWords.{WordsInWords}
 use Rattle.dac_script.specs.OwnWords.{OnlySpacesSeparate}
@@ -60,16 +57,12 @@ space_more [] b line space has = All-cons (λ b. b ≡ 32) b line space has
 space_more (word ∷ words) b line space has =
     (b ∷ has.0, has.1, ap (λ (l : List ℕ). b ∷ l) has.2, All-cons (λ b. b ≡ 32) b has.0 space has.3, has.4, has.5, has.6)
 
--- a leading word is one of the words
-word_first : (word behind : List ℕ) → IsWord word → EndsWord behind → HasWords (words_of behind) behind → HasWords (words_of (word ++ behind)) (word ++ behind)
-word_first word behind is ends has =
-    subst (λ (words : List (List ℕ)). HasWords words (word ++ behind)) (sym (first_word word behind is ends))
-    ([], behind, refl, All-nil (λ b. b ≡ 32), is, ends, has)
-
 -- a piece without spaces, before a space or the end
 cut : (word behind : List ℕ) → HasNoSpace word → EndsWord behind → HasWords (words_of behind) behind → HasWords (words_of (word ++ behind)) (word ++ behind)
 cut [] behind none ends has = has
-cut (b ∷ bs) behind none ends has = word_first (b ∷ bs) behind (omega arith, none) ends has
+cut (b ∷ bs) behind none ends has =
+    let is : IsWord (b ∷ bs) = (omega arith, none) in
+    subst (λ (words : List (List ℕ)). HasWords words (b ∷ bs ++ behind)) (sym (first_word (b ∷ bs) behind is ends)) ([], behind, refl, All-nil (λ b. b ≡ 32), is, ends, has)
 
 -- the words that are read stand in the line; word is the part of the first word scanned so far
 stand : (word line : List ℕ) → HasNoSpace word → HasWords (words_of (word ++ line)) (word ++ line)

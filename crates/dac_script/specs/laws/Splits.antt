@@ -1,9 +1,9 @@
 -- A list is split at one of its elements as its two sides are, and no part contains an element at which it's split.
 use Rattle.std.proofs.Common.{◌≡◌, ◌<◌, Bool, true, false, cond, List, [], ◌∷◌, ◌++◌, length, All, refl, sym, ap, subst, ◌∙◌, arith, inl, inr}
-use Rattle.std.specs.List.{slice_split, onto_first}
+use Rattle.dac_script.specs.laws.Common.{slice_split, All-cons, All-head, All-nil, All-tail, slice_split-cons_yes}
+use Rattle.std.specs.List.{onto_first}
 use Rattle.std.proofs.lemmas.Bool.{cases_Bool}
-use Rattle.std.proofs.lemmas.List.Elements.{All-cons, All-head, All-nil, All-tail}
-use Rattle.std.proofs.lemmas.List.Splits.{length-slice_split, slice_split-cons_yes, slice_split-cons_no}
+use Rattle.std.proofs.lemmas.List.Splits.{length-slice_split, slice_split-cons_no}
 
 -- one more element changes the first part alone
 step : {X : Type 0} (here : Bool) (x : X) (parts more : List (List X)) → 0 < length parts

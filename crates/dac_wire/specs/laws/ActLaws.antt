@@ -1,45 +1,32 @@
 -- The codec of operations.
-use Rattle.std.specs.Prelude.{◌≡◌, ℕ, ◌+◌, ◌<◌, ◌≤◌, ◌^◌, Bool, true, List, ◌++◌, Option, None, Some, is_none, Ok, refl}
-use Rattle.std.specs.Int.{w8, w16}
+use Rattle.std.specs.Prelude.{◌≡◌, ℕ, ◌≤◌, ◌^◌, List, ◌++◌, None, Some, is_none, Ok, refl, ◌+◌, ◌<◌}
+use Rattle.std.specs.Int.{w16}
 use Rattle.std.proofs.Common.{sym, ap, subst, arith, append_assoc}
-use Rattle.dac_base.specs.declared.NodeId.{NodeId}
-use Rattle.dac_base.specs.declared.limits.TheConstants.{MAX_COUNTER}
+use Rattle.dac_wire.specs.laws.Common.{Bool, true, Option, w8, NodeId, MAX_COUNTER, Dot, Origin, Table, node_count, ReadFault, FieldCodecs, codec_same, codec_wanted, codec_both, codec_pair, u8_bytes, u64_bytes, IsOrigin, Rest, range_at, origin_at, dot_above_at, dot_bytes, origin_bytes, IsCodec, Passes, Takes, TakesAs, Again, Takes-none, TakesAs-made, Again-made, ok_is, PartCodecs, IsKindIn, value_code, value_of_code, IsOperation, act_kind_at, operation_at, operation_bytes, ActKind, Up, Down, Permit, Start, Stop, Claim, Drain, Version}
 use Rattle.dac_chains.specs.declared.claims.How.{How}
-use Rattle.dac_origins.specs.declared.dot.Dot.{Dot}
-use Rattle.dac_origins.specs.declared.dot.Origin.{Origin}
 use Rattle.dac_origins.specs.Dots.{dot_cmp}
 use Rattle.dac_origins.specs.laws.Dots.{dots_total}
 use Rattle.dac_origins.specs.Keys.{IsRising}
 use Rattle.dac_wishes.specs.declared.key.Key.{Key}
-use Rattle.dac_config.specs.Table.{Table, node_count, app_count}
-use Rattle.dac_bytes.specs.declared.fault.ReadFault.{ReadFault}
+use Rattle.dac_config.specs.Table.{app_count}
 use Rattle.dac_bytes.specs.declared.fault.ReadFaultKind.TheVariants.{BadNumber, NotInList}
-use Rattle.dac_bytes.specs.FieldCodecs.{FieldCodecs}
 use Rattle.dac_bytes.specs.laws.Ascending.{AreCounted, counted_codec}
-use Rattle.dac_bytes.specs.laws.Codecs.{codec_same, codec_wanted, codec_both, codec_pair}
-use Rattle.dac_bytes.specs.Numbers.{u8_bytes, u16_bytes, u64_bytes}
-use Rattle.dac_bytes.specs.Ranges.{IsOrigin, IsDot}
-use Rattle.dac_bytes.specs.Reading.{Rest, number_at, range_at, counter_at, origin_at, dot_at, dot_above_at}
-use Rattle.dac_bytes.specs.Spelling.{dot_bytes, origin_bytes}
-use Rattle.dac_bytes.specs.Takes.{IsCodec, Passes, Takes, TakesAs, Again}
-use Rattle.dac_bytes.specs.laws.Takes.{Takes-none, TakesAs-made, Again-made, ok_is}
+use Rattle.dac_bytes.specs.Numbers.{u16_bytes}
+use Rattle.dac_bytes.specs.Ranges.{IsDot}
+use Rattle.dac_bytes.specs.Reading.{number_at, counter_at, dot_at}
 use Rattle.dac_part_bytes.specs.ChainForm.{IsConsistentOrigin}
 use Rattle.dac_part_bytes.specs.KeyedForm.{IsKey, IsKeyAbove}
 use Rattle.dac_part_bytes.specs.Reading.{app_at, key_above_at, manner_at, is_listed}
 use Rattle.dac_part_bytes.specs.Spelling.{app_bytes, key_bytes, manner_bytes}
 use Rattle.std.proofs.lemmas.List.{map-id}
-use Rattle.dac_part_bytes.specs.PartCodecs.{PartCodecs}
 use Rattle.dac_operations.specs.declared.act.Act.{Act}
 use Rattle.dac_operations.specs.declared.act.Act.TheVariants.{Up as UpAct, Down as DownAct, Permit as PermitAct, Start as StartAct, Stop as StopAct, Drain as DrainAct, Claim as ClaimAct}
 use Rattle.dac_operations.specs.Operations.{Operation, operation, fault_of}
-use Rattle.dac_wire.specs.Codes.{kind_of_act, IsKindIn, value_code, value_of_code}
-use Rattle.dac_wire.specs.Form.{AreOver, IsClaimInForm, IsAct, IsOperation}
-use Rattle.dac_wire.specs.Reading.{ClaimFields, over_at, keyed_over_at, valued_over_at, permit_fields_at, drain_fields_at, term_and_manner_at, claim_fields_at, listed_claim_at, act_fields_at, act_kind_at, act_at, dot_and_act_at, operation_at}
-use Rattle.dac_wire.specs.Spelling.{over_bytes, act_fields_bytes, act_bytes, operation_bytes}
-use Rattle.dac_wire.specs.declared.codes.ActKind.{ActKind}
-use Rattle.dac_wire.specs.declared.codes.ActKind.TheVariants.{Up, Down, Permit, Start, Stop, Claim, Drain}
+use Rattle.dac_wire.specs.Codes.{kind_of_act}
+use Rattle.dac_wire.specs.Form.{AreOver, IsClaimInForm, IsAct}
+use Rattle.dac_wire.specs.Reading.{ClaimFields, over_at, keyed_over_at, valued_over_at, permit_fields_at, drain_fields_at, term_and_manner_at, claim_fields_at, listed_claim_at, act_fields_at, act_at, dot_and_act_at}
+use Rattle.dac_wire.specs.Spelling.{over_bytes, act_fields_bytes, act_bytes}
 use Rattle.dac_wire.specs.laws.CodeLaws.{act_kind_bytes, act_kind_codec, value_number, value_fits, value_back}
-use Rattle.dac_bytes.specs.declared.version.Version.{Version}
 
 -- ---- the dots that an act replaces
 

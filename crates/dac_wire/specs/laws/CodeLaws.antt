@@ -1,23 +1,9 @@
 -- Codes correspond one to one to kinds and values.
-use Rattle.std.specs.Prelude.{◌≡◌, ℕ, zero, suc, ◌≤◌, Bool, true, false, List, Option, None, Some, refl}
-use Rattle.std.specs.Int.{w8}
+use Rattle.std.specs.Prelude.{◌≡◌, ℕ, ◌≤◌, List, None, Some, refl}
 use Rattle.std.proofs.Common.{ap, subst, arith}
-use Rattle.std.proofs.lemmas.Bool.{eqb-true, lt-ltb, false≢true}
-use Rattle.dac_bytes.specs.FieldCodecs.{FieldCodecs}
-use Rattle.dac_bytes.specs.Takes.{IsCodec}
-use Rattle.dac_bytes.specs.Versions.{highest_incarnation}
-use Rattle.dac_bytes.specs.laws.Codecs.{codec_made}
-use Rattle.dac_bytes.specs.Numbers.{u8_bytes}
-use Rattle.dac_bytes.specs.Reading.{range_at}
-use Rattle.dac_wire.specs.Codes.{packet_code, packet_of_code, act_code, highest_act, IsKindIn, act_of_code, value_code, value_of_code, only_code, only_of_code}
-use Rattle.dac_wire.specs.Form.{IsOnly}
-use Rattle.dac_wire.specs.Reading.{packet_kind_at, act_kind_at, is_only_of}
-use Rattle.dac_wire.specs.declared.codes.PacketKind.{PacketKind}
-use Rattle.dac_wire.specs.declared.codes.PacketKind.TheVariants.{Whole, Interval, Nothing, Single}
-use Rattle.dac_wire.specs.declared.codes.ActKind.{ActKind}
-use Rattle.dac_wire.specs.declared.codes.ActKind.TheVariants.{Up, Down, Permit, Start, Stop, Claim, Drain}
-use Rattle.dac_bytes.specs.declared.version.Version.{Version}
-use Rattle.dac_bytes.specs.declared.version.Version.TheVariants.{One, Two}
+use Rattle.dac_wire.specs.laws.Common.{zero, suc, Bool, true, false, Option, w8, eqb-true, lt-ltb, FieldCodecs, IsCodec, highest_incarnation, codec_made, u8_bytes, range_at, packet_code, IsKindIn, value_code, value_of_code, only_code, only_of_code, IsOnly, packet_kind_at, act_kind_at, is_only_of, PacketKind, Whole, ActKind, Up, Version, One, Two}
+use Rattle.std.proofs.lemmas.Bool.{false≢true}
+use Rattle.dac_wire.specs.Codes.{packet_of_code, act_code, highest_act, act_of_code}
 
 abbrev IsFrom : ℕ → ℕ → ℕ → Type 0
 IsFrom low high n = (low ≤ n) × (n ≤ high)
@@ -33,15 +19,11 @@ packet_number (suc (suc (suc (suc n)))) is = omega (arith, is.1)
 
 packet_fits : (kind : PacketKind) → IsFrom 1 4 (packet_code kind)
 packet_fits Whole = (omega arith, omega arith)
-packet_fits Interval = (omega arith, omega arith)
-packet_fits Nothing = (omega arith, omega arith)
-packet_fits Single = (omega arith, omega arith)
+packet_fits _ = (omega arith, omega arith)
 
 packet_back : (kind : PacketKind) → packet_of_code (packet_code kind) ≡ kind
 packet_back Whole = refl
-packet_back Interval = refl
-packet_back Nothing = refl
-packet_back Single = refl
+packet_back _ = refl
 
 abbrev pub packet_kind_bytes : PacketKind → List ℕ
 packet_kind_bytes kind = u8_bytes (packet_code kind)
@@ -69,12 +51,7 @@ act_number (suc (suc (suc (suc (suc (suc (suc n))))))) is = omega (arith, is.1)
 
 act_first : (kind : ActKind) → 1 ≤ act_code kind
 act_first Up = omega arith
-act_first Down = omega arith
-act_first Permit = omega arith
-act_first Start = omega arith
-act_first Stop = omega arith
-act_first Claim = omega arith
-act_first Drain = omega arith
+act_first _ = omega arith
 
 few_acts : (version : Version) → highest_act version ≤ 7
 few_acts One = omega arith
@@ -82,12 +59,7 @@ few_acts Two = omega arith
 
 act_back : (kind : ActKind) → act_of_code (act_code kind) ≡ kind
 act_back Up = refl
-act_back Down = refl
-act_back Permit = refl
-act_back Start = refl
-act_back Stop = refl
-act_back Claim = refl
-act_back Drain = refl
+act_back _ = refl
 
 abbrev pub act_kind_bytes : ActKind → List ℕ
 act_kind_bytes kind = u8_bytes (act_code kind)

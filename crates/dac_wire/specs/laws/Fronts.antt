@@ -1,21 +1,14 @@
 -- The fault in the front of bytes, test by test.
-use Rattle.std.specs.Prelude.{◌≡◌, ℕ, ◌<◌, ◌≤◌, Bool, true, false, not, cond, nat_eq, nat_lt, List, [], ◌∷◌, ◌++◌, length, drop, Option, None, Some, refl}
+use Rattle.std.specs.Prelude.{◌≡◌, ℕ, ◌≤◌, not, nat_eq, nat_lt, List, ◌∷◌, ◌++◌, length, None, Some, refl, ◌<◌}
 use Rattle.std.proofs.Common.{ap, ◌∙◌, arith}
-use Rattle.std.proofs.lemmas.Bool.{lt-ltb, le-ltb, ltb-false}
+use Rattle.dac_wire.specs.laws.Common.{Bool, true, false, cond, [], drop, Option, lt-ltb, u64_bytes, Version, One, Two, Table, PREAMBLE, WireFault, TooLong, BadMagic, BadVersion, OtherConfig, Short, NoMemory, MAX_MESSAGE, preamble_fault, version_in, preamble_bytes}
+use Rattle.std.proofs.lemmas.Bool.{le-ltb, ltb-false}
 use Rattle.std.proofs.lemmas.Bool.Decides.{Decides-eqb}
 use Rattle.std.proofs.lemmas.List.{length-append}
 use Rattle.std.proofs.lemmas.Slice.Eq.{starts_is}
 use Rattle.std.specs.List.{starts_with}
-use Rattle.dac_bytes.specs.Numbers.{u64_bytes}
-use Rattle.dac_bytes.specs.declared.version.Version.{Version}
-use Rattle.dac_bytes.specs.declared.version.Version.TheVariants.{One, Two}
-use Rattle.dac_config.specs.Table.{Table}
-use Rattle.dac_wire.specs.declared.coding.TheConstants.{PREAMBLE}
-use Rattle.dac_wire.specs.declared.fault.WireFault.{WireFault}
-use Rattle.dac_wire.specs.declared.fault.WireFaultKind.TheVariants.{TooLong, BadMagic, BadVersion, OtherConfig, Short, NoMemory}
-use Rattle.dac_wire.specs.declared.packet.TheConstants.{MAX_MESSAGE}
-use Rattle.dac_wire.specs.Decoding.{preamble_fault, version_in, wrong}
-use Rattle.dac_wire.specs.Spelling.{version_byte, name_bytes, mark_of, preamble_bytes}
+use Rattle.dac_wire.specs.Decoding.{wrong}
+use Rattle.dac_wire.specs.Spelling.{version_byte, name_bytes, mark_of}
 
 -- the format's name, and then its version
 abbrev name : List ℕ

@@ -1,29 +1,15 @@
 -- The codec of the heads of messages.
-use Rattle.std.specs.Prelude.{◌≡◌, ℕ, zero, suc, ◌+◌, ◌<◌, ◌≤◌, Bool, List, [], ◌++◌, Option, None, Some, Ok, refl}
-use Rattle.std.specs.Int.{w8}
+use Rattle.std.specs.Prelude.{◌≡◌, ℕ, ◌≤◌, List, ◌++◌, None, Some, Ok, refl, ◌+◌, ◌<◌}
 use Rattle.std.proofs.Common.{sym, ap, subst, ◌∙◌, arith, append_assoc}
-use Rattle.std.proofs.lemmas.List.{append-nil}
-use Rattle.dac_base.specs.declared.NodeId.{NodeId}
-use Rattle.dac_base.specs.declared.limits.TheConstants.{MAX_COUNTER}
-use Rattle.dac_origins.specs.declared.dot.Origin.{Origin}
-use Rattle.dac_bytes.specs.declared.fault.ReadFault.{ReadFault}
+use Rattle.dac_wire.specs.laws.Common.{zero, suc, Bool, [], Option, w8, append-nil, NodeId, MAX_COUNTER, Origin, ReadFault, FieldCodecs, codec_same, codec_wanted, codec_made, codec_both, codec_pair, u8_bytes, u64_bytes, IsOrigin, Rest, range_at, origin_at, origin_bytes, IsCodec, Passes, Takes, TakesAs, Again, Takes-none, TakesAs-made, Again-made, ok_is, highest_incarnation, only_code, only_of_code, IsOnly, is_only_of, head_at, Head, Version}
 use Rattle.dac_bytes.specs.declared.fault.ReadFaultKind.TheVariants.{BadNumber}
-use Rattle.dac_bytes.specs.FieldCodecs.{FieldCodecs}
-use Rattle.dac_bytes.specs.laws.Codecs.{codec_same, codec_wanted, codec_made, codec_both, codec_pair}
-use Rattle.dac_bytes.specs.Numbers.{u8_bytes, u64_bytes}
-use Rattle.dac_bytes.specs.Ranges.{IsOrigin}
-use Rattle.dac_bytes.specs.Reading.{Rest, range_at, node_at, incarnation_or_zero_at, origin_at}
-use Rattle.dac_bytes.specs.Spelling.{incarnation_bytes, origin_bytes}
-use Rattle.dac_bytes.specs.Takes.{IsCodec, Passes, Takes, TakesAs, Again}
-use Rattle.dac_bytes.specs.laws.Takes.{Takes-none, TakesAs-made, Again-made, ok_is}
-use Rattle.dac_bytes.specs.Versions.{highest_incarnation}
-use Rattle.dac_wire.specs.Codes.{only_code, only_of_code, ack_code}
-use Rattle.dac_wire.specs.Form.{IsOnly, IsAck}
-use Rattle.dac_wire.specs.Reading.{sender_and_receiver_at, is_only_of, only_code_at, only_at, deltas_at, got_at, acked_if_at, ack_at, counts_at, only_and_counts_at, head_of, head_at}
+use Rattle.dac_bytes.specs.Reading.{node_at, incarnation_or_zero_at}
+use Rattle.dac_bytes.specs.Spelling.{incarnation_bytes}
+use Rattle.dac_wire.specs.Codes.{ack_code}
+use Rattle.dac_wire.specs.Form.{IsAck}
+use Rattle.dac_wire.specs.Reading.{sender_and_receiver_at, only_code_at, only_at, deltas_at, got_at, acked_if_at, ack_at, counts_at, only_and_counts_at, head_of}
 use Rattle.dac_wire.specs.Spelling.{ack_bytes}
-use Rattle.dac_wire.specs.declared.head.Head.{Head}
 use Rattle.dac_wire.specs.laws.CodeLaws.{only_number, only_is, only_fits, only_back}
-use Rattle.dac_bytes.specs.declared.version.Version.{Version}
 
 abbrev AreDeltas : ℕ → Type 0
 AreDeltas n = n ≤ MAX_COUNTER

@@ -1,40 +1,25 @@
 -- The codec of packets.
-use Rattle.std.specs.Prelude.{◌≡◌, ℕ, ◌≤◌, ◌==◌, Bool, true, false, cond, List, [], ◌++◌, length, drop, None, Ok, refl}
+use Rattle.std.specs.Prelude.{◌≡◌, ℕ, ◌≤◌, ◌==◌, List, ◌++◌, length, None, Ok, refl}
 use Rattle.std.proofs.Common.{sym, ap, subst, ◌∙◌, append_assoc}
-use Rattle.std.proofs.lemmas.List.{append-nil, drop_at, nil_from_length}
-use Rattle.std.proofs.lemmas.Bool.{eqb-true}
-use Rattle.dac_config.specs.Table.{Table, node_count}
+use Rattle.dac_wire.specs.laws.Common.{Bool, true, false, cond, [], drop, append-nil, eqb-true, Table, node_count, codec_both, codec_pair, Rest, after, whole, IsBytes, IsCodec, TakesAs, Again, TakesAs-made, Again-made, PartCodecs, IsInForm, parts_at, kind_of_packet, preamble_fault, unless, packet_in, in_packet, IsOperation, IsPacket, head_at, operation_at, packet_kind_at, fields_at, operation_bytes, content_bytes, preamble_bytes, packet_bytes, PacketKind, Whole, Interval, Nothing, Single, Head, Packet, PREAMBLE, MAX_MESSAGE, Version}
+use Rattle.std.proofs.lemmas.List.{drop_at, nil_from_length}
 use Rattle.dac_bytes.specs.declared.fault.ReadFaultKind.TheVariants.{Trailing}
-use Rattle.dac_bytes.specs.laws.Codecs.{codec_both, codec_pair}
-use Rattle.dac_bytes.specs.Reading.{Rest, ◌>>=◌, after, whole, fault}
-use Rattle.dac_bytes.specs.Takes.{IsBytes, IsCodec, TakesAs, Again}
-use Rattle.dac_bytes.specs.laws.Takes.{Takes-front, TakesAs-made, Again-made, bind_ok, wanted_ok}
+use Rattle.dac_bytes.specs.Reading.{◌>>=◌, fault}
+use Rattle.dac_bytes.specs.laws.Takes.{Takes-front, bind_ok, wanted_ok}
 use Rattle.dac_meaning.specs.StateValue.{StateValue}
-use Rattle.dac_part_bytes.specs.PartCodecs.{PartCodecs}
-use Rattle.dac_state.specs.StateForm.{IsInForm}
-use Rattle.dac_state.specs.StateReading.{parts_at}
 use Rattle.dac_state.specs.StateSpelling as state
 use Rattle.dac_messages.specs.declared.message.Body.{Body}
 use Rattle.dac_messages.specs.declared.message.Body.TheVariants.{Whole as WholeBody, Interval as IntervalBody, Nothing as NoBody}
 use Rattle.dac_messages.specs.declared.message.Message.{Message}
-use Rattle.dac_wire.specs.Codes.{kind_of_body, kind_of_packet}
-use Rattle.dac_wire.specs.Decoding.{preamble_fault, unless, packet_in}
-use Rattle.dac_wire.specs.Faults.{in_packet}
-use Rattle.dac_wire.specs.Form.{is_whole, IsBodyInForm, IsMessage, IsOperation, IsPacket}
-use Rattle.dac_wire.specs.Reading.{message_of, head_at, head_and_state_at, operation_at, packet_kind_at, content_at, kind_and_content_at, fields_at}
-use Rattle.dac_wire.specs.Spelling.{body_bytes, message_bytes, operation_bytes, content_bytes, preamble_bytes, packet_bytes}
-use Rattle.dac_wire.specs.declared.codes.PacketKind.{PacketKind}
-use Rattle.dac_wire.specs.declared.codes.PacketKind.TheVariants.{Whole, Interval, Nothing, Single}
-use Rattle.dac_wire.specs.declared.head.Head.{Head}
-use Rattle.dac_wire.specs.declared.packet.Packet.{Packet}
+use Rattle.dac_wire.specs.Codes.{kind_of_body}
+use Rattle.dac_wire.specs.Form.{is_whole, IsBodyInForm, IsMessage}
+use Rattle.dac_wire.specs.Reading.{message_of, head_and_state_at, content_at, kind_and_content_at}
+use Rattle.dac_wire.specs.Spelling.{body_bytes, message_bytes}
 use Rattle.dac_wire.specs.declared.packet.Packet.TheVariants as packet
-use Rattle.dac_wire.specs.declared.coding.TheConstants.{PREAMBLE}
-use Rattle.dac_wire.specs.declared.packet.TheConstants.{MAX_MESSAGE}
 use Rattle.dac_wire.specs.laws.ActLaws.{operation_codec}
 use Rattle.dac_wire.specs.laws.CodeLaws.{IsAny, packet_kind_bytes, packet_kind_codec}
 use Rattle.dac_wire.specs.laws.Fronts.{preamble_length, front_begins, front_long, front_is}
 use Rattle.dac_wire.specs.laws.HeadLaws.{head_bytes, IsHead, head_codec}
-use Rattle.dac_bytes.specs.declared.version.Version.{Version}
 
 abbrev head_in : Message → Head
 head_in m = record { from = m.from; to = m.to; only = m.only; up_to = m.up_to; ack = m.ack }

@@ -1,7 +1,5 @@
 use Rattle.std.proofs.Common.{[], ◌∷◌}
-use Rattle.dac_meaning.specs.Meaning.{meaning_of}
-use Rattle.dac_meaning.specs.Below.{is_below}
-use Rattle.dac_meaning.specs.laws.Below.{is_below-is}
+use Rattle.dac_node.proofs.Common.{meaning_of, is_below, is_below-is}
 use Rattle.dac_node.proofs.Tests.{same}
 use Rattle.dac_node.proofs.below.covers.Goals as goal
 

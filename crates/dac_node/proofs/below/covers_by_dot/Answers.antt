@@ -1,7 +1,6 @@
 use Rattle.std.proofs.Common.{◌≡◌, [], ◌∷◌, sym, ◌∙◌}
+use Rattle.dac_node.proofs.Common.{meaning_of, is_below}
 use Rattle.std.specs.FinSet as set
-use Rattle.dac_meaning.specs.Meaning.{meaning_of}
-use Rattle.dac_meaning.specs.Below.{is_below}
 use Rattle.dac_node.proofs.Tests.{same}
 use Rattle.dac_node.proofs.below.covers_by_dot.Goals as goal
 

@@ -1,5 +1,4 @@
-use Rattle.dac_meaning.specs.Below.{is_below}
-use Rattle.dac_meaning.specs.laws.Below.{is_below-is}
+use Rattle.dac_node.proofs.Common.{is_below, is_below-is}
 use Rattle.dac_node.proofs.Tests.{same}
 use Rattle.dac_node.proofs.below.is_below.Goals as goal
 

@@ -1,7 +1,7 @@
 use Rattle.std.proofs.Common.{subst}
+use Rattle.dac_node.proofs.Common.{is_below}
 use Rattle.std.specs.Prelude.{◌↔◌, IsTrue}
 use Rattle.dac_origins.specs.Dots.{Dots, IsSubset}
-use Rattle.dac_meaning.specs.Below.{is_below}
 use Rattle.dac_node.proofs.Tests.{same}
 use Rattle.dac_node.proofs.below.is_below_by_dots.Goals as goal
 

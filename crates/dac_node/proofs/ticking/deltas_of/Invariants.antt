@@ -1,5 +1,5 @@
 use Rattle.std.proofs.Common.{◌≡◌, take}
-use Rattle.dac_model_node.specs.Transitions.{meanings}
+use Rattle.dac_node.proofs.Common.{meanings}
 use Rattle.dac_node.proofs.ticking.deltas_of.Given as goal
 
 abbrev pub invariant-loop-operation : goal.invariant-loop-operation

@@ -1,14 +1,10 @@
 use Rattle.std.proofs.Common.{◌≡◌, true, sym, ap, ◌∙◌}
-use Rattle.std.specs.Prelude.{unwrap_or}
-use Rattle.std.proofs.lemmas.Bool.{ltb-false}
+use Rattle.dac_node.proofs.Common.{unwrap_or, ltb-false, none_is, meanings, Ticks, TickChange}
 use Rattle.dac_messages.specs.declared.reply.Reply.TheVariants.{Ticked}
 use Rattle.dac_model_node.specs.dac_ticks.Ticks.{sweep_of}
 use Rattle.dac_model_node.specs.dac_ticks.laws.Claims.{state_joined}
-use Rattle.dac_model_node.specs.dac_commands.laws.Written.{none_is}
 use Rattle.dac_model_node.specs.EventRefusals.{causes_to_tick}
-use Rattle.dac_model_node.specs.Transitions.{meanings, ticks_by}
-use Rattle.dac_node.specs.declared.change.After.TheVariants.{Ticks}
-use Rattle.dac_node.specs.declared.ticking.TickChange.{TickChange}
+use Rattle.dac_model_node.specs.Transitions.{ticks_by}
 use Rattle.dac_node.proofs.Ticks.{tick_effect, left_by}
 use Rattle.dac_node.proofs.ticking.open_tick.Goals.{in-Some, in-None}
 use Rattle.dac_node.proofs.ticking.open_tick.Goals as goal

@@ -7,12 +7,12 @@ returns-in-empty-clause-last c =
     let past : length c.args.text.now ≤ c.line_len.result = omega (arith, c.split_at.ensures.back_len, c.in-empty.len_below) in
     rw c.split_at.ensures.front (first_last c.args.text.now c.line_len.result c.line_len.ensures.length past)
 
-pub returns-in-len1-up-clause-whole : goal.returns-in-len1-up-clause-whole
-returns-in-len1-up-clause-whole c =
+pub returns-in-len1-up : goal.returns-in-len1-up
+returns-in-len1-up c =
     let within : c.line_len.result < length c.args.text.now = omega (arith, c.split_at.ensures.back_len, c.in-len1-up.len_at_least) in
-    rw (c.split_at.ensures.front, behind_of c.args.text.now c.split_at.result.1.now c.line_len.result c.split_at.ensures.back) (first_whole c.args.text.now c.line_len.result c.line_len.ensures.length within)
-
-pub returns-in-len1-up-clause-more : goal.returns-in-len1-up-clause-more
-returns-in-len1-up-clause-more c =
-    let within : c.line_len.result < length c.args.text.now = omega (arith, c.split_at.ensures.back_len, c.in-len1-up.len_at_least) in
-    rw (c.split_at.ensures.front, behind_of c.args.text.now c.split_at.result.1.now c.line_len.result c.split_at.ensures.back) (first_more c.args.text.now c.line_len.result c.line_len.ensures.length within)
+    let behind = behind_of c.args.text.now c.split_at.result.1.now c.line_len.result c.split_at.ensures.back in
+    record {
+      last = tt;
+      whole = rw (c.split_at.ensures.front, behind) (first_whole c.args.text.now c.line_len.result c.line_len.ensures.length within);
+      more = rw (c.split_at.ensures.front, behind) (first_more c.args.text.now c.line_len.result c.line_len.ensures.length within);
+    }

@@ -1,5 +1,5 @@
 use Rattle.std.proofs.Common.{refl}
-use Rattle.std.specs.Cmp.Lexicographic.{same_text, other_text}
+use Rattle.dac_script.specs.laws.Common.{same_text, other_text}
 use Rattle.dac_script.proofs.Parting.{front_more, parted_here, unparted}
 use Rattle.dac_script.proofs.input.split_input.Goals as goal
 

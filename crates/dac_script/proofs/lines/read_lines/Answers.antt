@@ -1,4 +1,4 @@
-use Rattle.std.proofs.lemmas.Result.{err_from_is_err_and}
+use Rattle.dac_script.specs.laws.Common.{err_from_is_err_and}
 use Rattle.dac_script.proofs.LineByLine.{script_fails}
 use Rattle.dac_script.proofs.lines.read_lines.Goals as goal
 

@@ -1,6 +1,5 @@
-use Rattle.std.proofs.Common.{length}
-use Rattle.std.specs.Prelude.{All}
-use Rattle.dac_config.specs.Table.{node_count}
+use Rattle.std.proofs.Common.{length, All}
+use Rattle.dac_script.specs.laws.Common.{node_count}
 use Rattle.dac_script.proofs.LineByLine.{IsReadTo}
 use Rattle.dac_script.proofs.lines.read_lines.Given as goal
 

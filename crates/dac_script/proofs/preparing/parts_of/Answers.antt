@@ -1,4 +1,4 @@
-use Rattle.std.proofs.lemmas.Result.{err_from_is_err_and}
+use Rattle.dac_script.specs.laws.Common.{err_from_is_err_and}
 use Rattle.dac_script.specs.laws.WholeInput.{config_fails, script_has}
 use Rattle.dac_script.proofs.preparing.parts_of.Goals as goal
 

@@ -1,5 +1,5 @@
-use Rattle.std.proofs.lemmas.Result.{err_from_is_err_and}
-use Rattle.dac_script.specs.Inputs.{SaysAll, IsInputFailure}
+use Rattle.dac_script.specs.laws.Common.{err_from_is_err_and, IsInputFailure}
+use Rattle.dac_script.specs.Inputs.{SaysAll}
 use Rattle.dac_script.specs.laws.WholeInput.{of_bytes, read_fails, parts_fail, left_by_parts}
 use Rattle.dac_script.proofs.preparing.prepare_lines.Goals as goal
 

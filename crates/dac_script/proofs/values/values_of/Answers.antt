@@ -1,5 +1,5 @@
 use Rattle.std.proofs.Common.{map, ◌∙◌}
-use Rattle.std.proofs.lemmas.List.{length-map}
+use Rattle.dac_script.specs.laws.Common.{length-map}
 use Rattle.dac_script.proofs.Told.{counted}
 use Rattle.dac_script.proofs.values.values_of.Goals as goal
 

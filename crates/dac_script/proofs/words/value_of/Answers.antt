@@ -1,5 +1,5 @@
 use Rattle.std.proofs.Common.{◌^◌, arith, ◌∙◌}
-use Rattle.dac_tokens.specs.Digits.{value_from}
+use Rattle.dac_script.specs.laws.Common.{value_from}
 use Rattle.dac_tokens.specs.laws.Digits.{not_less, is_done, too_large, small_enough}
 use Rattle.dac_script.proofs.words.value_of.Goals as goal
 

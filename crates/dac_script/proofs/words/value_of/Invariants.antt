@@ -1,5 +1,5 @@
 use Rattle.std.proofs.Common.{◌≡◌, ◌<◌, ◌^◌, drop}
-use Rattle.dac_tokens.specs.Digits.{value_from}
+use Rattle.dac_script.specs.laws.Common.{value_from}
 use Rattle.dac_script.proofs.words.value_of.Given as goal
 
 abbrev pub invariant-loop-digit : goal.invariant-loop-digit

@@ -1,5 +1,5 @@
 use Rattle.std.proofs.Common.{◌≡◌, ◌<◌, ◌≤◌, ℕ, Some, None, get_or}
-use Rattle.dac_base.specs.declared.limits.TheConstants.{MAX_NODES}
+use Rattle.dac_status.proofs.Common.{MAX_NODES}
 use Rattle.dac_status.proofs.apps.group_count.Given as goal
 
 abbrev pub invariant-loop-number : goal.invariant-loop-number

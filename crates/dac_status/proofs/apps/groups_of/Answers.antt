@@ -1,6 +1,5 @@
 use Rattle.std.proofs.Common.{None, set, ap, ◌∙◌, arith}
-use Rattle.dac_base.specs.declared.limits.TheConstants.{MAX_NODES}
-use Rattle.dac_config.specs.Table.{group_of}
+use Rattle.dac_status.proofs.Common.{MAX_NODES, group_of}
 use Rattle.dac_status.proofs.Places.{node_numbered, placed_none, placed_more}
 use Rattle.dac_status.proofs.apps.groups_of.Goals as goal
 

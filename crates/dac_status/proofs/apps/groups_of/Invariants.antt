@@ -1,8 +1,5 @@
 use Rattle.std.proofs.Common.{◌≡◌, None, map}
-use Rattle.std.specs.List.{range_with_len}
-use Rattle.dac_base.specs.declared.limits.TheConstants.{MAX_NODES}
-use Rattle.dac_config.specs.Table.{group_of}
-use Rattle.dac_status.specs.Summaries.{placed}
+use Rattle.dac_status.proofs.Common.{range_with_len, MAX_NODES, group_of, placed}
 use Rattle.dac_status.proofs.Places.{node_numbered}
 use Rattle.dac_status.proofs.apps.groups_of.Given as goal
 

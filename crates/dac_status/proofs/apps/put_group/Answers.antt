@@ -1,6 +1,5 @@
 use Rattle.std.proofs.Common.{◌<◌, ◌∙◌, length, ap, arith}
-use Rattle.dac_config.specs.Table.{node_count}
-use Rattle.dac_status.specs.Texts.{label_text}
+use Rattle.dac_status.proofs.Common.{node_count, label_text}
 use Rattle.dac_status.proofs.Places.{node_numbered, length_listed}
 use Rattle.dac_status.proofs.Groups.{members_begin, members_more}
 use Rattle.dac_status.proofs.apps.put_group.Goals as goal

@@ -1,6 +1,5 @@
 use Rattle.std.proofs.Common.{◌≡◌, ◌<◌, ◌≤◌, ◌-◌, ◌++◌, [], Some, None, get_or}
-use Rattle.dac_config.specs.Table.{node_count}
-use Rattle.dac_status.specs.Texts.{member_in}
+use Rattle.dac_status.proofs.Common.{node_count, member_in}
 use Rattle.dac_status.proofs.Places.{node_numbered}
 use Rattle.dac_status.proofs.Lines.{texts}
 use Rattle.dac_status.proofs.apps.put_group.Given as goal

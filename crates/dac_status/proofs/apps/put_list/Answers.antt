@@ -1,7 +1,5 @@
 use Rattle.std.proofs.Common.{◌≡◌, ◌++◌, ◌∙◌, ap, append_assoc, arith}
-use Rattle.std.specs.Prelude.{codes}
-use Rattle.dac_status.specs.Texts.{group_in, group_text, labels_of}
-use Rattle.dac_base.specs.declared.limits.TheConstants.{MAX_NODES}
+use Rattle.dac_status.proofs.Common.{codes, group_in, group_text, labels_of, MAX_NODES}
 use Rattle.dac_status.proofs.Lines.{put_more, texts}
 use Rattle.dac_status.proofs.Groups.{list_is}
 use Rattle.dac_status.proofs.apps.put_list.Goals as goal

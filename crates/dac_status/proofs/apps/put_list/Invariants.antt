@@ -1,6 +1,5 @@
 use Rattle.std.proofs.Common.{◌≡◌, ◌++◌}
-use Rattle.std.specs.Prelude.{codes}
-use Rattle.dac_status.specs.Texts.{group_in}
+use Rattle.dac_status.proofs.Common.{codes, group_in}
 use Rattle.dac_status.proofs.Lines.{texts}
 use Rattle.dac_status.proofs.apps.put_list.Given as goal
 

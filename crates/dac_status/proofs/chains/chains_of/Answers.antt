@@ -1,8 +1,6 @@
 use Rattle.std.proofs.Common.{sym, subst, arith}
+use Rattle.dac_status.proofs.Common.{MAX_NODES, node_count, IsNext}
 use Rattle.std.proofs.lemmas.List.{get_or-replicate}
-use Rattle.dac_base.specs.declared.limits.TheConstants.{MAX_NODES}
-use Rattle.dac_config.specs.Table.{node_count}
-use Rattle.dac_status.specs.Chains.{IsNext}
 use Rattle.dac_status.proofs.chains.chains_of.Goals as goal
 
 pub loop-number-init : goal.loop-number-init

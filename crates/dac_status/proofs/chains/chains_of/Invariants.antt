@@ -1,5 +1,5 @@
 use Rattle.std.proofs.Common.{◌≤◌}
-use Rattle.dac_config.specs.Table.{node_count}
+use Rattle.dac_status.proofs.Common.{node_count}
 use Rattle.dac_status.specs.Chains.{AreChains}
 use Rattle.dac_status.proofs.chains.chains_of.Given as goal
 

@@ -1,5 +1,5 @@
 use Rattle.std.proofs.Common.{None, false, true, get_or, sym, ◌∙◌, arith}
-use Rattle.dac_status.specs.declared.marks.Mark.TheVariants.{Down}
+use Rattle.dac_status.proofs.Common.{Down}
 use Rattle.dac_status.proofs.Running.{runner_is}
 use Rattle.dac_status.proofs.Staying.{life_placed, mark_placed}
 use Rattle.dac_status.proofs.kept.runner_by.Goals as goal

@@ -1,5 +1,5 @@
 use Rattle.std.proofs.Common.{◌≡◌, sym, ◌∙◌}
-use Rattle.dac_placement.specs.Placement.{standing_of}
+use Rattle.dac_status.proofs.Common.{standing_of}
 use Rattle.dac_placement.specs.laws.Judged.{judged_same}
 use Rattle.dac_status.proofs.Running.{rank_by_marks, rank_seen}
 use Rattle.dac_status.proofs.kept.verdict_seen.Goals as goal

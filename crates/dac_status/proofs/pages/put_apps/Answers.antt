@@ -1,5 +1,5 @@
 use Rattle.std.proofs.Common.{◌∙◌}
-use Rattle.dac_status.specs.Texts.{app_lines}
+use Rattle.dac_status.proofs.Common.{app_lines}
 use Rattle.dac_status.proofs.Places.{app_numbered}
 use Rattle.dac_status.proofs.Lines.{put_more}
 use Rattle.dac_status.proofs.pages.put_apps.Goals as goal

@@ -1,5 +1,5 @@
 use Rattle.std.proofs.Common.{◌≡◌, ◌++◌}
-use Rattle.dac_status.specs.Texts.{node_line}
+use Rattle.dac_status.proofs.Common.{node_line}
 use Rattle.dac_status.proofs.Places.{node_numbered}
 use Rattle.dac_status.proofs.Lines.{texts}
 use Rattle.dac_status.proofs.pages.put_nodes.Given as goal

@@ -1,6 +1,6 @@
 use Rattle.std.proofs.Common.{replicate, set, sym, ap, ◌∙◌, arith}
-use Rattle.dac_status.specs.Kept.{app_begun}
-use Rattle.dac_status.specs.Summaries.{drained_of, lives_of, no_app}
+use Rattle.dac_status.proofs.Common.{app_begun, lives_of, no_app}
+use Rattle.dac_status.specs.Summaries.{drained_of}
 use Rattle.dac_status.proofs.Places.{app_numbered, placed_none, placed_more}
 use Rattle.dac_status.proofs.summary.apps_begun.Goals as goal
 

@@ -1,8 +1,5 @@
 use Rattle.std.proofs.Common.{◌≡◌, map}
-use Rattle.std.specs.List.{range_with_len}
-use Rattle.dac_status.specs.Kept.{app_begun}
-use Rattle.dac_status.specs.Summaries.{placed, no_app}
-use Rattle.dac_status.specs.Walks.{IsBefore, first_key}
+use Rattle.dac_status.proofs.Common.{range_with_len, app_begun, placed, no_app, IsBefore, first_key}
 use Rattle.dac_status.proofs.Places.{app_numbered}
 use Rattle.dac_status.proofs.summary.apps_begun.Given as goal
 

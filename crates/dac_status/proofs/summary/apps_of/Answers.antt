@@ -1,11 +1,7 @@
 use Rattle.std.proofs.Common.{◌≡◌, ℕ, ◌+◌, ◌-◌, List, get_or, set, suc, ap, ◌∙◌, arith}
-use Rattle.dac_config.specs.Table.{Table, app_count}
-use Rattle.dac_meaning.specs.StateValue.{StateValue}
+use Rattle.dac_status.proofs.Common.{Table, app_count, StateValue, AppSummary, app_begun, no_app, app_summary}
 use Rattle.dac_placement.specs.declared.verdicts.Verdict.{Verdict}
 use Rattle.dac_placement.specs.Placement.{verdict_of}
-use Rattle.dac_status.specs.declared.summary.AppSummary.{AppSummary}
-use Rattle.dac_status.specs.Kept.{app_begun}
-use Rattle.dac_status.specs.Summaries.{no_app, app_summary}
 use Rattle.dac_status.proofs.Places.{app_numbered, staged, staged_none, staged_all, staged_at, staged_more}
 use Rattle.dac_status.proofs.summary.apps_of.Goals as goal
 

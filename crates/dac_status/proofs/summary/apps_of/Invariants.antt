@@ -1,7 +1,5 @@
 use Rattle.std.proofs.Common.{◌≡◌, ◌-◌}
-use Rattle.dac_config.specs.Table.{app_count}
-use Rattle.dac_status.specs.Kept.{app_begun}
-use Rattle.dac_status.specs.Summaries.{no_app, app_summary}
+use Rattle.dac_status.proofs.Common.{app_count, app_begun, no_app, app_summary}
 use Rattle.dac_status.proofs.Places.{app_numbered, staged}
 use Rattle.dac_status.proofs.summary.apps_of.Given as goal
 

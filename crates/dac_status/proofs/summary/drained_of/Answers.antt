@@ -1,6 +1,5 @@
 use Rattle.std.proofs.Common.{false, set, ap, ◌∙◌, arith}
-use Rattle.dac_base.specs.declared.limits.TheConstants.{MAX_NODES}
-use Rattle.dac_status.specs.Summaries.{drains_live}
+use Rattle.dac_status.proofs.Common.{MAX_NODES, drains_live}
 use Rattle.dac_status.proofs.Places.{node_numbered, placed_none, placed_more}
 use Rattle.dac_status.proofs.summary.drained_of.Goals as goal
 

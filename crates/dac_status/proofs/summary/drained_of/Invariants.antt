@@ -1,7 +1,5 @@
 use Rattle.std.proofs.Common.{◌≡◌, false, map}
-use Rattle.std.specs.List.{range_with_len}
-use Rattle.dac_base.specs.declared.limits.TheConstants.{MAX_NODES}
-use Rattle.dac_status.specs.Summaries.{placed, drains_live}
+use Rattle.dac_status.proofs.Common.{range_with_len, MAX_NODES, placed, drains_live}
 use Rattle.dac_status.proofs.Places.{node_numbered}
 use Rattle.dac_status.proofs.summary.drained_of.Given as goal
 

@@ -1,6 +1,6 @@
 use Rattle.std.proofs.Common.{None, set, ap, ◌∙◌, arith}
+use Rattle.dac_status.proofs.Common.{MAX_NODES}
 use Rattle.std.specs.FinMap as finmap
-use Rattle.dac_base.specs.declared.limits.TheConstants.{MAX_NODES}
 use Rattle.dac_status.proofs.Places.{node_numbered, placed_none, placed_more}
 use Rattle.dac_status.proofs.summary.lives_of.Goals as goal
 

@@ -1,8 +1,6 @@
 use Rattle.std.proofs.Common.{◌≡◌, None, map}
-use Rattle.std.specs.List.{range_with_len}
+use Rattle.dac_status.proofs.Common.{range_with_len, MAX_NODES, placed}
 use Rattle.std.specs.FinMap as finmap
-use Rattle.dac_base.specs.declared.limits.TheConstants.{MAX_NODES}
-use Rattle.dac_status.specs.Summaries.{placed}
 use Rattle.dac_status.proofs.Places.{node_numbered}
 use Rattle.dac_status.proofs.summary.lives_of.Given as goal
 

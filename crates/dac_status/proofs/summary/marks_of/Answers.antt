@@ -1,9 +1,7 @@
 use Rattle.std.proofs.Common.{false, None, get_or, set, refl, sym, ap, ◌∙◌, arith}
+use Rattle.dac_status.proofs.Common.{MAX_NODES, node_count, Down, drains_live, live_in, mark_at, mark_of}
 use Rattle.std.specs.FinMap as finmap
-use Rattle.dac_base.specs.declared.limits.TheConstants.{MAX_NODES}
-use Rattle.dac_config.specs.Table.{node_count}
-use Rattle.dac_status.specs.declared.marks.Mark.TheVariants.{Down}
-use Rattle.dac_status.specs.Summaries.{drains, drains_live, live_in, mark_at, mark_of}
+use Rattle.dac_status.specs.Summaries.{drains}
 use Rattle.dac_status.proofs.Passing.{before_next_app}
 use Rattle.dac_status.proofs.Places.{node_numbered, placed_at, placed_none, placed_more}
 use Rattle.dac_status.proofs.summary.marks_of.Goals as goal

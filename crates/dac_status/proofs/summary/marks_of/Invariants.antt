@@ -1,9 +1,5 @@
 use Rattle.std.proofs.Common.{◌≡◌, map}
-use Rattle.std.specs.List.{range_with_len}
-use Rattle.dac_base.specs.declared.limits.TheConstants.{MAX_NODES}
-use Rattle.dac_status.specs.declared.marks.Mark.TheVariants.{Down}
-use Rattle.dac_status.specs.Summaries.{placed, mark_of}
-use Rattle.dac_status.specs.Walks.{IsBefore, first_key}
+use Rattle.dac_status.proofs.Common.{range_with_len, MAX_NODES, Down, placed, mark_of, IsBefore, first_key}
 use Rattle.dac_status.proofs.Places.{node_numbered}
 use Rattle.dac_status.proofs.summary.marks_of.Given as goal
 

@@ -1,10 +1,5 @@
 use Rattle.std.proofs.Common.{List, None, get_or, set, ap, ◌∙◌, arith}
-use Rattle.dac_base.specs.declared.limits.TheConstants.{MAX_APPS}
-use Rattle.dac_config.specs.Table.{app_count}
-use Rattle.dac_placement.specs.Placement.{runner_of}
-use Rattle.dac_status.specs.declared.summary.AppSummary.{AppSummary}
-use Rattle.dac_status.specs.Kept.{app_begun}
-use Rattle.dac_status.specs.Summaries.{no_app}
+use Rattle.dac_status.proofs.Common.{MAX_APPS, app_count, runner_of, AppSummary, app_begun, no_app}
 use Rattle.dac_status.proofs.Places.{app_numbered, placed_any, placed_none, placed_more}
 use Rattle.dac_status.proofs.summary.runners_of.Goals as goal
 

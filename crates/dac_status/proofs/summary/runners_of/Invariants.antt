@@ -1,8 +1,5 @@
 use Rattle.std.proofs.Common.{◌≡◌, None, map}
-use Rattle.std.specs.List.{range_with_len}
-use Rattle.dac_base.specs.declared.limits.TheConstants.{MAX_APPS}
-use Rattle.dac_placement.specs.Placement.{runner_of}
-use Rattle.dac_status.specs.Summaries.{placed}
+use Rattle.dac_status.proofs.Common.{range_with_len, MAX_APPS, runner_of, placed}
 use Rattle.dac_status.proofs.Places.{app_numbered}
 use Rattle.dac_status.proofs.summary.runners_of.Given as goal
 

@@ -1,8 +1,6 @@
 use Rattle.std.proofs.Common.{◌≡◌, sym, subst, ◌∙◌}
-use Rattle.dac_wire.specs.Decoding.{packet_at, packet_in}
-use Rattle.dac_wire.specs.Faults.{Gives}
-use Rattle.dac_wire.specs.Form.{IsPacket}
-use Rattle.dac_wire.specs.Spelling.{packet_bytes}
+use Rattle.dac_wire.specs.laws.Common.{packet_in, Gives, IsPacket, packet_bytes}
+use Rattle.dac_wire.specs.Decoding.{packet_at}
 use Rattle.dac_wire.proofs.Giving.{found_in, version_spelled}
 use Rattle.dac_wire.proofs.coding.decode.Goals as goal
 

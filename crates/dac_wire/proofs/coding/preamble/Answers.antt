@@ -1,6 +1,5 @@
 use Rattle.std.proofs.Common.{refl}
-use Rattle.dac_bytes.specs.Numbers.{u64_bytes}
-use Rattle.dac_wire.specs.Spelling.{preamble_bytes}
+use Rattle.dac_wire.specs.laws.Common.{u64_bytes, preamble_bytes}
 use Rattle.dac_wire.proofs.coding.preamble.Goals as goal
 
 pub returns : goal.returns

@@ -1,7 +1,6 @@
 use Rattle.std.proofs.Common.{Some, None, sym}
+use Rattle.dac_wire.specs.laws.Common.{Dot, dot_above_at, items_at}
 use Rattle.std.proofs.lemmas.Result.{err_from_is_err_and}
-use Rattle.dac_origins.specs.declared.dot.Dot.{Dot}
-use Rattle.dac_bytes.specs.Reading.{dot_above_at, items_at}
 use Rattle.dac_bytes.specs.laws.Items.{Fails-from, ends, goes_on, is_done}
 use Rattle.dac_wire.proofs.reading_operations.read_dots.Goals as goal
 

@@ -1,7 +1,6 @@
 use Rattle.std.proofs.Common.{◌≡◌, ◌-◌, Some, None}
-use Rattle.dac_bytes.specs.Reading.{items_at, dot_above_at}
+use Rattle.dac_wire.specs.laws.Common.{items_at, dot_above_at, Dot}
 use Rattle.dac_bytes.specs.Items.{with_front}
-use Rattle.dac_origins.specs.declared.dot.Dot.{Dot}
 use Rattle.dac_wire.proofs.reading_operations.read_dots.Given as goal
 
 -- the dots read so far with those of the rest make the whole

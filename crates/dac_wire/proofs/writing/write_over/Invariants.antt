@@ -1,7 +1,6 @@
 use Rattle.std.proofs.Common.{◌≡◌, ◌++◌, take}
+use Rattle.dac_wire.specs.laws.Common.{dot_bytes, Two}
 use Rattle.std.specs.List.{flat_map}
-use Rattle.dac_bytes.specs.Spelling.{dot_bytes}
-use Rattle.dac_bytes.specs.declared.version.Version.TheVariants.{Two}
 use Rattle.dac_wire.proofs.writing.write_over.Given as goal
 
 abbrev pub invariant-loop-dot : goal.invariant-loop-dot

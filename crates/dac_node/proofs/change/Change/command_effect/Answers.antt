@@ -1,12 +1,9 @@
 use Rattle.std.proofs.Common.{Some, [], ◌∷◌, refl, ap, ◌∙◌}
-use Rattle.dac_operations.specs.Operations.{Operation}
-use Rattle.dac_meaning.specs.Meaning.{meaning_of}
+use Rattle.dac_node.proofs.Common.{Operation, meaning_of, Notes, noting}
 use Rattle.dac_messages.specs.declared.event.Event.TheVariants.{Command as Commanded}
 use Rattle.dac_messages.specs.declared.reply.Reply.TheVariants.{Issued}
 use Rattle.dac_model_node.specs.dac_commands.Commands.{next_operation, act_of}
 use Rattle.dac_model_node.specs.laws.Numbers.{obeyed}
-use Rattle.dac_node.specs.declared.change.After.TheVariants.{Notes}
-use Rattle.dac_node.specs.After.{noting}
 use Rattle.dac_node.proofs.Effects.{noting_effect}
 use Rattle.dac_node.proofs.change.Change.command_effect.Goals as goal
 

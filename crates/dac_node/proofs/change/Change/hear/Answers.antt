@@ -1,6 +1,5 @@
 use Rattle.std.proofs.Common.{not, ◌∙◌}
-use Rattle.dac_messages.specs.declared.reply.Reply.TheVariants.{Heard}
-use Rattle.dac_node.specs.declared.change.After.TheVariants.{Notes}
+use Rattle.dac_node.proofs.Common.{Heard, Notes}
 use Rattle.dac_node.proofs.Effects.{message_effect}
 use Rattle.dac_node.proofs.change.Change.hear.Goals as goal
 

@@ -1,11 +1,5 @@
 use Rattle.std.proofs.Common.{not, [], ◌∷◌, refl, ◌∙◌}
-use Rattle.dac_meaning.specs.Meaning.{meaning_of}
-use Rattle.dac_meaning.specs.Below.{is_below}
-use Rattle.dac_messages.specs.declared.event.Event.TheVariants.{HearOp}
-use Rattle.dac_messages.specs.declared.reply.Reply.TheVariants.{Heard}
-use Rattle.dac_model_node.specs.Transitions.{brings}
-use Rattle.dac_node.specs.declared.change.After.TheVariants.{Notes}
-use Rattle.dac_node.specs.After.{news}
+use Rattle.dac_node.proofs.Common.{meaning_of, is_below, HearOp, Heard, brings, Notes, news}
 use Rattle.dac_node.proofs.Effects.{noting_effect, brought}
 use Rattle.dac_node.proofs.change.Change.hear_op.Goals as goal
 

@@ -1,9 +1,9 @@
 use Rattle.std.proofs.Common.{None, [], refl, ◌∙◌}
+use Rattle.dac_node.proofs.Common.{Notes}
 use Rattle.dac_messages.specs.declared.event.Event.TheVariants.{Ship}
 use Rattle.dac_messages.specs.declared.reply.Reply.TheVariants.{Shipped}
 use Rattle.dac_peers.specs.Peers.{shipped_to}
 use Rattle.dac_model_node.specs.Transitions.{message_of}
-use Rattle.dac_node.specs.declared.change.After.TheVariants.{Notes}
 use Rattle.dac_node.proofs.Effects.{noting_effect}
 use Rattle.dac_node.proofs.change.Change.ship.Goals as goal
 

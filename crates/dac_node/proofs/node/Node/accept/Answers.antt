@@ -1,7 +1,6 @@
 use Rattle.std.proofs.Common.{◌≡◌, None, sym, subst}
-use Rattle.dac_model_node.specs.NodeValue.{NodeValue}
-use Rattle.dac_model_node.specs.EventRefusals.{refusal_by, refusal_of}
-use Rattle.dac_node.specs.Changes.{Fits, Prepared}
+use Rattle.dac_node.proofs.Common.{NodeValue, refusal_by, Fits, Prepared}
+use Rattle.dac_model_node.specs.EventRefusals.{refusal_of}
 use Rattle.dac_node.proofs.Effects.{effect_prepared, effect_fits}
 use Rattle.dac_node.proofs.node.Node.accept.Goals as goal
 

@@ -1,11 +1,6 @@
 use Rattle.std.proofs.Common.{Option, sym, subst}
-use Rattle.std.specs.Prelude.{IfSome}
-use Rattle.std.specs.Option.{option_map}
-use Rattle.dac_messages.specs.Bodies.{content_of}
-use Rattle.dac_messages.specs.declared.event.Event.TheVariants.{Hear}
-use Rattle.dac_model_node.specs.NodeValue.{NodeValue, RunningValue, state_of}
+use Rattle.dac_node.proofs.Common.{IfSome, option_map, content_of, Hear, NodeValue, RunningValue, state_of, Fits, Prepared}
 use Rattle.dac_node.specs.ByDots.{IsBelowByDots}
-use Rattle.dac_node.specs.Changes.{Fits, Prepared}
 use Rattle.dac_node.proofs.Effects.{effect_prepared, effect_fits}
 use Rattle.dac_node.proofs.node.Node.prepare_hear_by_dots.Goals as goal
 

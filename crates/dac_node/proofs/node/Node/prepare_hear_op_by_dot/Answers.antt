@@ -1,10 +1,6 @@
 use Rattle.std.proofs.Common.{Option, sym, subst}
-use Rattle.std.specs.Prelude.{IfSome}
-use Rattle.std.specs.Option.{option_map}
-use Rattle.dac_messages.specs.declared.event.Event.TheVariants.{HearOp}
-use Rattle.dac_model_node.specs.NodeValue.{NodeValue, RunningValue, state_of}
+use Rattle.dac_node.proofs.Common.{IfSome, option_map, HearOp, NodeValue, RunningValue, state_of, Fits, Prepared}
 use Rattle.dac_node.specs.ByDots.{IsBelowByDot}
-use Rattle.dac_node.specs.Changes.{Fits, Prepared}
 use Rattle.dac_node.proofs.Effects.{effect_prepared, hear_op_fits}
 use Rattle.dac_node.proofs.node.Node.prepare_hear_op_by_dot.Goals as goal
 

@@ -1,9 +1,7 @@
 use Rattle.std.proofs.Common.{Ok, Err, sym, ap, subst, ◌∙◌}
-use Rattle.std.specs.Prelude.{unwrap_or}
+use Rattle.dac_node.proofs.Common.{unwrap_or, Reply, NodeValue}
 use Rattle.std.proofs.lemmas.Result.{err_from_is_err_and}
-use Rattle.dac_messages.specs.declared.reply.Reply.{Reply}
 use Rattle.dac_events.specs.declared.refusal.Refusal.TheVariants.{NoMemory}
-use Rattle.dac_model_node.specs.NodeValue.{NodeValue}
 use Rattle.dac_model_node.specs.Step.{Steps, IsShown}
 use Rattle.dac_model_node.specs.Hearing.{HearsExactly}
 use Rattle.dac_model_node.specs.Writing.{Writes}

@@ -1,6 +1,5 @@
 use Rattle.std.proofs.Common.{sym, ap, subst, ◌∙◌, true≢false}
-use Rattle.std.specs.Arc.{arc_value}
-use Rattle.dac_model_node.specs.dac_commands.Commands.{KnowsOwnBoot}
+use Rattle.dac_node.proofs.Common.{arc_value, KnowsOwnBoot}
 use Rattle.dac_node.proofs.Knows.{knows-join}
 use Rattle.dac_node.proofs.running.Running.gain.Goals as goal
 

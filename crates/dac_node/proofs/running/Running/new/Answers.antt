@@ -1,10 +1,5 @@
 use Rattle.std.proofs.Common.{◌≡◌, [], ◌∷◌, sym, ap, subst, ◌∙◌, arith}
-use Rattle.std.specs.Arc.{arc_value}
-use Rattle.dac_operations.specs.Operations.{Operation}
-use Rattle.dac_meaning.specs.StateValue.{join, bottom}
-use Rattle.dac_meaning.specs.Meaning.{meaning_of}
-use Rattle.dac_model_node.specs.dac_commands.Commands.{KnowsOwnBoot}
-use Rattle.dac_model_node.specs.Step.{up}
+use Rattle.dac_node.proofs.Common.{arc_value, Operation, join, bottom, meaning_of, KnowsOwnBoot, up}
 use Rattle.dac_node.proofs.Knows.{knows-boot}
 use Rattle.dac_node.proofs.running.Running.new.Goals as goal
 

@@ -1,11 +1,7 @@
 use Rattle.std.proofs.Common.{◌≡◌, ◌≤◌, ℕ, true, [], sym, ap, subst, ◌∙◌, arith, true≢false}
-use Rattle.std.specs.Prelude.{fold, MatchOption}
-use Rattle.std.specs.Arc.{arc_value}
-use Rattle.dac_meaning.specs.StateValue.{join}
-use Rattle.dac_model_node.specs.dac_commands.Commands.{KnowsOwnBoot}
-use Rattle.dac_model_node.specs.NodeValue.{RunningValue, IsSound}
+use Rattle.dac_node.proofs.Common.{fold, MatchOption, arc_value, join, KnowsOwnBoot, RunningValue, IsTickAt}
+use Rattle.dac_model_node.specs.NodeValue.{IsSound}
 use Rattle.dac_node.specs.declared.running.Running.TheInside.{Inside}
-use Rattle.dac_node.specs.After.{IsTickAt}
 use Rattle.dac_node.proofs.Knows.{knows-grown}
 use Rattle.dac_node.proofs.running.Running.tick.Goals.{in-Some+in_ok-state+in_ok-push_all, in_default, in-Some-waits, in_default-waits}
 use Rattle.dac_node.proofs.running.Running.tick.Goals as goal

@@ -1,6 +1,5 @@
 use Rattle.std.proofs.Common.{◌∙◌, [], ◌∷◌, ◌++◌, map, sym, ap, ap₂}
-use Rattle.std.proofs.lemmas.List.{map-append}
-use Rattle.dac_status.specs.Texts.{label_text}
+use Rattle.dac_status.proofs.Common.{map-append, label_text}
 use Rattle.dac_status.proofs.Places.{node_numbered, listed_more}
 use Rattle.dac_status.proofs.labels.Labels.of.Goals as goal
 

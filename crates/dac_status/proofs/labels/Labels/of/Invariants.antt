@@ -1,6 +1,5 @@
 use Rattle.std.proofs.Common.{◌≡◌, map}
-use Rattle.std.specs.List.{range_with_len}
-use Rattle.dac_status.specs.Texts.{label_text}
+use Rattle.dac_status.proofs.Common.{range_with_len, label_text}
 use Rattle.dac_status.proofs.Places.{node_numbered}
 use Rattle.dac_status.proofs.labels.Labels.of.Given as goal
 

@@ -1,7 +1,5 @@
 use Rattle.std.proofs.Common.{Some, None, ◌∙◌, ap}
-use Rattle.dac_wishes.specs.PermissionsValue.{is_permitted_by}
-use Rattle.dac_placement.specs.Placement.{is_permitted_at}
-use Rattle.dac_status.specs.Walks.{WalkValue}
+use Rattle.dac_status.proofs.Common.{is_permitted_by, is_permitted_at, WalkValue}
 use Rattle.dac_status.proofs.Passing.{before_inside, before_passed, permitted_left}
 use Rattle.dac_status.proofs.walk.Walk.is_permitted.Goals as goal
 use Rattle.dac_status.proofs.walk.Walk.is_permitted.Goals.{in-Some, in-None}

@@ -1,6 +1,5 @@
 use Rattle.std.proofs.Common.{◌∙◌, ap, is_some}
-use Rattle.dac_placement.specs.Placement.{is_started_at}
-use Rattle.dac_status.specs.Walks.{WalkValue}
+use Rattle.dac_status.proofs.Common.{is_started_at, WalkValue}
 use Rattle.dac_status.proofs.Passing.{before_inside, is_some-copied, started_left}
 use Rattle.dac_status.proofs.walk.Walk.is_started.Goals as goal
 

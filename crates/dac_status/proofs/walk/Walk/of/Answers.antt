@@ -1,8 +1,6 @@
 use Rattle.std.proofs.Common.{subst, sym}
+use Rattle.dac_status.proofs.Common.{key_cmp, are_permits, are_starts}
 use Rattle.dac_lattice.specs.Search.{IsInOrder}
-use Rattle.dac_wishes.specs.Keys.{key_cmp}
-use Rattle.dac_wishes.specs.laws.PermitsByKey.{are_permits}
-use Rattle.dac_wishes.specs.laws.StartsByKey.{are_starts}
 use Rattle.dac_status.proofs.walk.Walk.of.Goals as goal
 
 pub invariant_of-result : goal.invariant_of-result

@@ -1,9 +1,0 @@
--- Reading an input piece by piece.
-use Rattle.std.proofs.Common.{ℕ, ◌+◌, ◌≤◌, List, ◌++◌, length, Option, Result, arith, length-append}
-use Rattle.std.specs.Io.KnownBytes.{Consumes}
-use Rattle.std.proofs.KnownBytes.{Consumes-trans}
-use Rattle.dac_script.specs.Input.{Takes, TakesAtMost}
-
--- the number of bytes read stays bounded, also by a failed read
-pub takes_few : {T E : Type 0} (a b c : Option (List ℕ)) (room most : ℕ) (old new : List ℕ) (r : Result T E) → Consumes a b old → Takes b c room old new r → length old + room ≤ most → TakesAtMost a c most
-takes_few a b c room most old new r had t fits = record { bytes = old ++ t.bytes; taken = Consumes-trans a b c old t.bytes had t.taken; few = omega (arith, length-append old t.bytes, t.few, fits) }
