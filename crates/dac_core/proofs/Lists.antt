@@ -1,6 +1,6 @@
 -- A list with one item replaced.
 use Rattle.std.proofs.Common.{◌≡◌, ℕ, zero, suc, ◌<◌, Bool, true, false, cond, List, [], ◌∷◌, Some, length, nat_eq, refl, sym, ap, ◌∙◌, arith, eq-eqb}
-use Rattle.std.specs.List.{slice_get}
+use Rattle.dac_core.proofs.Common.{slice_get}
 use Rattle.std.proofs.lemmas.Bool.{false_from_ne_true}
 use Rattle.std.proofs.Math.ListN.{set}
 use Rattle.std.proofs.lemmas.Map.Views.{exact_unsigned_eq}

@@ -1,33 +1,23 @@
 -- A node can apply the changes that it prepared.
 use Rattle.std.proofs.Common.{◌≡◌, ◌∙◌, ◌<◌, ℕ, List, Option, Some, None, Result, Ok, Err, length, refl, sym, ap, subst}
+use Rattle.dac_core.proofs.Common.{slice_get, Table, Operation, WorldEvent, What, WorldFault, Refused, Message, Reply, WorldValue, event_of, counted, IsMade, HappensAt, changed, follows_in, IsPreparedAt}
 use Rattle.std.specs.Prelude.{IfOk, IfErr, IfSome, OnOk, OnErr}
-use Rattle.std.specs.List.{slice_get}
 use Rattle.dac_base.specs.declared.NodeId.{NodeId}
-use Rattle.dac_config.specs.Table.{Table}
-use Rattle.dac_operations.specs.Operations.{Operation}
-use Rattle.dac_events.specs.declared.WorldEvent.{WorldEvent}
-use Rattle.dac_events.specs.declared.What.{What}
 use Rattle.dac_events.specs.declared.refusal.Refusal.TheVariants.{NoMemory}
-use Rattle.dac_events.specs.declared.world_fault.WorldFault.{WorldFault}
-use Rattle.dac_events.specs.declared.world_fault.WorldFault.TheVariants.{Refused}
 use Rattle.dac_messages.specs.declared.event.Event.{Event}
-use Rattle.dac_messages.specs.declared.message.Message.{Message}
 use Rattle.dac_messages.specs.Bodies.{content_of}
-use Rattle.dac_messages.specs.declared.reply.Reply.{Reply}
 use Rattle.dac_messages.specs.declared.reply.Reply.TheVariants.{Crashed}
 use Rattle.dac_settle.specs.dac_model_world.NodeValue.{NodeValue, state_of}
-use Rattle.dac_settle.specs.dac_model_world.WorldValue.{WorldValue}
-use Rattle.dac_settle.specs.dac_model_world.ModelWorld.{event_of, counted, out_of_memory}
-use Rattle.dac_settle.specs.dac_model_world.Made.{IsMade, HeardDotsAreOrder, OneDotIsOrder}
+use Rattle.dac_settle.specs.dac_model_world.ModelWorld.{out_of_memory}
+use Rattle.dac_settle.specs.dac_model_world.Made.{HeardDotsAreOrder, OneDotIsOrder}
 use Rattle.dac_settle.specs.dac_model_world.WorldChanges.{Goes}
-use Rattle.dac_settle.specs.dac_model_world.AtNode.{HappensAt}
 use Rattle.dac_settle.specs.dac_model_world.laws.Options.{some_same}
 use Rattle.dac_node.specs.ByDots.{IsBelowByDots, IsBelowByDot}
-use Rattle.dac_node.specs.Changes.{ChangeValue, Fits, Prepared, changed}
+use Rattle.dac_node.specs.Changes.{ChangeValue, Fits, Prepared}
 use Rattle.dac_settle.specs.dac_model_world.laws.Sound.{counted_in}
 use Rattle.dac_settle.specs.dac_model_world.laws.Made.{goes_made, states_mean, bodies_mean}
-use Rattle.dac_settle.specs.dac_model_world.laws.Follow.{Here, crash_goes_off, follows_in, happens_gone}
-use Rattle.dac_core.specs.Ready.{IsReady, IsReadyAt, IsPreparedAt}
+use Rattle.dac_settle.specs.dac_model_world.laws.Follow.{Here, crash_goes_off, happens_gone}
+use Rattle.dac_core.specs.Ready.{IsReady, IsReadyAt}
 use Rattle.dac_core.specs.Passing.{Passes}
 
 -- a weaker property holds of the value, if any

@@ -1,16 +1,14 @@
 -- A caller's lines agree with its calls before and after them.
 use Rattle.std.proofs.Common.{◌≡◌, ℕ, zero, suc, ◌+◌, ◌<◌, List, [], ◌∷◌, ◌++◌, length, take, drop, get_or, Option, Some, None, refl, sym, ap, ◌∙◌, subst, arith, add-zero, add_assoc}
-use Rattle.dac_live.proofs.Common.{Page, Record, LineAnswer, found, calls_of, found_more, receipt_after, Follows}
-use Rattle.std.specs.Prelude.{option_to_list}
-use Rattle.std.proofs.lemmas.List.{take_more, length-take-le}
+use Rattle.dac_live.proofs.Common.{option_to_list, take_more, length-take-le, Page, Record, LineAnswer, found, calls_of, found_more, receipt_after, FollowsReceipts, spans_from, Follows}
 use Rattle.dac_sites.specs.Call.{Call}
 use Rattle.dac_crews.specs.Compared.{before}
 use Rattle.dac_crews.specs.Journals.{call_of}
 use Rattle.dac_live.specs.Lines.{answer_in}
 use Rattle.dac_sites.specs.laws.Calls.{calls_of-mine, calls_of-other}
 use Rattle.dac_workers.specs.laws.Found.{listed}
-use Rattle.dac_live.specs.Reads.{receipt_by, next_place, asked_in, FollowsReceipts}
-use Rattle.dac_live.specs.Following.{spans_from, IsToldIn}
+use Rattle.dac_live.specs.Reads.{receipt_by, next_place, asked_in}
+use Rattle.dac_live.specs.Following.{IsToldIn}
 
 -- ---- spans
 -- the spans before these calls

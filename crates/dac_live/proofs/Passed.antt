@@ -1,12 +1,10 @@
 -- The pages that a replay has passed.
 use Rattle.std.proofs.Common.{◌≡◌, inl, inr, ℕ, ◌≤◌, List, length, take, get_or, map, All, Bor, sym, ap, ◌∙◌, subst}
-use Rattle.dac_live.proofs.Common.{AllWithin, Page, Record, NodeValue, IsPageOf}
+use Rattle.dac_live.proofs.Common.{AllWithin, length-take-le, Page, Record, NodeValue, IsPageOf, page_there}
 use Rattle.std.proofs.lemmas.Bool.{cases_lt}
-use Rattle.std.proofs.lemmas.List.{length-take-le}
 use Rattle.std.proofs.lemmas.List.Elements.{All-map, All-from_all_within}
 use Rattle.dac_crews.specs.Journals.{Beginning, EndsAt}
 use Rattle.dac_crews.specs.Paged.{page_of, page_after}
-use Rattle.dac_sites.specs.laws.Pages.{page_there}
 
 -- the page of a node after i records is the page after them
 page_here : (o : Beginning) (rs : List Record) (i : ℕ) (v : NodeValue) (p : Page) → i ≤ length rs → EndsAt o (take i rs) v → p ≡ page_of o.table i v → IsPageOf o rs p

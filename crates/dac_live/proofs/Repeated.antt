@@ -1,14 +1,12 @@
 -- The node repeats the next record of a journal.
 use Rattle.std.proofs.Common.{◌≡◌, ◌≢◌, Result, Ok, Err, IfOk, IfErr, ℕ, ◌+◌, ◌<◌, List, [], ◌∷◌, ◌++◌, length, take, get_or, refl, sym, ap, subst, ◌∙◌}
-use Rattle.dac_live.proofs.Common.{Reply, Refusal, NodeValue, Record}
-use Rattle.std.proofs.lemmas.List.{take_more}
+use Rattle.dac_live.proofs.Common.{take_more, Reply, Refusal, NodeValue, Steps, Record}
 use Rattle.dac_base.specs.declared.NodeId.{NodeId}
 use Rattle.dac_config.specs.Table.{Table}
 use Rattle.dac_messages.specs.declared.event.Event.{Event}
 use Rattle.dac_events.specs.declared.refusal.Refusal.TheVariants.{NoMemory}
 use Rattle.dac_journal.specs.NodeValue.{off}
 use Rattle.dac_journal.specs.Histories.{off_after}
-use Rattle.dac_journal.specs.Step.{Steps}
 use Rattle.dac_journal.specs.laws.Going.{goes_on}
 use Rattle.dac_journal.specs.Journals.{Beginning, EndsAt}
 

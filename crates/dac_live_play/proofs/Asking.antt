@@ -1,12 +1,10 @@
 -- The callers' lines of one more line, and of one more phase.
 use Rattle.std.proofs.Common.{◌≡◌, ℕ, ◌+◌, ◌<◌, List, [], ◌∷◌, ◌++◌, length, map, take, get_or, Option, sym, ap, ◌∙◌, arith}
+use Rattle.dac_live_play.proofs.Common.{take_more, length-map, get_or-map, LiveLine, Line, lines_in, AsksAs}
 use Rattle.std.specs.List.{cons_option}
-use Rattle.std.proofs.lemmas.List.{take_more, length-map, get_or-map}
 use Rattle.std.proofs.lemmas.List.Elements.{filter_map-append}
-use Rattle.dac_script.specs.declared.live_line.LiveLine.{LiveLine}
-use Rattle.dac_live.specs.Line.{Line}
 use Rattle.dac_live.specs.Phase.{Phase}
-use Rattle.dac_live_play.specs.Phases.{asked_by, lines_in, AsksAs}
+use Rattle.dac_live_play.specs.Phases.{asked_by}
 
 pub asked_more : (part : List LiveLine) (i : ℕ) (line : LiveLine) (asked : Option Line) → i < length part → line ≡ get_or part i line → asked ≡ asked_by line → lines_in (take (i + 1) part) ≡ lines_in (take i part) ++ cons_option asked []
 asked_more part i line asked lt here is =

@@ -1,20 +1,15 @@
 -- The endings of `distac live` and `distac record`, from the input, the run and the output.
 use Rattle.std.proofs.Common.{◌≡◌, inr, ℕ, List, Option, Some, None, sym, subst}
+use Rattle.dac_live_play.proofs.Common.{Table, WorldEvent, LiveLine, Failure, PlayFault, IsFaultOf}
 use Rattle.std.specs.Prelude.{IfSome}
 use Rattle.std.specs.Io.KnownBytes.{Appends}
-use Rattle.dac_config.specs.Table.{Table}
-use Rattle.dac_events.specs.declared.WorldEvent.{WorldEvent}
-use Rattle.dac_script.specs.declared.live_line.LiveLine.{LiveLine}
 use Rattle.dac_script.specs.LiveInputs.{SaysLiveScript, IsLiveFailureOf}
 use Rattle.dac_play.specs.Texts.{failure_text}
-use Rattle.dac_script.specs.declared.failure.Failure.{Failure}
 use Rattle.dac_script.specs.declared.source.Progress.TheVariants.{Ended}
 use Rattle.dac_script.specs.Sources.{Sourced, IsLeftBy}
-use Rattle.dac_live_play.specs.declared.fault.PlayFault.{PlayFault}
 use Rattle.dac_live_play.specs.declared.ending.LiveEnding.{LiveEnding}
 use Rattle.dac_live_play.specs.declared.ending.LiveEnding.TheVariants as ending
 use Rattle.dac_live_play.specs.Endings.{fault_text, IsRefusal, IsGivenUp, IsLeftAt}
-use Rattle.dac_live_play.specs.Runs.{IsFaultOf}
 use Rattle.dac_live_play.specs.Faults.{IsRecordFault}
 use Rattle.dac_live_play.specs.Lives.{IsPlayed, IsRunOf, EndsLive}
 use Rattle.dac_live_play.specs.Records.{IsKept, IsUnkept, EndsRecord}

@@ -1,3 +1,4 @@
+mod Common
 mod Asking
 mod Ends
 mod Lines

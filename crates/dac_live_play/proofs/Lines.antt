@@ -1,8 +1,7 @@
 -- Concatenated texts of nodes.
 use Rattle.std.proofs.Common.{◌≡◌, ℕ, ◌+◌, List, [], ◌∷◌, ◌++◌, map, sym, ap, ◌∙◌, arith, append_assoc, append-nil}
-use Rattle.std.specs.List.{flat_map, range_with_len}
+use Rattle.dac_live_play.proofs.Common.{flat_map, range_with_len, map-range_with_len_more}
 use Rattle.std.proofs.lemmas.Grind.{flat_map-append}
-use Rattle.std.proofs.lemmas.List.FromFn.{map-range_with_len_more}
 use Rattle.dac_base.specs.declared.NodeId.{NodeId}
 
 abbrev pub numbered : ℕ → NodeId

@@ -1,16 +1,12 @@
 -- The callers' lines of a script, in each phase.
 use Rattle.std.proofs.Common.{ℕ, List, [], ◌∷◌, map, subst, arith}
-use Rattle.std.specs.Prelude.{All}
+use Rattle.dac_live_play.proofs.Common.{All, length-map, get_or-map, All-head, All-tail, LiveLine, Line, parts_of, lines_in, AsksAs}
 use Rattle.std.specs.List.{onto_first}
-use Rattle.std.proofs.lemmas.List.{length-map, get_or-map}
-use Rattle.std.proofs.lemmas.List.Elements.{All-nil, All-cons, All-head, All-tail, All-same, All-map}
-use Rattle.dac_script.specs.declared.live_line.LiveLine.{LiveLine}
+use Rattle.std.proofs.lemmas.List.Elements.{All-nil, All-cons, All-same, All-map}
 use Rattle.dac_script.specs.declared.live_line.LiveLine.TheVariants.{Do, Read, Feed, Phase}
 use Rattle.dac_script.specs.LiveCallers.{HasActors}
 use Rattle.dac_live.specs.Lines.{IsLineOf, HasLines}
-use Rattle.dac_live.specs.Line.{Line}
 use Rattle.dac_live.specs.Phase as run
-use Rattle.dac_live_play.specs.Phases.{parts_of, lines_in, AsksAs}
 
 module _ (nodes : ℕ) where
   -- each caller's line of a part has a configured node and a caller from 1 to 4

@@ -1,17 +1,13 @@
 -- From the results of the run and the weave to the result of the script.
 use Rattle.std.proofs.Common.{◌≡◌, List, Ok, Err, true≢false, Bor, map, sym, ap, subst, ◌∙◌}
+use Rattle.dac_live_play.proofs.Common.{Table, LiveLine, IsTrueFault, PlayFault, parts_of, lines_in, AsksAs, IsReportOf, IsFaultOf}
 use Rattle.std.specs.Result.{is_ok}
-use Rattle.dac_config.specs.Table.{Table}
-use Rattle.dac_script.specs.declared.live_line.LiveLine.{LiveLine}
 use Rattle.dac_live.specs.Phase.{Phase}
 use Rattle.dac_live.specs.declared.report.LiveReport.{LiveReport}
-use Rattle.dac_weave.specs.Faults.{IsTrueFault, IsRefusal}
+use Rattle.dac_weave.specs.Faults.{IsRefusal}
 use Rattle.dac_weave.specs.declared.fault.WeaveFault.{WeaveFault}
 use Rattle.dac_weave.specs.declared.fault.WeaveFault.TheVariants as weave
-use Rattle.dac_live_play.specs.declared.fault.PlayFault.{PlayFault}
 use Rattle.dac_live_play.specs.Faults.{unwoven_fault_of}
-use Rattle.dac_live_play.specs.Phases.{parts_of, lines_in, AsksAs}
-use Rattle.dac_live_play.specs.Runs.{IsReportOf, IsFaultOf}
 
 -- Ok isn't an error
 pub no_error : {T E : Type 0} (x : T) (e : E) → Ok x ≡ Err e → ⊥

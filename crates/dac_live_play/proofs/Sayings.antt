@@ -1,24 +1,17 @@
 -- Which texts say a run.
 use Rattle.std.proofs.Common.{◌≡◌, ◌≢◌, ◌↔◌, ℕ, zero, suc, ◌+◌, ◌-◌, ◌<◌, ◌≤◌, Bool, true, false, not, cond, List, [], ◌∷◌, ◌++◌, length, map, take, get_or, Some, Result, Ok, Err, refl, sym, ap, ap₂, subst, ◌∙◌, arith, true≢false}
-use Rattle.std.specs.Prelude.{All, IfOk, IsTrue, filter}
-use Rattle.std.specs.List.{AllZip, join_with_byte, range_with_len, slice_get}
+use Rattle.dac_live_play.proofs.Common.{All, IsTrue, range_with_len, take_more, get_or-map, length-map, All-head, All-tail, map-range_with_len_more, length-map-range_with_len, canonical_text, Table, node_count, WorldEvent, MAX_TEXT, Failure, ScriptLine, run_lines}
+use Rattle.std.specs.Prelude.{IfOk, filter}
+use Rattle.std.specs.List.{AllZip, join_with_byte, slice_get}
 use Rattle.std.specs.Str.{bytes_eq}
 use Rattle.std.proofs.lemmas.Bool.{cond-true}
 use Rattle.std.proofs.lemmas.Slice.Eq.{bytes_eq-Decides}
-use Rattle.std.proofs.lemmas.List.{take_more, map-append, get_or-map, length-map, length-append}
-use Rattle.std.proofs.lemmas.List.Elements.{All-head, All-tail}
-use Rattle.std.proofs.lemmas.List.FromFn.{map-range_with_len_more, length-map-range_with_len}
-use Rattle.dac_config.specs.Canonical.{canonical_text}
+use Rattle.std.proofs.lemmas.List.{map-append, length-append}
 use Rattle.dac_base.specs.declared.NoMemory.{NoMemory}
-use Rattle.dac_config.specs.Table.{Table, node_count}
-use Rattle.dac_events.specs.declared.WorldEvent.{WorldEvent}
-use Rattle.dac_shapes.specs.declared.limits.TheConstants.{MAX_TEXT}
 use Rattle.dac_placement.specs.Placement.{nodes_of}
-use Rattle.dac_script.specs.declared.failure.Failure.{Failure}
 use Rattle.dac_script.specs.declared.failure.Failure.TheVariants.{Input, Config, Script}
 use Rattle.dac_script.specs.declared.failure.Failure.TheVariants.{NoMemory as WantOfMemory}
 use Rattle.dac_script.specs.declared.fault.ScriptFault.{ScriptFault}
-use Rattle.dac_script.specs.declared.line.ScriptLine.{ScriptLine}
 use Rattle.dac_script.specs.declared.line.ScriptLine.TheVariants as says
 use Rattle.dac_script.specs.Forms.{Spells}
 use Rattle.dac_script.specs.Input.{IsTaken, IsParted, divider, with_feeds}
@@ -26,7 +19,7 @@ use Rattle.dac_script.specs.InWords.{LinesInWords}
 use Rattle.dac_script.specs.LineFaults.{HasFault, IsFaultless}
 use Rattle.dac_script.specs.Script.{lines_of, is_said, ReadsAs, IsFirstFault, IsScriptFailure}
 use Rattle.dac_script.specs.Words.{words_of}
-use Rattle.dac_live_play.specs.Recordings.{run_lines, SaysRun}
+use Rattle.dac_live_play.specs.Recordings.{SaysRun}
 use Rattle.dac_live_play.proofs.Lines.{numbered}
 
 -- one more line equals its item

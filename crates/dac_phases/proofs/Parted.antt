@@ -1,11 +1,9 @@
 -- Journals are split node by node, and consist of phases, one after another.
 use Rattle.std.proofs.Common.{◌≡◌, ℕ, zero, suc, ◌+◌, ◌<◌, ◌≤◌, All, List, [], ◌∷◌, ◌++◌, length, take, take_all, drop, get_or, map, Bor, refl, sym, ap, ◌∙◌, subst, arith}
-use Rattle.std.proofs.lemmas.List.{take_more, drop_more, drop_all, map_push}
+use Rattle.dac_phases.specs.laws.Common.{take_more, map_push, Record, JournalValue, AreParted, PhaseHolds, ArePhased, part_at}
+use Rattle.std.proofs.lemmas.List.{drop_more, drop_all}
 use Rattle.std.proofs.lemmas.List.Elements.{All-append, All-cons, All-nil}
-use Rattle.dac_crews.specs.Record.{Record}
-use Rattle.dac_crews.specs.Journals.{JournalValue}
 use Rattle.dac_crews.specs.declared.phases.Phase.{Phase}
-use Rattle.dac_phases.specs.Phases.{AreParted, PhaseHolds, ArePhased, part_at}
 
 -- ---- borrowed records
 abbrev now : Bor (List Record) → List Record

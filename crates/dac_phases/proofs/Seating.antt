@@ -1,7 +1,7 @@
 -- The seats of a node are numbered in order.
 use Rattle.std.proofs.Common.{◌≡◌, ◌≤◌, ◌<◌, ◌+◌, ◌*◌, ℕ, zero, suc, Bool, true, false, List, [], ◌∷◌, ◌++◌, flat_map, eqb, ltb, if◌then◌else◌, refl, ap, ◌∙◌, arith}
-use Rattle.std.proofs.lemmas.Bool.{eq-eqb, ne_eqb, lt-ltb, le-ltb}
-use Rattle.dac_phases.specs.Pairs.{shipper_seat, worker_seat}
+use Rattle.dac_phases.specs.laws.Common.{eq-eqb, shipper_seat, worker_seat}
+use Rattle.std.proofs.lemmas.Bool.{ne_eqb, lt-ltb, le-ltb}
 use Rattle.dac_phases.specs.Seating.{numbers_from, seats_for, AreInOrder}
 
 -- the seats for a node, unless it is the node itself

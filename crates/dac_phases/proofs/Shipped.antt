@@ -1,10 +1,10 @@
 -- The events of a link's two seats, as the program compares them.
 use Rattle.std.proofs.Common.{◌≡◌, ℕ, ◌*◌, List, [], ◌∷◌, map, Bor, refl, sym, ap, subst, ◌∙◌}
+use Rattle.dac_phases.specs.laws.Common.{Record, Linked, found, event_one}
 use Rattle.dac_base.specs.declared.NodeId.{NodeId}
 use Rattle.dac_messages.specs.declared.event.Event.TheVariants.{Hear}
 use Rattle.dac_messages.specs.declared.message.Message.{Message}
-use Rattle.dac_crews.specs.Record.{Record}
-use Rattle.dac_crews.specs.Compared.{Linked, found, event_one, sent_one}
+use Rattle.dac_crews.specs.Compared.{sent_one}
 use Rattle.dac_workers.specs.Links.{ships_to}
 
 heard_all : (ms : List (Bor Message)) → map (λ (m : Bor Message). Hear m.now) ms ≡ map Hear (map (λ (m : Bor Message). m.now) ms)

@@ -1,8 +1,9 @@
 -- Hexadecimal digits of bytes, from a table.
 use Rattle.std.proofs.Common.{◌≡◌, ◌∙◌, ℕ, ◌+◌, ◌-◌, ◌*◌, ◌/◌, ◌%◌, ◌<◌, ◌≤◌, ◌==◌, Bool, true, ◌&&◌, List, [], ◌∷◌, ◌++◌, length, take, drop, replicate, slice_index, zero, suc, inl, inr, sym, ap, arith, append-nil}
-use Rattle.std.proofs.lemmas.Bool.{and_parts, cases_lt, eqb-true}
-use Rattle.std.proofs.lemmas.List.{drop_all, drop-replicate, length-append, take_all, take-append-drop, take-append-le}
-use Rattle.hex.specs.Hex.{encode_lower, encode_with, lower_digits}
+use Rattle.dac_play.proofs.Common.{eqb-true, length-append, take_all, encode_lower, lower_digits}
+use Rattle.std.proofs.lemmas.Bool.{and_parts, cases_lt}
+use Rattle.std.proofs.lemmas.List.{drop_all, drop-replicate, take-append-drop, take-append-le}
+use Rattle.hex.specs.Hex.{encode_with}
 use Rattle.hex.proofs.HexLemmas.{length-encode_with}
 
 -- the digits of a byte are at its place in the table

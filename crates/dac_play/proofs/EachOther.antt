@@ -1,10 +1,10 @@
 -- The pairs of an anti-entropy round: every two running nodes, in order.
 use Rattle.std.proofs.Common.{◌≡◌, ℕ, zero, suc, ◌+◌, ◌<◌, ◌≤◌, Bool, true, false, cond, List, [], ◌∷◌, ◌++◌, map, refl, sym, ap, subst, ◌∙◌, arith, inl, inr, eqb}
-use Rattle.std.specs.Prelude.{◌≢◌, ◌⊎◌, filter, flat_map, not, ◌==◌}
+use Rattle.dac_play.proofs.Common.{◌≢◌, not, false≢true, eqb-true, NodeId, pairs_of, pairs, IsListed, TellsEachOther}
+use Rattle.std.specs.Prelude.{◌⊎◌, filter, flat_map, ◌==◌}
 use Rattle.std.specs.List.{AllByRecursion, range_with_len}
-use Rattle.std.proofs.lemmas.Bool.{false≢true, eqb-true, eqb-false, eq-eqb}
-use Rattle.dac_base.specs.declared.NodeId.{NodeId}
-use Rattle.dac_play.specs.Pairs.{pairs_of, pairs, IsListed, IsOrdered, ComesBefore, TellsEachOther}
+use Rattle.std.proofs.lemmas.Bool.{eqb-false, eq-eqb}
+use Rattle.dac_play.specs.Pairs.{IsOrdered, ComesBefore}
 
 -- ---- lists
 In-front : {X : Type 0} (x : X) (xs ys : List X) → IsListed x xs → IsListed x (xs ++ ys)

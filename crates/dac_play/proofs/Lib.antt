@@ -1,3 +1,4 @@
+mod Common
 mod Digits
 mod EachOther
 mod Playing

@@ -1,26 +1,19 @@
 -- Playing a script line by line.
 use Rattle.std.proofs.Common.{◌≡◌, ℕ, ◌+◌, ◌-◌, ◌<◌, cond, List, ◌∷◌, ◌++◌, length, get_or, drop, suc, Option, Some, None, Result, Ok, Err, false, true≢false, refl, sym, ap, ap₂, subst, ◌∙◌, arith, ⊎_elim, append_assoc, add-one, drop-cons}
-use Rattle.std.specs.Prelude.{◌≢◌, IfOk, OnOk, is_err}
-use Rattle.std.specs.Option.{option_and_then, option_map}
+use Rattle.dac_play.proofs.Common.{◌≢◌, IfOk, OnOk, option_and_then, option_map, lt-ltb, NodeId, Table, Reply, WorldEvent, WorldValue, Shows, Done, Lacked, out_of_memory, numbered, ScriptLine, state_at, after_line}
+use Rattle.std.specs.Prelude.{is_err}
 use Rattle.std.specs.List.{slice_get}
 use Rattle.std.specs.Io.KnownBytes.{Appends}
 use Rattle.std.proofs.KnownBytes.{Appends-trans}
-use Rattle.std.proofs.lemmas.Bool.{lt-ltb}
-use Rattle.dac_base.specs.declared.NodeId.{NodeId}
-use Rattle.dac_config.specs.Table.{Table}
-use Rattle.dac_messages.specs.declared.reply.Reply.{Reply}
-use Rattle.dac_events.specs.declared.WorldEvent.{WorldEvent}
 use Rattle.dac_core.specs.WorldFault.{WorldFault}
 use Rattle.dac_core.specs.NodeValue.{state_of}
-use Rattle.dac_core.specs.WorldValue.{WorldValue}
 use Rattle.dac_core.specs.ModelNode.{ModelRunning, joined, shown}
-use Rattle.dac_core.specs.ModelWorld.{ModelWorld, Shows, Follows, Done, Lacked, start, happens, out_of_memory, numbered}
+use Rattle.dac_core.specs.ModelWorld.{ModelWorld, Follows, start, happens}
 use Rattle.dac_play.specs.declared.answers.Counts.{Counts}
-use Rattle.dac_script.specs.declared.line.ScriptLine.{ScriptLine}
 use Rattle.dac_script.specs.declared.line.ScriptLine.TheVariants as says
 use Rattle.dac_play.specs.Answers.{answer_text}
 use Rattle.dac_play.specs.Sharing.{state_in}
-use Rattle.dac_play.specs.Play.{state_at, counts_in, after_line, script_text, PlaysLine}
+use Rattle.dac_play.specs.Play.{counts_in, script_text, PlaysLine}
 
 -- ---- one line
 same_counts : (table : Table) (w : ModelWorld) (v : WorldValue) (counts : Counts) → Shows table w v → counts.operations ≡ length v.operations → counts.messages ≡ length v.messages → counts ≡ counts_in w

@@ -1,21 +1,14 @@
 -- The world of a script is that of a run.
 use Rattle.std.proofs.Common.{◌≡◌, Bool, true, false, List, [], ◌∷◌, ◌++◌, take, refl, ap, subst, ◌∙◌}
-use Rattle.std.specs.Prelude.{fold, is_some}
-use Rattle.std.specs.Result.{is_ok}
-use Rattle.dac_base.specs.declared.NodeId.{NodeId}
-use Rattle.dac_config.specs.Table.{Table}
-use Rattle.dac_events.specs.declared.WorldEvent.{WorldEvent}
-use Rattle.dac_core.specs.WorldValue.{WorldValue}
-use Rattle.dac_core.specs.ModelWorld.{ModelWorld, WorldStepped, Shows, Run, RanAs, start, happens}
+use Rattle.dac_play.proofs.Common.{fold, is_ok, NodeId, Table, WorldEvent, WorldValue, Shows, set_run, no_sets, ScriptLine, shipping, delivered, after_telling, after_line, deliveries, telling}
+use Rattle.std.specs.Prelude.{is_some}
+use Rattle.dac_core.specs.ModelWorld.{ModelWorld, WorldStepped, Run, RanAs, start, happens}
 use Rattle.dac_core.specs.EveryList.{run_from}
-use Rattle.dac_model_world.specs.SetWorld.{set_run, no_sets}
 use Rattle.dac_core.specs.laws.Headline.{converged}
 use Rattle.dac_core.specs.laws.EveryList.{own_run, is_enough}
-use Rattle.dac_script.specs.declared.line.ScriptLine.{ScriptLine}
 use Rattle.dac_script.specs.declared.line.ScriptLine.TheVariants as says
-use Rattle.dac_play.specs.Sharing.{state_in, shipping, delivered, after_telling}
-use Rattle.dac_play.specs.Play.{after_line}
-use Rattle.dac_play.specs.Runs.{deliveries, telling, pairs_in, line_events, events_from, world_from, events_in, answers_in, IsRunOf, ShareUnites, PlaysRuns}
+use Rattle.dac_play.specs.Sharing.{state_in}
+use Rattle.dac_play.specs.Runs.{pairs_in, line_events, events_from, world_from, events_in, answers_in, IsRunOf, ShareUnites, PlaysRuns}
 use Rattle.dac_play.proofs.EachOther.{tell_each_other}
 use Rattle.dac_play.proofs.Telling.{telling_unites}
 

@@ -1,26 +1,17 @@
 -- A share, pair by pair.
 use Rattle.std.proofs.Common.{◌≡◌, ℕ, ◌+◌, ◌<◌, ◌≤◌, Bool, true, false, cond, List, [], ◌∷◌, ◌++◌, length, get_or, take, zero, suc, Option, Some, None, Result, Ok, Err, refl, sym, ap, ap₂, subst, ◌∙◌, arith, ⊎_elim, add-one, append-nil, true≢false}
-use Rattle.std.specs.Prelude.{◌≢◌, fold, IfOk, OnOk}
+use Rattle.dac_play.proofs.Common.{◌≢◌, fold, IfOk, OnOk, is_ok, take_all, NodeId, Table, WorldEvent, StateValue, Reply, WorldValue, Shows, Done, Lacked, out_of_memory, numbered, pairs, TellsEachOther, state_at, HasState, having_state, shipping, delivery, after_telling, Leads}
 use Rattle.std.specs.Borrow.{Bor}
 use Rattle.std.specs.Option.{is_some, option_copied}
-use Rattle.std.specs.Result.{is_ok}
-use Rattle.std.proofs.lemmas.List.{take_all}
 use Rattle.std.proofs.lemmas.List.Sums.{fold_more}
 use Rattle.std.proofs.lemmas.List.FromFn.{filter_of_map_range_with_len_more}
-use Rattle.dac_base.specs.declared.NodeId.{NodeId}
-use Rattle.dac_config.specs.Table.{Table}
-use Rattle.dac_events.specs.declared.WorldEvent.{WorldEvent}
-use Rattle.dac_meaning.specs.StateValue.{StateValue}
-use Rattle.dac_messages.specs.declared.reply.Reply.{Reply}
 use Rattle.dac_core.specs.WorldFault.{WorldFault}
 use Rattle.dac_core.specs.WorldFault.TheVariants.{Refused}
 use Rattle.dac_events.specs.declared.refusal.Refusal.TheVariants.{NoMemory}
-use Rattle.dac_core.specs.WorldValue.{WorldValue}
-use Rattle.dac_core.specs.ModelWorld.{ModelWorld, Shows, Done, Lacked, happens, out_of_memory, numbered}
+use Rattle.dac_core.specs.ModelWorld.{ModelWorld, happens}
 use Rattle.dac_core.specs.Passing.{Passes, TellsFault}
-use Rattle.dac_play.specs.Pairs.{pairs, TellsEachOther}
-use Rattle.dac_play.specs.Play.{state_at, HasState, IsShared}
-use Rattle.dac_play.specs.Sharing.{state_in, having_state, shipping, delivery, after_telling, shared, Leads, IsAnswered}
+use Rattle.dac_play.specs.Play.{IsShared}
+use Rattle.dac_play.specs.Sharing.{state_in, shared, IsAnswered}
 use Rattle.dac_play.proofs.EachOther.{tell_each_other}
 use Rattle.dac_play.proofs.Playing.{state_shown}
 

@@ -2,23 +2,18 @@
 -- is refused only as up to date. Each message is delivered at once and accepted, because it's addressed to the
 -- receiver's present incarnation.
 use Rattle.std.proofs.Common.{◌≡◌, ◌⊎◌, ℕ, ◌+◌, ◌<◌, ◌≤◌, Bool, true, false, cond, List, [], ◌∷◌, ◌++◌, length, take, drop, suc, Option, Some, None, Result, Ok, Err, nat_eq, refl, sym, ap, subst, ◌∙◌, inl, inr, arith, ltb-true, ltb-false}
-use Rattle.std.specs.Prelude.{◌≢◌, nat_lt, is_some, IsTrue}
-use Rattle.std.specs.Option.{option_map}
-use Rattle.std.proofs.lemmas.Bool.{false≢true, lt-ltb, lt-leb}
-use Rattle.std.proofs.lemmas.List.{length-append}
+use Rattle.dac_play.proofs.Common.{◌≢◌, option_map, false≢true, lt-ltb, length-append, NodeId, Table, node_count, WorldEvent, Reply, set_run, no_sets, StateValue, not, option_and_then, IsListed, TellsEachOther, HasState, shipping, delivery, delivered, deliveries, telling}
+use Rattle.std.specs.Prelude.{nat_lt, is_some, IsTrue}
+use Rattle.std.proofs.lemmas.Bool.{lt-leb}
 use Rattle.std.proofs.lemmas.Map.Views.{exact_unsigned_eq}
 use Rattle.std.proofs.Math.Seq.{take-append_seam, drop-append_seam, take-length}
-use Rattle.dac_base.specs.declared.NodeId.{NodeId}
 use Rattle.dac_origins.specs.declared.dot.Origin.{Origin}
 use Rattle.dac_operations.specs.Operations.{Operation}
-use Rattle.dac_config.specs.Table.{Table, node_count}
-use Rattle.dac_events.specs.declared.WorldEvent.{WorldEvent}
 use Rattle.dac_events.specs.declared.What.{What}
 use Rattle.dac_events.specs.declared.What.TheVariants.{Ship as Ships, Deliver}
 use Rattle.dac_messages.specs.declared.message.Message.{Message}
 use Rattle.dac_messages.specs.declared.event.Event.{Event}
 use Rattle.dac_messages.specs.declared.event.Event.TheVariants.{Ship}
-use Rattle.dac_messages.specs.declared.reply.Reply.{Reply}
 use Rattle.dac_messages.specs.declared.reply.Reply.TheVariants.{Shipped, Heard}
 use Rattle.dac_commands.specs.Causes.{first, no_node}
 use Rattle.dac_events.specs.declared.refusal.Refusal.{Refusal}
@@ -31,7 +26,7 @@ use Rattle.dac_model_node.specs.EventRefusals.{refusal_of, refusal_by}
 use Rattle.dac_model_node.specs.Transitions.{message_of}
 use Rattle.dac_model_node.specs.Step.{model_step, step_by}
 use Rattle.dac_model_world.specs.ModelWorld.{counted, ModelWorld, WorldStepped, happens, happens_by, answered_by, event_of, start}
-use Rattle.dac_model_world.specs.SetWorld.{SetWorld, NodeSet, Copy, copied_by, set_step, set_run, no_sets, united, brought_to}
+use Rattle.dac_model_world.specs.SetWorld.{SetWorld, NodeSet, Copy, copied_by, set_step, united, brought_to}
 use Rattle.dac_model_world.specs.Convergence.{state_by}
 use Rattle.dac_model_world.specs.EveryList.{answers_of, run_from}
 use Rattle.dac_model_world.specs.Fits.{RunsIn, IsHeard, IsCopyFor}
@@ -48,21 +43,18 @@ use Rattle.dac_model_world.specs.laws.UnitingInRuns.{unite_run}
 use Rattle.dac_model_world.specs.Uniting.{Unites}
 use Rattle.dac_model_node.specs.laws.Options.{some_same}
 use Rattle.dac_chains.specs.declared.lives.Life.{Life}
-use Rattle.dac_meaning.specs.StateValue.{StateValue}
 use Rattle.dac_meaning.specs.Meaning.{meaning_of}
 use Rattle.dac_peers.specs.declared.positions.Position.{Position}
 use Rattle.std.specs.FinMap as map
 use Rattle.std.proofs.lemmas.Bool.{and_from}
-use Rattle.std.specs.Prelude.{not, ◌&&◌, nat_le}
-use Rattle.std.specs.Option.{option_and_then, option_map_or}
+use Rattle.std.specs.Prelude.{◌&&◌, nat_le}
+use Rattle.std.specs.Option.{option_map_or}
 use Rattle.std.proofs.Common.{eq-eqb}
 use Rattle.dac_events.specs.declared.refusal.Refusal.TheVariants.{DotsUsedUp}
 use Rattle.dac_model_world.specs.laws.SharesInRuns.{all_present, shares_run}
 use Rattle.dac_model_world.specs.laws.Sound.{Sound, held_at, seen, sound_happens, sound_run, sound_start}
-use Rattle.dac_play.specs.Pairs.{IsListed, TellsEachOther}
-use Rattle.dac_play.specs.Play.{HasState}
-use Rattle.dac_play.specs.Sharing.{state_in as state_in_world, shipping, delivery, delivered}
-use Rattle.dac_play.specs.Runs.{deliveries, telling, HaveNumbers}
+use Rattle.dac_play.specs.Sharing.{state_in as state_in_world}
+use Rattle.dac_play.specs.Runs.{HaveNumbers}
 
 abbrev Answer : Type 0
 Answer = Result Reply WorldFault

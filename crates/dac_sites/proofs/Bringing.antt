@@ -1,24 +1,11 @@
 -- The node after one more record.
-use Rattle.std.proofs.Common.{◌≡◌, ◌≢◌, Result, Ok, Err, IfOk, IfErr, ℕ, ◌+◌, ◌<◌, List, [], ◌∷◌, ◌++◌, length, take, get_or, refl, sym, ap, ◌∙◌}
-use Rattle.std.proofs.lemmas.List.{take_more}
-use Rattle.dac_base.specs.declared.NodeId.{NodeId}
-use Rattle.dac_config.specs.Table.{Table}
-use Rattle.dac_journal.specs.ModelNode.{ModelNode}
-use Rattle.dac_messages.specs.declared.event.Event.{Event}
+use Rattle.std.proofs.Common.{◌≡◌, ◌≢◌, Result, Ok, Err, IfOk, IfErr, ℕ, ◌+◌, ◌<◌, List, length, take, get_or, sym, ap, ◌∙◌}
+use Rattle.dac_sites.specs.laws.Common.{take_more, NodeId, Table, Event, NodeValue, model_step, GoesOn, off_after, Record, Beginning, node_after}
 use Rattle.dac_messages.specs.declared.reply.Reply.{Reply}
 use Rattle.dac_events.specs.declared.refusal.Refusal.{Refusal}
 use Rattle.dac_events.specs.declared.refusal.Refusal.TheVariants.{NoMemory}
-use Rattle.dac_journal.specs.NodeValue.{NodeValue}
-use Rattle.dac_journal.specs.Step.{model_step, Steps}
-use Rattle.dac_sites.specs.Replayed.{GoesOn}
-use Rattle.dac_journal.specs.Histories.{off_after}
-use Rattle.dac_journal.specs.declared.record.Record.{Record}
-use Rattle.dac_journal.specs.Journals.{Beginning}
-use Rattle.dac_sites.specs.Paged.{brought, node_after}
-
-brought_push : (t : Table) (me : NodeId) (d : ModelNode) (rs : List Record) (r : Record) → brought t me d (rs ++ r ∷ []) ≡ (model_step t me (brought t me d rs) r.event).node
-brought_push t me d [] r = refl
-brought_push t me d (x ∷ rs) r = brought_push t me (model_step t me d x.event).node rs r
+use Rattle.dac_journal.specs.Step.{Steps}
+use Rattle.dac_sites.specs.laws.Pages.{brought_push}
 
 pub node_more : (o : Beginning) (rs : List Record) (i : ℕ) (r : Record) → i < length rs → r ≡ get_or rs i r → node_after o (take (i + 1) rs) ≡ (model_step o.table o.node (node_after o (take i rs)) r.event).node
 node_more o rs i r within at =

@@ -1,19 +1,15 @@
 -- One more call of a link's threads.
 use Rattle.std.proofs.Common.{◌≡◌, ℕ, zero, suc, ◌+◌, List, [], ◌∷◌, ◌++◌, length, get_or, drop, map, All, Some, None, Ok, refl, sym, ap, ◌∙◌, subst, append_assoc, append-nil, arith}
+use Rattle.dac_workers.specs.laws.Common.{Ship, Hear, Message, CallAdded, packet_at, IsLetterOf, ships_to, Ships, Hears}
 use Rattle.std.proofs.lemmas.List.Elements.{All-append, All-cons, All-nil}
 use Rattle.dac_base.specs.declared.NodeId.{NodeId}
 use Rattle.dac_config.specs.Table.{Table}
 use Rattle.dac_messages.specs.declared.event.Event.{Event}
-use Rattle.dac_messages.specs.declared.event.Event.TheVariants.{Ship, Hear}
-use Rattle.dac_messages.specs.declared.message.Message.{Message}
 use Rattle.dac_messages.specs.declared.reply.Reply.TheVariants.{Shipped}
-use Rattle.dac_sites.specs.Added.{CallAdded}
 use Rattle.dac_sites.specs.Call.{Call}
 use Rattle.dac_links.specs.Relay.{LetterValue}
 use Rattle.dac_wire.specs.declared.packet.Packet.TheVariants.{Msg}
-use Rattle.dac_wire.specs.Decoding.{packet_at}
-use Rattle.dac_workers.specs.Letters.{IsLetterOf}
-use Rattle.dac_workers.specs.Links.{shipped_by, shipped_in, letters_of, ReadsBack, ships_to, ShipsOne, Ships, HearsOne, AreRead, Hears}
+use Rattle.dac_workers.specs.Links.{shipped_by, shipped_in, letters_of, ReadsBack, ShipsOne, HearsOne, AreRead}
 
 -- ---- appending one element
 events_push : (cs : List Call) (c : Call) → map (λ (c : Call). c.event) (cs ++ c ∷ []) ≡ map (λ (c : Call). c.event) cs ++ c.event ∷ []

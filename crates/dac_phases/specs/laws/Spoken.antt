@@ -1,11 +1,10 @@
 -- The events and results of lines, line by line.
 use Rattle.std.proofs.Common.{◌≡◌, ℕ, zero, suc, ◌+◌, ◌<◌, ◌≤◌, List, [], ◌∷◌, ◌++◌, length, take, get_or, Option, sym, ap, ◌∙◌, subst, arith, append-nil, append_assoc, take_all}
+use Rattle.dac_phases.specs.laws.Common.{take_more, found, found_more}
 use Rattle.std.specs.List.{AllZip, flat_map, zip}
-use Rattle.std.proofs.lemmas.List.{take_more}
 use Rattle.std.proofs.lemmas.List.Concat.{flat_map-append}
 use Rattle.std.proofs.lemmas.Slice.Zip.{all_zipped_more, length-zip, get_or-zip}
-use Rattle.dac_crews.specs.Compared.{found}
-use Rattle.dac_workers.specs.laws.Found.{found_more, listed}
+use Rattle.dac_workers.specs.laws.Found.{listed}
 
 -- one more value found, after a list
 pub found_on : {A B : Type 0} (b : List B) (f : A → Option B) (xs : List A) (i : ℕ) (x : A) (o : Option B) → i < length xs → x ≡ get_or xs i x → f x ≡ o → b ++ found f (take (i + 1) xs) ≡ (b ++ found f (take i xs)) ++ listed o

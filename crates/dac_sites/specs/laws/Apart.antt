@@ -1,8 +1,6 @@
 -- The first place at which a journal and the seats don't match.
 use Rattle.std.proofs.Common.{◌≡◌, ◌≢◌, ℕ, zero, suc, ◌+◌, ◌<◌, List, [], ◌∷◌, length, take, get_or, All, inl, inr, subst, arith}
-use Rattle.dac_journal.specs.declared.record.Record.{Record}
-use Rattle.dac_journal.specs.Journals.{calls_of, DifferAt}
-use Rattle.dac_sites.specs.Seats.{SeatValue, IsOneOf}
+use Rattle.dac_sites.specs.laws.Common.{Record, calls_of, DifferAt, SeatValue, IsOneOf}
 use Rattle.dac_sites.specs.Behind.{SeatDiffers, FirstUnseated}
 
 -- a seat that differs, after seats that match

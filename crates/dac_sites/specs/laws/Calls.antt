@@ -1,11 +1,11 @@
 -- The calls of a seat, record by record.
 use Rattle.std.proofs.Common.{◌≡◌, ◌≢◌, ℕ, suc, ◌+◌, ◌<◌, ◌≤◌, List, [], ◌∷◌, ◌++◌, length, take, drop, get_or, min, Bool, true, false, refl, sym, ap, ◌∙◌, inl, inr, arith, append-nil, subst, drop-cons, take_all}
+use Rattle.dac_sites.specs.laws.Common.{take_more, Record, calls_of, DifferAt}
 use Rattle.std.specs.Prelude.{◌==◌, if◌then◌else◌}
-use Rattle.std.proofs.lemmas.List.{take-append-drop, take_more, length-take-le}
+use Rattle.std.proofs.lemmas.List.{take-append-drop, length-take-le}
 use Rattle.std.proofs.Math.Seq.{take-length}
-use Rattle.dac_journal.specs.declared.record.Record.{Record}
 use Rattle.dac_journal.specs.declared.record.Call.{Call}
-use Rattle.dac_journal.specs.Journals.{call_of, calls_from, calls_of, DifferAt}
+use Rattle.dac_journal.specs.Journals.{call_of, calls_from}
 
 cond_push : (b : Bool) (c : Call) (us vs ws : List Call) → us ≡ vs ++ ws → (if b then c ∷ us else us) ≡ (if b then c ∷ vs else vs) ++ ws
 cond_push true c us vs ws e = ap (λ l. c ∷ l) e

@@ -1,18 +1,11 @@
 -- The page of a journal's node is the page after its records.
 use Rattle.std.proofs.Common.{◌≡◌, ◌+◌, true, List, [], ◌∷◌, ◌++◌, length, map, refl, sym, ap, ◌∙◌, length-append}
-use Rattle.dac_base.specs.declared.NodeId.{NodeId}
-use Rattle.dac_config.specs.Table.{Table}
+use Rattle.dac_sites.specs.laws.Common.{NodeId, Table, NodeValue, ModelNode, shown, model_step, off_after, leaves_state, Record, Beginning, Page, page_of, brought, node_after, page_after}
 use Rattle.dac_status.specs.Summaries.{summary_of}
-use Rattle.dac_journal.specs.NodeValue.{NodeValue}
-use Rattle.dac_journal.specs.ModelNode.{ModelNode, shown}
-use Rattle.dac_journal.specs.Step.{model_step}
-use Rattle.dac_journal.specs.Histories.{IsHistory, off_after}
-use Rattle.dac_journal.specs.Keeping.{leaves_state}
+use Rattle.dac_journal.specs.Histories.{IsHistory}
 use Rattle.dac_journal.specs.laws.Staying.{state_stays}
-use Rattle.dac_journal.specs.declared.record.Record.{Record}
-use Rattle.dac_journal.specs.Journals.{Beginning, EndsAt, entry_of}
-use Rattle.dac_pages.specs.declared.page.Page.{Page}
-use Rattle.dac_sites.specs.Paged.{known_in, page_of, brought, node_after, page_after}
+use Rattle.dac_journal.specs.Journals.{EndsAt, entry_of}
+use Rattle.dac_sites.specs.Paged.{known_in}
 
 brought_is : (t : Table) (me : NodeId) (d final : ModelNode) (rs : List Record) → IsHistory t me d (map entry_of rs) final → final ≡ brought t me d rs
 brought_is t me d final [] h = h
@@ -27,7 +20,7 @@ page_there o rs v ends = ap (page_of o.table (length rs)) (sym (ends_after o rs 
 
 -- ---- one record more
 
-brought_push : (t : Table) (me : NodeId) (d : ModelNode) (rs : List Record) (r : Record) → brought t me d (rs ++ r ∷ []) ≡ (model_step t me (brought t me d rs) r.event).node
+pub brought_push : (t : Table) (me : NodeId) (d : ModelNode) (rs : List Record) (r : Record) → brought t me d (rs ++ r ∷ []) ≡ (model_step t me (brought t me d rs) r.event).node
 brought_push t me d [] r = refl
 brought_push t me d (x ∷ rs) r = brought_push t me (model_step t me d x.event).node rs r
 

@@ -1,6 +1,6 @@
 -- A seat at a place is one of the seats.
 use Rattle.std.proofs.Common.{◌≡◌, ℕ, zero, suc, ◌<◌, List, [], ◌∷◌, length, get_or, inl, inr, ap, sym, ◌∙◌, arith}
-use Rattle.dac_sites.specs.Seats.{IsOneOf}
+use Rattle.dac_sites.specs.laws.Common.{IsOneOf}
 
 at_one : {S : Type 0} (n : ℕ) (number : S → ℕ) (ss : List S) (k : ℕ) (d : S) → k < length ss → number (get_or ss k d) ≡ n → IsOneOf n number ss
 at_one n number [] k d within same = absurd (omega (arith, within))

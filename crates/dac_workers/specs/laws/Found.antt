@@ -1,7 +1,8 @@
 -- The values found in records, record by record.
 use Rattle.std.proofs.Common.{◌≡◌, ℕ, zero, suc, ◌+◌, ◌<◌, ◌≤◌, List, [], ◌∷◌, ◌++◌, length, take, take_all, drop, get_or, map, Option, Some, None, refl, sym, ap, ◌∙◌, arith}
-use Rattle.std.proofs.lemmas.List.{take_more, take-append-drop, length-take-le, length-map}
-use Rattle.dac_workers.specs.Compared.{before, found}
+use Rattle.dac_workers.specs.laws.Common.{length-map, found}
+use Rattle.std.proofs.lemmas.List.{take_more, take-append-drop, length-take-le}
+use Rattle.dac_workers.specs.Compared.{before}
 
 -- the list of a value, if there is one
 abbrev pub listed : {B : Type 0} → Option B → List B

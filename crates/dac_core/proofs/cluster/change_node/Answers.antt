@@ -1,11 +1,10 @@
 use Rattle.std.proofs.Common.{◌≡◌, sym, ◌∙◌, length, Some}
+use Rattle.dac_core.proofs.Common.{slice_get, changed}
 use Rattle.std.proofs.Math.ListN.{length-set}
-use Rattle.std.specs.List.{slice_get}
 use Rattle.std.specs.Prelude.{refl}
 use Rattle.std.proofs.lemmas.Option.{slice_get_read}
 use Rattle.std.proofs.lemmas.Result.{on_ok_weaker}
 use Rattle.dac_core.proofs.Lists.{slice_get-set}
-use Rattle.dac_node.specs.Changes.{changed}
 use Rattle.dac_settle.specs.dac_model_world.laws.Follow.{changed_at}
 use Rattle.dac_core.proofs.cluster.change_node.Goals as goal
 

@@ -1,9 +1,8 @@
 use Rattle.std.proofs.Common.{◌≡◌, List, length, take, ◌∙◌, subst, take_all, arith}
-use Rattle.dac_live.proofs.Common.{Record, beginning_of, IsPageOf}
+use Rattle.dac_live.proofs.Common.{Record, beginning_of, IsPageOf, page_there}
 use Rattle.std.proofs.lemmas.List.Elements.{AllWithin-none}
 use Rattle.dac_crews.specs.Journals.{EndsAt}
 use Rattle.dac_journal.specs.laws.Going.{is_history}
-use Rattle.dac_sites.specs.laws.Pages.{page_there}
 use Rattle.dac_live.proofs.Repeated.{ends_on, ends_off}
 use Rattle.dac_live.proofs.Passed.{pass_on, pass_all}
 use Rattle.dac_live.proofs.histories.page_of_history.Goals as goal

@@ -1,6 +1,5 @@
 use Rattle.std.proofs.Common.{subst}
-use Rattle.dac_live.proofs.Common.{NodeValue}
-use Rattle.dac_journal.specs.Step.{Steps}
+use Rattle.dac_live.proofs.Common.{NodeValue, Steps}
 use Rattle.dac_live.proofs.Repeated.{repeated}
 use Rattle.dac_live.proofs.histories.repeats.Goals as goal
 

@@ -1,6 +1,5 @@
 use Rattle.std.proofs.Common.{◌++◌, List, length, zip, flat_map, sym, ap, ◌∙◌, arith}
-use Rattle.dac_live.proofs.Common.{AllZip-long, Line, Phase, LineAnswer, Answers, LinesAnswered, flat_more, zip_within, zip_at, zip_all, all_zip_at}
-use Rattle.dac_live.specs.Lines.{told_in}
+use Rattle.dac_live.proofs.Common.{AllZip-long, Line, Phase, LineAnswer, Answers, LinesAnswered, told_in, flat_more, zip_within, zip_at, zip_all, all_zip_at}
 use Rattle.dac_live.proofs.lines.told_to.Goals as goal
 
 -- the results fit the lines of a phase

@@ -1,6 +1,5 @@
 use Rattle.std.proofs.Common.{◌≡◌, List, take, map, zip, flat_map}
-use Rattle.dac_live.proofs.Common.{Phase, LineAnswer}
-use Rattle.dac_live.specs.Lines.{told_in}
+use Rattle.dac_live.proofs.Common.{Phase, LineAnswer, told_in}
 use Rattle.dac_live.proofs.lines.told_to.Given as goal
 
 abbrev pub invariant-loop-i : goal.invariant-loop-i

@@ -1,8 +1,5 @@
 use Rattle.std.proofs.Common.{◌++◌, ◌∷◌, [], ◌<◌, length, take, map, zip, Some, None, Result, Bor, sym, ap, ◌∙◌, arith, append-nil}
-use Rattle.dac_live.proofs.Common.{Reply, Refusal, found, zip_within, zip_at, zip_all}
-use Rattle.std.proofs.lemmas.List.{map_push}
-use Rattle.dac_live.specs.Lines.{told_one}
-use Rattle.dac_phases.specs.laws.Spoken.{found_on}
+use Rattle.dac_live.proofs.Common.{map_push, Reply, Refusal, found, told_one, found_on, zip_within, zip_at, zip_all}
 use Rattle.dac_live.proofs.lines.with_answers.Goals as goal
 use Rattle.dac_live.proofs.lines.with_answers.Goals.{in-Some+in_ok-push-in-Some, in-None}
 

@@ -1,6 +1,5 @@
 use Rattle.std.proofs.Common.{◌≡◌, ◌++◌, take, map, zip}
-use Rattle.dac_live.proofs.Common.{found}
-use Rattle.dac_live.specs.Lines.{told_one}
+use Rattle.dac_live.proofs.Common.{found, told_one}
 use Rattle.dac_live.proofs.lines.with_answers.Given as goal
 
 abbrev pub invariant-loop-i : goal.invariant-loop-i

@@ -1,10 +1,9 @@
 use Rattle.std.proofs.Common.{◌≡◌, ℕ, [], All, subst, arith}
-use Rattle.dac_live.proofs.Common.{beginning_of, records_at, IsPageOf, pages_read}
+use Rattle.dac_live.proofs.Common.{beginning_of, IsTrueOf, journal_at, records_at, IsPageOf, pages_read}
 use Rattle.std.proofs.lemmas.Grind.{common_steps}
 use Rattle.std.proofs.lemmas.List.{get_or_read}
 use borrow.Author.Count.{below_more}
 use Rattle.dac_crews.specs.Journals.{JournalValue, nowhere}
-use Rattle.dac_live.specs.Nodes.{IsTrueOf, journal_at}
 use Rattle.dac_live.proofs.nodes.last_pages.Goals as goal
 
 pub loop-i-preserved : goal.loop-i-preserved

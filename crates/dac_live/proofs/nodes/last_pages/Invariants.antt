@@ -1,6 +1,6 @@
 use Rattle.std.proofs.Common.{◌≡◌, ℕ, ◌<◌, All, map, take}
-use Rattle.dac_live.proofs.Common.{beginning_of, records_at, IsPageOf, pages_read}
-use Rattle.dac_live.specs.Nodes.{IsFirstOf, IsTrueOf, journal_at, last_page_of}
+use Rattle.dac_live.proofs.Common.{beginning_of, IsTrueOf, journal_at, records_at, IsPageOf, pages_read}
+use Rattle.dac_live.specs.Nodes.{IsFirstOf, last_page_of}
 use Rattle.dac_live.proofs.nodes.last_pages.Given as goal
 
 abbrev pub invariant-loop-i : goal.invariant-loop-i

@@ -1,6 +1,6 @@
 use Rattle.std.proofs.Common.{All, subst, take_all}
+use Rattle.dac_live.proofs.Common.{HasLines}
 use Rattle.std.proofs.lemmas.List.Elements.{All-more}
-use Rattle.dac_live.specs.Lines.{HasLines}
 use Rattle.dac_live.proofs.owed.are_runnable.Goals as goal
 
 pub loop-phase-preserved : goal.loop-phase-preserved

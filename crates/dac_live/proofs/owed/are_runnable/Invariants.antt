@@ -1,5 +1,5 @@
 use Rattle.std.proofs.Common.{take, All}
-use Rattle.dac_live.specs.Lines.{HasLines}
+use Rattle.dac_live.proofs.Common.{HasLines}
 use Rattle.dac_live.proofs.owed.are_runnable.Given as goal
 
 abbrev pub invariant-loop-phase : goal.invariant-loop-phase

@@ -1,6 +1,5 @@
 use Rattle.std.proofs.Common.{◌≡◌, ◌++◌, List, Option, length, zip, flat_map, sym, ap, ◌∙◌, arith}
-use Rattle.dac_live.proofs.Common.{AllZip-long, Page, Phase, flat_more, zip_within, zip_at, zip_all, all_zip_at}
-use Rattle.dac_live.specs.Reads.{pages_in}
+use Rattle.dac_live.proofs.Common.{AllZip-long, Page, Phase, pages_in, flat_more, zip_within, zip_at, zip_all, all_zip_at}
 use Rattle.dac_live.proofs.reads.pages_read.Goals as goal
 
 -- the reads fit the lines of a phase

@@ -1,6 +1,5 @@
 use Rattle.std.proofs.Common.{◌≡◌, List, Option, take, map, zip, flat_map}
-use Rattle.dac_live.proofs.Common.{Page, Phase}
-use Rattle.dac_live.specs.Reads.{pages_in}
+use Rattle.dac_live.proofs.Common.{Page, Phase, pages_in}
 use Rattle.dac_live.proofs.reads.pages_read.Given as goal
 
 abbrev pub invariant-loop-i : goal.invariant-loop-i

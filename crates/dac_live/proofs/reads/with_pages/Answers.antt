@@ -1,8 +1,5 @@
 use Rattle.std.proofs.Common.{◌++◌, ◌∷◌, [], ◌<◌, length, take, map, zip, Some, None, Bor, sym, ap, ◌∙◌, arith, append-nil}
-use Rattle.dac_live.proofs.Common.{Page, found, zip_within, zip_at, zip_all}
-use Rattle.std.proofs.lemmas.List.{map_push}
-use Rattle.dac_live.specs.Reads.{page_one}
-use Rattle.dac_phases.specs.laws.Spoken.{found_on}
+use Rattle.dac_live.proofs.Common.{map_push, Page, found, page_one, found_on, zip_within, zip_at, zip_all}
 use Rattle.dac_live.proofs.reads.with_pages.Goals as goal
 use Rattle.dac_live.proofs.reads.with_pages.Goals.{in-Some+in_ok-push-in-Some, in-None}
 

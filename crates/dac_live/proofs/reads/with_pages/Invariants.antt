@@ -1,6 +1,5 @@
 use Rattle.std.proofs.Common.{◌≡◌, ◌++◌, take, map, zip}
-use Rattle.dac_live.proofs.Common.{found}
-use Rattle.dac_live.specs.Reads.{page_one}
+use Rattle.dac_live.proofs.Common.{found, page_one}
 use Rattle.dac_live.proofs.reads.with_pages.Given as goal
 
 abbrev pub invariant-loop-i : goal.invariant-loop-i

@@ -1,7 +1,5 @@
 use Rattle.std.proofs.Common.{◌≡◌, ◌<◌, ◌+◌, ℕ, List, Option, length, take, zip, flat_map, sym, ap, ◌∙◌, subst, arith}
-use Rattle.dac_live.proofs.Common.{AllZip-long, Page, Line, Phase, LineAnswer, calls_of, Answers, LinesAnswered, Follows, flat_more, zip_within, zip_at, zip_all, all_zip_at}
-use Rattle.dac_live.specs.Reads.{own_in, own_of}
-use Rattle.dac_live.specs.Following.{spans_from}
+use Rattle.dac_live.proofs.Common.{AllZip-long, Page, Line, Phase, LineAnswer, calls_of, Answers, LinesAnswered, own_in, own_of, spans_from, Follows, flat_more, zip_within, zip_at, zip_all, all_zip_at}
 use Rattle.dac_live.proofs.Followed.{follows_append, follows_receipts}
 use Rattle.dac_live.proofs.receipts.caller_follows.Goals as goal
 

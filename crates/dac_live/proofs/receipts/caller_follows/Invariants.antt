@@ -1,6 +1,5 @@
 use Rattle.std.proofs.Common.{List, Option, take, zip, flat_map}
-use Rattle.dac_live.proofs.Common.{Page, Phase, LineAnswer, Follows}
-use Rattle.dac_live.specs.Reads.{own_in}
+use Rattle.dac_live.proofs.Common.{Page, Phase, LineAnswer, own_in, Follows}
 use Rattle.dac_live.proofs.receipts.caller_follows.Given as goal
 
 abbrev pub invariant-loop-i : goal.invariant-loop-i

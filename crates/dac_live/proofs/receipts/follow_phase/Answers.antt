@@ -1,7 +1,5 @@
 use Rattle.std.proofs.Common.{◌<◌, List, Option, length, take, zip, sym, ap, subst, arith}
-use Rattle.dac_live.proofs.Common.{Page, LineAnswer, found, Follows, zip_within, zip_at, zip_all}
-use Rattle.std.specs.Prelude.{option_to_list}
-use Rattle.dac_live.specs.Reads.{own_one}
+use Rattle.dac_live.proofs.Common.{option_to_list, Page, LineAnswer, found, own_one, Follows, zip_within, zip_at, zip_all}
 use Rattle.dac_live.proofs.Followed.{follows_append, found_next}
 use Rattle.dac_live.proofs.receipts.follow_phase.Goals as goal
 

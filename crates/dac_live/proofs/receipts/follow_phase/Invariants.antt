@@ -1,6 +1,5 @@
 use Rattle.std.proofs.Common.{take, zip}
-use Rattle.dac_live.proofs.Common.{found, Follows}
-use Rattle.dac_live.specs.Reads.{own_one}
+use Rattle.dac_live.proofs.Common.{found, own_one, Follows}
 use Rattle.dac_live.proofs.receipts.follow_phase.Given as goal
 
 abbrev pub invariant-loop-i : goal.invariant-loop-i

@@ -1,6 +1,5 @@
 use Rattle.std.proofs.Common.{ℕ, ◌+◌, ◌<◌, length}
-use Rattle.dac_live.proofs.Common.{calls_of}
-use Rattle.dac_live.specs.Reads.{own_of, FollowsReceipts}
+use Rattle.dac_live.proofs.Common.{calls_of, own_of, FollowsReceipts}
 use Rattle.dac_live.proofs.receipts.node_follows.Given as goal
 
 abbrev pub invariant-loop-before : goal.invariant-loop-before

@@ -1,6 +1,5 @@
 use Rattle.std.proofs.Common.{rules, tests}
-use Rattle.std.proofs.lemmas.Iterator.Consumers.{map_from_collect}
-use Rattle.std.proofs.lemmas.Iterator.Splits.{YieldsList-from_slice_split}
+use Rattle.dac_live_play.proofs.Common.{map_from_collect, YieldsList-from_slice_split}
 use Rattle.dac_live_play.specs.Phases.{ends_phase}
 use Rattle.dac_live_play.proofs.phases.parts_of.Goals as goal
 

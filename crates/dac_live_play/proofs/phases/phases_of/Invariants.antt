@@ -1,5 +1,5 @@
 use Rattle.std.proofs.Common.{map, take}
-use Rattle.dac_live_play.specs.Phases.{AsksAs}
+use Rattle.dac_live_play.proofs.Common.{AsksAs}
 use Rattle.dac_live_play.proofs.phases.phases_of.Given as goal
 
 abbrev pub invariant-loop-part : goal.invariant-loop-part

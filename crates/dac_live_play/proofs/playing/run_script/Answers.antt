@@ -1,12 +1,11 @@
 use Rattle.std.proofs.Common.{map, refl, ap, subst, ◌∙◌}
+use Rattle.dac_live_play.proofs.Common.{node_count, IsTrueFault, parts_of, AsksAs, IsReportOf}
 use Rattle.std.proofs.lemmas.Result.{err_from_is_err_and}
-use Rattle.dac_config.specs.Table.{node_count}
 use Rattle.dac_weave.specs.Converging.{IsConverged}
-use Rattle.dac_weave.specs.Faults.{IsTrueFault, IsRefusal}
+use Rattle.dac_weave.specs.Faults.{IsRefusal}
 use Rattle.dac_weave.specs.Recording.{IsRecorded}
 use Rattle.dac_weave.specs.Woven.{Gives}
-use Rattle.dac_live_play.specs.Phases.{parts_of, AsksAs}
-use Rattle.dac_live_play.specs.Runs.{IsReport, IsReportOf}
+use Rattle.dac_live_play.specs.Runs.{IsReport}
 use Rattle.dac_live_play.specs.Texts.{run_text}
 use Rattle.dac_live_play.proofs.Owed.{phases_owe}
 use Rattle.dac_live_play.proofs.Reports.{no_error, asks_script, weave_fails}

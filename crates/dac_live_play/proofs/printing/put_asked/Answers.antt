@@ -1,4 +1,4 @@
-use Rattle.dac_live_play.specs.Texts.{callers_text}
+use Rattle.dac_live_play.proofs.Common.{callers_text}
 use Rattle.dac_live_play.proofs.Lines.{put_more}
 use Rattle.dac_live_play.proofs.printing.put_asked.Goals as goal
 

@@ -1,5 +1,5 @@
 use Rattle.std.proofs.Common.{◌≡◌, ◌++◌}
-use Rattle.dac_live_play.specs.Texts.{callers_text}
+use Rattle.dac_live_play.proofs.Common.{callers_text}
 use Rattle.dac_live_play.proofs.Lines.{texts}
 use Rattle.dac_live_play.proofs.printing.put_asked.Given as goal
 

@@ -1,5 +1,5 @@
 use Rattle.std.proofs.Common.{arith}
-use Rattle.dac_live_play.specs.Texts.{own_text}
+use Rattle.dac_live_play.proofs.Common.{own_text}
 use Rattle.dac_live_play.proofs.Placing.{all_placed}
 use Rattle.dac_live_play.proofs.printing.put_caller.Goals as goal
 

@@ -1,5 +1,5 @@
 use Rattle.std.proofs.Common.{◌≡◌, ◌++◌}
-use Rattle.dac_live_play.specs.Texts.{own_text, caller_text}
+use Rattle.dac_live_play.proofs.Common.{own_text, caller_text}
 use Rattle.dac_live_play.proofs.Placing.{left}
 use Rattle.dac_live_play.proofs.printing.put_caller.Given as goal
 

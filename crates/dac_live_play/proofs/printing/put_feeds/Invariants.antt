@@ -1,5 +1,5 @@
 use Rattle.std.proofs.Common.{◌≡◌, ◌++◌, take}
-use Rattle.std.specs.List.{flat_map}
+use Rattle.dac_live_play.proofs.Common.{flat_map}
 use Rattle.dac_live_play.specs.Texts.{feed_text}
 use Rattle.dac_live_play.proofs.printing.put_feeds.Given as goal
 

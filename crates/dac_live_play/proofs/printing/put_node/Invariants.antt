@@ -1,7 +1,6 @@
 use Rattle.std.proofs.Common.{◌≡◌, ◌++◌, take}
-use Rattle.std.specs.List.{flat_map}
+use Rattle.dac_live_play.proofs.Common.{flat_map, caller_text}
 use Rattle.dac_live_play.specs.declared.texts.TheConstants.{CALLER_NUMBERS}
-use Rattle.dac_live_play.specs.Texts.{caller_text}
 use Rattle.dac_live_play.proofs.printing.put_node.Given as goal
 
 abbrev pub invariant-loop-caller : goal.invariant-loop-caller

@@ -1,4 +1,4 @@
-use Rattle.dac_live_play.specs.Texts.{last_text}
+use Rattle.dac_live_play.proofs.Common.{last_text}
 use Rattle.dac_live_play.proofs.Lines.{put_more}
 use Rattle.dac_live_play.proofs.printing.put_pages.Goals as goal
 

@@ -1,5 +1,5 @@
 use Rattle.std.proofs.Common.{◌≡◌, ◌++◌}
-use Rattle.dac_live_play.specs.Texts.{last_text}
+use Rattle.dac_live_play.proofs.Common.{last_text}
 use Rattle.dac_live_play.proofs.Lines.{texts}
 use Rattle.dac_live_play.proofs.printing.put_pages.Given as goal
 

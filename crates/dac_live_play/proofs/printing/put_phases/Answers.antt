@@ -1,7 +1,6 @@
 use Rattle.std.proofs.Common.{◌≡◌, ◌+◌, ◌<◌, ◌++◌, length, map, sym, ap, ◌∙◌, arith}
-use Rattle.std.proofs.lemmas.List.{length-map}
+use Rattle.dac_live_play.proofs.Common.{length-map, phase_text}
 use Rattle.dac_live.specs.Phase.{Phase}
-use Rattle.dac_live_play.specs.Texts.{phase_text}
 use Rattle.dac_live_play.proofs.Asking.{at_map, as_many, asks_at}
 use Rattle.dac_live_play.proofs.Placing.{put_place, all_placed}
 use Rattle.dac_live_play.proofs.printing.put_phases.Goals as goal

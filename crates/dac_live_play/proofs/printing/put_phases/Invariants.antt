@@ -1,5 +1,6 @@
 use Rattle.std.proofs.Common.{◌≡◌, ◌+◌, ◌++◌, map}
-use Rattle.dac_live_play.specs.Texts.{phase_text, phases_text}
+use Rattle.dac_live_play.proofs.Common.{phase_text}
+use Rattle.dac_live_play.specs.Texts.{phases_text}
 use Rattle.dac_live_play.proofs.Placing.{left}
 use Rattle.dac_live_play.proofs.printing.put_phases.Given as goal
 

@@ -1,6 +1,6 @@
 use Rattle.std.proofs.Common.{◌++◌, ◌∷◌, [], replicate, codes, sym, ap, subst, ◌∙◌, arith, true≢false, below_more, append_assoc}
+use Rattle.dac_live_play.proofs.Common.{unknown_name, IsUnused}
 use Rattle.std.proofs.lemmas.List.{replicate_more}
-use Rattle.dac_live_play.specs.Recordings.{unknown_name, IsUnused}
 use Rattle.dac_live_play.proofs.recording.placeholder_name.Goals as goal
 
 pub returns-then-is_unused : goal.returns-then-is_unused

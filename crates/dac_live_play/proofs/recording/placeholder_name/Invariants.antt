@@ -1,5 +1,5 @@
 use Rattle.std.proofs.Common.{◌≡◌, ℕ, ◌<◌}
-use Rattle.dac_live_play.specs.Recordings.{unknown_name, IsUnused}
+use Rattle.dac_live_play.proofs.Common.{unknown_name, IsUnused}
 use Rattle.dac_live_play.proofs.recording.placeholder_name.Given as goal
 
 abbrev pub invariant-loop-underscores : goal.invariant-loop-underscores

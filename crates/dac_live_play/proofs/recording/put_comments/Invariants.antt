@@ -1,5 +1,5 @@
 use Rattle.std.proofs.Common.{◌≡◌, ◌++◌, map, take}
-use Rattle.std.specs.List.{flat_map}
+use Rattle.dac_live_play.proofs.Common.{flat_map}
 use Rattle.dac_live_play.specs.Recordings.{comment}
 use Rattle.dac_live_play.proofs.recording.put_comments.Given as goal
 

@@ -1,5 +1,5 @@
 use Rattle.std.proofs.Common.{◌≡◌, ◌++◌, take}
-use Rattle.std.specs.List.{flat_map}
+use Rattle.dac_live_play.proofs.Common.{flat_map}
 use Rattle.dac_live_play.specs.Recordings.{event_text}
 use Rattle.dac_live_play.proofs.recording.put_events.Given as goal
 

@@ -1,5 +1,5 @@
 use Rattle.std.proofs.Common.{◌++◌, [], ◌∷◌, ap, ◌∙◌, append_assoc}
-use Rattle.dac_live_play.specs.Recordings.{page_line}
+use Rattle.dac_live_play.proofs.Common.{page_line}
 use Rattle.dac_live_play.proofs.Lines.{put_more}
 use Rattle.dac_live_play.proofs.recording.put_page_lines.Goals as goal
 

@@ -1,5 +1,5 @@
 use Rattle.std.proofs.Common.{◌≡◌, ◌++◌}
-use Rattle.dac_live_play.specs.Recordings.{page_line}
+use Rattle.dac_live_play.proofs.Common.{page_line}
 use Rattle.dac_live_play.proofs.Lines.{texts}
 use Rattle.dac_live_play.proofs.recording.put_page_lines.Given as goal
 

@@ -1,9 +1,5 @@
 use Rattle.std.proofs.Common.{◌≡◌, ◌≤◌, ◌↔◌, false, List, length, refl, sym, subst, ◌∙◌}
-use Rattle.std.specs.Prelude.{IsTrue}
-use Rattle.dac_config.specs.Canonical.{canonical_text}
-use Rattle.dac_shapes.specs.declared.limits.TheConstants.{MAX_TEXT}
-use Rattle.dac_script.specs.declared.line.ScriptLine.{ScriptLine}
-use Rattle.dac_live_play.specs.Recordings.{run_lines}
+use Rattle.dac_live_play.proofs.Common.{IsTrue, canonical_text, MAX_TEXT, ScriptLine, run_lines}
 use Rattle.dac_live_play.proofs.Sayings.{same_head, other_head, unparted, parted_once, unsaid, says_by, unsaid_by}
 use Rattle.dac_live_play.proofs.saying.is_said.Goals as goal
 

@@ -1,7 +1,6 @@
 use Rattle.std.proofs.Common.{◌<◌, rules, arith, get_or, map, sym, ap, ◌∙◌, true≢false}
-use Rattle.std.specs.List.{range_with_len}
-use Rattle.std.proofs.lemmas.List.FromFn.{get_or-map-range_with_len, length-map-range_with_len}
-use Rattle.dac_config.specs.Table.{node_count}
+use Rattle.dac_live_play.proofs.Common.{range_with_len, length-map-range_with_len, node_count}
+use Rattle.std.proofs.lemmas.List.FromFn.{get_or-map-range_with_len}
 use Rattle.dac_script.specs.declared.line.ScriptLine.TheVariants as says
 use Rattle.dac_live_play.proofs.Lines.{numbered}
 use Rattle.dac_live_play.proofs.Sayings.{say_next, say_here}

@@ -1,5 +1,5 @@
 use Rattle.std.proofs.Common.{◌≡◌, map, take}
-use Rattle.std.specs.List.{range_with_len}
+use Rattle.dac_live_play.proofs.Common.{range_with_len}
 use Rattle.dac_script.specs.declared.line.ScriptLine.TheVariants as says
 use Rattle.dac_live_play.proofs.Lines.{numbered}
 use Rattle.dac_live_play.proofs.saying.say_pages.Given as goal

@@ -1,5 +1,5 @@
 use Rattle.std.proofs.Common.{◌≡◌, ◌+◌, length, sym, ap, ◌∙◌, arith, true≢false}
-use Rattle.dac_config.specs.Table.{node_count}
+use Rattle.dac_live_play.proofs.Common.{node_count}
 use Rattle.dac_live_play.proofs.Sayings.{run_length}
 use Rattle.dac_live_play.proofs.saying.say_run.Goals as goal
 use Rattle.dac_live_play.proofs.saying.say_run.Goals.{then-lines-events-via-then-lines-events, then-lines-events-via-else-lines-events+then-lines-events-2}

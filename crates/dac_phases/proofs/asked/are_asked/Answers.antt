@@ -1,9 +1,8 @@
 use Rattle.std.proofs.Common.{◌≡◌, ◌++◌, ◌∷◌, [], ◌<◌, length, map, take, Some, None, Bor, sym, ap, ◌∙◌, arith, append-nil}
-use Rattle.dac_messages.specs.declared.event.Event.{Event}
-use Rattle.dac_crews.specs.Compared.{found, event_one}
-use Rattle.std.proofs.lemmas.Bool.{false≢true, eqb-true, eq-eqb}
-use Rattle.std.proofs.lemmas.List.{length-map, take_all}
-use Rattle.dac_workers.specs.laws.Found.{found_more, taken_more, found_within, found_same, found_all}
+use Rattle.dac_phases.specs.laws.Common.{Event, found, event_one, false≢true, eq-eqb, length-map, found_more}
+use Rattle.std.proofs.lemmas.Bool.{eqb-true}
+use Rattle.std.proofs.lemmas.List.{take_all}
+use Rattle.dac_workers.specs.laws.Found.{taken_more, found_within, found_same, found_all}
 use Rattle.dac_phases.proofs.asked.are_asked.Goals as goal
 use Rattle.dac_phases.proofs.asked.are_asked.Goals.{in-Some+else-next-asked+else-not-equal, in-None}
 

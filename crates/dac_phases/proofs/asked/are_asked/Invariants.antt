@@ -1,5 +1,5 @@
 use Rattle.std.proofs.Common.{◌≡◌, ◌≤◌, take, map, length}
-use Rattle.dac_crews.specs.Compared.{found, event_one}
+use Rattle.dac_phases.specs.laws.Common.{found, event_one}
 use Rattle.dac_phases.proofs.asked.are_asked.Given as goal
 
 abbrev pub invariant-loop-i : goal.invariant-loop-i

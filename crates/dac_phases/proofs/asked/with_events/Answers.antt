@@ -1,8 +1,5 @@
 use Rattle.std.proofs.Common.{◌+◌, ◌++◌, ◌∷◌, [], take, map, Some, None, Bor, sym, ap, ◌∙◌, append-nil}
-use Rattle.std.proofs.lemmas.List.{map_push}
-use Rattle.dac_messages.specs.declared.event.Event.{Event}
-use Rattle.dac_crews.specs.Compared.{found}
-use Rattle.dac_phases.specs.Asks.{ask_one}
+use Rattle.dac_phases.specs.laws.Common.{map_push, Event, found, ask_one}
 use Rattle.dac_phases.specs.laws.Spoken.{found_on}
 use Rattle.dac_phases.proofs.asked.with_events.Goals as goal
 use Rattle.dac_phases.proofs.asked.with_events.Goals.{in-Some+in_ok-push-in-Some, in-None}

@@ -1,6 +1,5 @@
 use Rattle.std.proofs.Common.{◌≡◌, ◌++◌, take, map}
-use Rattle.dac_crews.specs.Compared.{found}
-use Rattle.dac_phases.specs.Asks.{ask_one}
+use Rattle.dac_phases.specs.laws.Common.{found, ask_one}
 use Rattle.dac_phases.proofs.asked.with_events.Given as goal
 
 abbrev pub invariant-loop-i : goal.invariant-loop-i

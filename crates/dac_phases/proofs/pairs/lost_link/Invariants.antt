@@ -1,5 +1,6 @@
 use Rattle.std.proofs.Common.{ℕ, ◌<◌}
-use Rattle.dac_phases.specs.Pairs.{RowHolds, records_at}
+use Rattle.dac_phases.specs.laws.Common.{records_at}
+use Rattle.dac_phases.specs.Pairs.{RowHolds}
 use Rattle.dac_phases.proofs.pairs.lost_link.Given as goal
 
 abbrev pub invariant-loop-from : goal.invariant-loop-from

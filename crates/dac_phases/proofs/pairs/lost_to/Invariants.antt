@@ -1,6 +1,5 @@
 use Rattle.std.proofs.Common.{ℕ, ◌<◌, ◌≢◌}
-use Rattle.dac_crews.specs.Compared.{Linked}
-use Rattle.dac_phases.specs.Pairs.{shipper_seat, worker_seat, records_at}
+use Rattle.dac_phases.specs.laws.Common.{Linked, shipper_seat, worker_seat, records_at}
 use Rattle.dac_phases.proofs.pairs.lost_to.Given as goal
 
 abbrev pub invariant-loop-to : goal.invariant-loop-to

@@ -1,6 +1,5 @@
 use Rattle.std.proofs.Common.{◌≡◌, ◌*◌, arith}
-use Rattle.std.proofs.lemmas.Bool.{false≢true}
-use Rattle.dac_phases.specs.Pairs.{shipper_seat, worker_seat}
+use Rattle.dac_phases.specs.laws.Common.{false≢true, shipper_seat, worker_seat}
 use Rattle.dac_phases.proofs.Shipped.{linked, heard_of, ships_of}
 use Rattle.dac_phases.proofs.pairs.pair_holds.Goals as goal
 

@@ -1,6 +1,5 @@
 use Rattle.std.proofs.Common.{◌≡◌, arith}
-use Rattle.dac_crews.specs.Compared.{found, event_one}
-use Rattle.dac_phases.specs.Asks.{ask_one}
+use Rattle.dac_phases.specs.laws.Common.{found, event_one, ask_one}
 use Rattle.dac_phases.specs.laws.Spoken.{from_one}
 use Rattle.dac_phases.proofs.phases.ask_lines.Goals as goal
 

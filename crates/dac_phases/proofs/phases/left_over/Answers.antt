@@ -1,5 +1,5 @@
 use Rattle.std.proofs.Common.{◌≡◌, All, List, [], Bor, map, take_all, subst}
-use Rattle.dac_crews.specs.Record.{Record}
+use Rattle.dac_phases.specs.laws.Common.{Record}
 use Rattle.dac_phases.proofs.Parted.{empty_more}
 use Rattle.dac_phases.proofs.phases.left_over.Goals as goal
 

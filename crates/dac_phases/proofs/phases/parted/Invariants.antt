@@ -1,5 +1,5 @@
 use Rattle.std.proofs.Common.{◌≡◌, length, map, take}
-use Rattle.dac_phases.specs.Phases.{AreParted}
+use Rattle.dac_phases.specs.laws.Common.{AreParted}
 use Rattle.dac_phases.proofs.phases.parted.Given as goal
 
 abbrev pub invariant-loop-i : goal.invariant-loop-i

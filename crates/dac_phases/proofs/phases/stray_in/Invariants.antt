@@ -1,5 +1,6 @@
 use Rattle.std.proofs.Common.{◌<◌, ℕ, map}
-use Rattle.dac_phases.specs.Phases.{part_at, AskLines, UseLinks}
+use Rattle.dac_phases.specs.laws.Common.{part_at}
+use Rattle.dac_phases.specs.Phases.{AskLines, UseLinks}
 use Rattle.dac_phases.proofs.phases.stray_in.Given as goal
 
 abbrev pub invariant-loop-i : goal.invariant-loop-i

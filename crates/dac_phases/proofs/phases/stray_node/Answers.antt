@@ -1,8 +1,5 @@
 use Rattle.std.proofs.Common.{◌≡◌, All, List, [], Bor, length, map, ap, subst, arith}
-use Rattle.std.proofs.lemmas.List.{length-map}
-use Rattle.dac_crews.specs.Record.{Record}
-use Rattle.dac_crews.specs.Journals.{JournalValue}
-use Rattle.dac_phases.specs.Phases.{AreParted, PhaseHolds, ArePhased, FallIntoPhases}
+use Rattle.dac_phases.specs.laws.Common.{length-map, Record, JournalValue, AreParted, PhaseHolds, ArePhased, FallIntoPhases}
 use Rattle.dac_phases.proofs.Parted.{falls_on, falls_last}
 use Rattle.dac_phases.proofs.phases.stray_node.Goals as goal
 

@@ -1,6 +1,6 @@
 use Rattle.std.proofs.Common.{◌≤◌, length, map, drop}
+use Rattle.dac_phases.specs.laws.Common.{ArePhased, FallIntoPhases}
 use Rattle.dac_base.specs.declared.limits.TheConstants.{MAX_NODES}
-use Rattle.dac_phases.specs.Phases.{ArePhased, FallIntoPhases}
 use Rattle.dac_phases.proofs.phases.stray_node.Given as goal
 
 abbrev pub invariant-loop-i : goal.invariant-loop-i

@@ -1,7 +1,5 @@
 use Rattle.std.proofs.Common.{◌<◌, ◌≢◌, ℕ, map}
-use Rattle.dac_crews.specs.Compared.{Linked}
-use Rattle.dac_phases.specs.Pairs.{shipper_seat, worker_seat}
-use Rattle.dac_phases.specs.Phases.{part_at}
+use Rattle.dac_phases.specs.laws.Common.{Linked, shipper_seat, worker_seat, part_at}
 use Rattle.dac_phases.proofs.phases.use_links.Given as goal
 
 abbrev pub invariant-loop-to : goal.invariant-loop-to

@@ -1,6 +1,5 @@
 use Rattle.std.proofs.Common.{All, length, take}
-use Rattle.dac_crews.specs.Journals.{JournalValue}
-use Rattle.dac_phases.specs.Pairs.{AreOfSeats}
+use Rattle.dac_phases.specs.laws.Common.{JournalValue, AreOfSeats}
 use Rattle.dac_phases.proofs.seats.check_seats.Given as goal
 
 abbrev pub invariant-loop-i : goal.invariant-loop-i

@@ -1,5 +1,5 @@
 use Rattle.std.proofs.Common.{take}
-use Rattle.dac_phases.specs.Pairs.{AreOfSeats}
+use Rattle.dac_phases.specs.laws.Common.{AreOfSeats}
 use Rattle.dac_phases.proofs.seats.strange_place.Given as goal
 
 abbrev pub invariant-loop-i : goal.invariant-loop-i

@@ -1,6 +1,6 @@
 use Rattle.std.proofs.Common.{◌≡◌, take}
+use Rattle.dac_play.proofs.Common.{pairs_of}
 use Rattle.std.specs.Prelude.{flat_map}
-use Rattle.dac_play.specs.Pairs.{pairs_of}
 use Rattle.dac_play.proofs.pairs.all_pairs.Given as goal
 
 abbrev pub invariant-loop-from : goal.invariant-loop-from

@@ -1,5 +1,5 @@
 use Rattle.std.proofs.Common.{◌≡◌, ◌++◌, take}
-use Rattle.dac_play.specs.Pairs.{pairs_of}
+use Rattle.dac_play.proofs.Common.{pairs_of}
 use Rattle.dac_play.proofs.pairs.push_pairs.Given as goal
 
 abbrev pub invariant-loop-to : goal.invariant-loop-to

@@ -1,5 +1,5 @@
 use Rattle.std.proofs.Common.{sym, ap, ◌∙◌}
-use Rattle.dac_play.specs.Play.{state_at}
+use Rattle.dac_play.proofs.Common.{state_at}
 use Rattle.dac_play.proofs.Shares.{having_with, having_without}
 use Rattle.dac_play.proofs.sharing.running.Goals as goal
 use Rattle.dac_play.proofs.sharing.running.Goals.{then-runs+in_ok-push, else-runs}

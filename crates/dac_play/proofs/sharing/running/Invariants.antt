@@ -1,6 +1,5 @@
 use Rattle.std.proofs.Common.{◌≡◌}
-use Rattle.dac_play.specs.Play.{state_at}
-use Rattle.dac_play.specs.Sharing.{having_state}
+use Rattle.dac_play.proofs.Common.{state_at, having_state}
 use Rattle.dac_play.proofs.sharing.running.Given as goal
 
 abbrev pub invariant-loop-number : goal.invariant-loop-number

@@ -1,5 +1,5 @@
 use Rattle.std.proofs.Common.{ap, ◌∙◌, refl, rules}
-use Rattle.dac_play.specs.Pairs.{pairs}
+use Rattle.dac_play.proofs.Common.{pairs}
 use Rattle.dac_play.proofs.Shares.{share_more, share_all, shares_all}
 use Rattle.dac_play.proofs.sharing.share.Goals as goal
 

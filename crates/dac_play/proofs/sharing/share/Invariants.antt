@@ -1,6 +1,5 @@
 use Rattle.std.proofs.Common.{◌≡◌, length, take}
-use Rattle.std.specs.Prelude.{fold}
-use Rattle.dac_play.specs.Sharing.{after_telling, Leads}
+use Rattle.dac_play.proofs.Common.{fold, after_telling, Leads}
 use Rattle.dac_play.proofs.sharing.share.Given as goal
 
 abbrev pub invariant-loop-pair : goal.invariant-loop-pair

@@ -1,5 +1,5 @@
 use Rattle.std.proofs.Common.{◌≡◌, length}
-use Rattle.dac_config.specs.Table.{node_count}
+use Rattle.dac_play.proofs.Common.{node_count}
 use Rattle.dac_play.proofs.Playing.{IsPlayed}
 use Rattle.dac_play.proofs.sim.play.Given as goal
 

@@ -1,5 +1,5 @@
 use Rattle.std.proofs.Common.{◌*◌, ◌++◌, length, drop, ap, ◌∙◌}
-use Rattle.hex.specs.Hex.{encode_lower}
+use Rattle.dac_play.proofs.Common.{encode_lower}
 use Rattle.dac_play.proofs.Digits.{line_is}
 use Rattle.dac_play.proofs.texts.hex_line.Goals as goal
 

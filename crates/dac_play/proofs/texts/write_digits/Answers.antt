@@ -1,6 +1,6 @@
 use Rattle.std.proofs.Common.{ℕ, ◌+◌, ◌*◌, ◌++◌, length, take, drop, slice_index, slice_set, refl, ap, ◌∙◌, arith}
+use Rattle.dac_play.proofs.Common.{encode_lower, lower_digits}
 use Rattle.std.proofs.lemmas.List.{length-set, drop-set-lt, set_comm}
-use Rattle.hex.specs.Hex.{encode_lower, lower_digits}
 use Rattle.hex.proofs.Pairs.{encode_step}
 use Rattle.dac_play.specs.declared.texts.TheConstants.{DIGITS}
 use Rattle.dac_play.proofs.Digits.{all_written, pair_at}

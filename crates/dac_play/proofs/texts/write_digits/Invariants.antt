@@ -1,5 +1,5 @@
 use Rattle.std.proofs.Common.{◌≡◌, ◌*◌, ◌++◌, length, take, drop}
-use Rattle.hex.specs.Hex.{encode_lower}
+use Rattle.dac_play.proofs.Common.{encode_lower}
 use Rattle.dac_play.proofs.texts.write_digits.Given as goal
 
 abbrev pub invariant-loop-at : goal.invariant-loop-at

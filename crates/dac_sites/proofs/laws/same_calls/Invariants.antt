@@ -1,5 +1,5 @@
 use Rattle.std.proofs.Common.{◌≡◌, ◌≤◌, length, take}
-use Rattle.dac_journal.specs.Journals.{calls_of}
+use Rattle.dac_sites.specs.laws.Common.{calls_of}
 use Rattle.dac_sites.proofs.laws.same_calls.Given as goal
 
 abbrev pub invariant-loop-i : goal.invariant-loop-i

@@ -1,7 +1,5 @@
 use Rattle.std.proofs.Common.{subst}
-use Rattle.dac_messages.specs.declared.event.Event.{Event}
-use Rattle.dac_journal.specs.NodeValue.{NodeValue}
-use Rattle.dac_sites.specs.Replayed.{GoesOn}
+use Rattle.dac_sites.specs.laws.Common.{Event, NodeValue, GoesOn}
 use Rattle.dac_sites.proofs.Bringing.{goes_on}
 use Rattle.dac_sites.proofs.replaying.go_on.Goals as goal
 

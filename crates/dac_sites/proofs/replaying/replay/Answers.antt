@@ -1,7 +1,5 @@
 use Rattle.std.proofs.Common.{take, ap, ◌∙◌}
-use Rattle.dac_journal.specs.ModelNode.{shown}
-use Rattle.dac_journal.specs.Journals.{beginning_of}
-use Rattle.dac_sites.specs.Paged.{node_after}
+use Rattle.dac_sites.specs.laws.Common.{shown, beginning_of, node_after}
 use Rattle.dac_sites.proofs.Bringing.{node_more}
 use Rattle.dac_sites.proofs.replaying.replay.Goals as goal
 

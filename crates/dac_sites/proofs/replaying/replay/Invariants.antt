@@ -1,7 +1,5 @@
 use Rattle.std.proofs.Common.{◌≡◌, take}
-use Rattle.dac_journal.specs.ModelNode.{shown}
-use Rattle.dac_journal.specs.Journals.{beginning_of}
-use Rattle.dac_sites.specs.Paged.{node_after}
+use Rattle.dac_sites.specs.laws.Common.{shown, beginning_of, node_after}
 use Rattle.dac_sites.proofs.replaying.replay.Given as goal
 
 abbrev pub invariant-loop-i : goal.invariant-loop-i

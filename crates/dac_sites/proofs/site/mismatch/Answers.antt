@@ -1,6 +1,5 @@
 use Rattle.std.proofs.Common.{◌≡◌, All, subst, take_all}
-use Rattle.dac_journal.specs.Journals.{calls_of, DifferAt}
-use Rattle.dac_sites.specs.Seats.{SeatValue}
+use Rattle.dac_sites.specs.laws.Common.{calls_of, DifferAt, SeatValue}
 use Rattle.dac_sites.specs.laws.Apart.{seat_differs}
 use Rattle.dac_sites.proofs.site.mismatch.Goals as goal
 

@@ -1,5 +1,5 @@
 use Rattle.std.proofs.Common.{◌≡◌, take, All}
-use Rattle.dac_journal.specs.Journals.{calls_of}
+use Rattle.dac_sites.specs.laws.Common.{calls_of}
 use Rattle.dac_sites.proofs.site.mismatch.Given as goal
 
 abbrev pub invariant-loop-seat : goal.invariant-loop-seat

@@ -1,7 +1,6 @@
 use Rattle.std.proofs.Common.{All, refl, subst, take_all}
+use Rattle.dac_sites.specs.laws.Common.{Record, IsOneOf}
 use Rattle.std.proofs.lemmas.List.Elements.{All-more}
-use Rattle.dac_journal.specs.declared.record.Record.{Record}
-use Rattle.dac_sites.specs.Seats.{IsOneOf}
 use Rattle.dac_sites.specs.laws.Apart.{stranger_at}
 use Rattle.dac_sites.proofs.site.unseated_record.Goals as goal
 

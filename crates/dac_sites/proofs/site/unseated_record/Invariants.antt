@@ -1,5 +1,5 @@
 use Rattle.std.proofs.Common.{take, All}
-use Rattle.dac_sites.specs.Seats.{IsOneOf}
+use Rattle.dac_sites.specs.laws.Common.{IsOneOf}
 use Rattle.dac_sites.proofs.site.unseated_record.Given as goal
 
 abbrev pub invariant-loop-i : goal.invariant-loop-i

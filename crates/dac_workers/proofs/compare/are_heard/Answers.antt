@@ -1,9 +1,6 @@
 use Rattle.std.proofs.Common.{◌≡◌, ◌++◌, ◌∷◌, [], ◌<◌, length, map, take, Some, None, Bor, sym, ap, ◌∙◌, arith, append-nil}
-use Rattle.dac_messages.specs.declared.event.Event.TheVariants.{Hear}
-use Rattle.dac_messages.specs.declared.message.Message.{Message}
-use Rattle.dac_workers.specs.Compared.{found, event_one}
-use Rattle.std.proofs.lemmas.Bool.{false≢true, eqb-true, eq-eqb}
-use Rattle.std.proofs.lemmas.List.{length-map, take_all}
+use Rattle.dac_workers.specs.laws.Common.{Hear, Message, found, event_one, false≢true, eqb-true, eq-eqb, length-map}
+use Rattle.std.proofs.lemmas.List.{take_all}
 use Rattle.dac_workers.specs.laws.Found.{found_more, taken_more, found_within, found_same, found_all}
 use Rattle.dac_workers.proofs.compare.are_heard.Goals as goal
 use Rattle.dac_workers.proofs.compare.are_heard.Goals.{in-Some+else-next-sent+else-not-is_heard, in-None}

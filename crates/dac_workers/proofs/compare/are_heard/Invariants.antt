@@ -1,6 +1,5 @@
 use Rattle.std.proofs.Common.{◌≡◌, ◌≤◌, take, map, length}
-use Rattle.dac_messages.specs.declared.event.Event.TheVariants.{Hear}
-use Rattle.dac_workers.specs.Compared.{found, event_one}
+use Rattle.dac_workers.specs.laws.Common.{Hear, found, event_one}
 use Rattle.dac_workers.proofs.compare.are_heard.Given as goal
 
 abbrev pub invariant-loop-i : goal.invariant-loop-i

@@ -1,7 +1,5 @@
 use Rattle.std.proofs.Common.{◌≡◌, ◌+◌, ◌++◌, ◌∷◌, [], suc, length, take, Some, None, sym, ap, ◌∙◌, arith, append-nil}
-use Rattle.dac_workers.specs.Compared.{found, event_one}
-use Rattle.dac_workers.specs.Links.{ships_to}
-use Rattle.std.proofs.lemmas.Bool.{false≢true, eqb-true, eq-eqb}
+use Rattle.dac_workers.specs.laws.Common.{found, event_one, ships_to, false≢true, eqb-true, eq-eqb}
 use Rattle.std.proofs.lemmas.List.{take_all}
 use Rattle.dac_workers.specs.laws.Found.{found_more, stands}
 use Rattle.dac_workers.proofs.Shipping.{ships_push, ships_many, ships_each}

@@ -1,6 +1,5 @@
 use Rattle.std.proofs.Common.{◌≡◌, ◌≤◌, take}
-use Rattle.dac_workers.specs.Compared.{found, event_one}
-use Rattle.dac_workers.specs.Links.{ships_to}
+use Rattle.dac_workers.specs.laws.Common.{found, event_one, ships_to}
 use Rattle.dac_workers.proofs.compare.are_ships.Given as goal
 
 abbrev pub invariant-loop-i : goal.invariant-loop-i

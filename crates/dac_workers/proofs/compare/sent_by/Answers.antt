@@ -1,7 +1,6 @@
 use Rattle.std.proofs.Common.{◌+◌, ◌++◌, ◌∷◌, [], take, map, Some, None, Bor, sym, ap, ◌∙◌, append-nil}
+use Rattle.dac_workers.specs.laws.Common.{Message, found, sent_one}
 use Rattle.std.proofs.lemmas.List.{map_push}
-use Rattle.dac_messages.specs.declared.message.Message.{Message}
-use Rattle.dac_workers.specs.Compared.{found, sent_one}
 use Rattle.dac_workers.specs.laws.Found.{found_more}
 use Rattle.dac_workers.proofs.compare.sent_by.Goals as goal
 use Rattle.dac_workers.proofs.compare.sent_by.Goals.{in-Some+in_ok-push-in-Some, in-None}

@@ -1,5 +1,5 @@
 use Rattle.std.proofs.Common.{◌≡◌, take, map}
-use Rattle.dac_workers.specs.Compared.{found, sent_one}
+use Rattle.dac_workers.specs.laws.Common.{found, sent_one}
 use Rattle.dac_workers.proofs.compare.sent_by.Given as goal
 
 abbrev pub invariant-loop-i : goal.invariant-loop-i

@@ -1,6 +1,5 @@
 use Rattle.std.proofs.Common.{◌++◌, ◌∷◌, [], refl, sym, ap, ◌∙◌}
-use Rattle.crossbeam_channel.specs.Claims.{view}
-use Rattle.dac_wire.specs.Decoding.{packet_at}
+use Rattle.dac_workers.specs.laws.Common.{view, packet_at}
 use Rattle.dac_workers.proofs.Shipping.{hears_none, hears_more}
 use Rattle.dac_workers.proofs.links.hear_by.Goals as goal
 

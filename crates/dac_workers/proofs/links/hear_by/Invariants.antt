@@ -1,7 +1,6 @@
 use Rattle.std.proofs.Common.{◌≡◌, []}
-use Rattle.crossbeam_channel.specs.Claims.{view}
+use Rattle.dac_workers.specs.laws.Common.{view, Hears}
 use Rattle.crossbeam_channel.specs.Ends.{receives_on}
-use Rattle.dac_workers.specs.Links.{Hears}
 use Rattle.dac_workers.proofs.links.hear_by.Given as goal
 
 abbrev pub invariant-loop : goal.invariant-loop

@@ -1,8 +1,6 @@
 use Rattle.std.proofs.Common.{subst, Ok}
+use Rattle.dac_workers.specs.laws.Common.{Ship, CallAdded, IsLetterOf}
 use Rattle.std.proofs.lemmas.Result.{on_ok_weaker}
-use Rattle.dac_messages.specs.declared.event.Event.TheVariants.{Ship}
-use Rattle.dac_sites.specs.Added.{CallAdded}
-use Rattle.dac_workers.specs.Letters.{IsLetterOf}
 use Rattle.dac_workers.proofs.Shipping.{ships_letter}
 use Rattle.dac_workers.proofs.links.ship_once.Goals as goal
 

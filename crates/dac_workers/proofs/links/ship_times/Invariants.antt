@@ -1,7 +1,6 @@
 use Rattle.std.proofs.Common.{◌≡◌, []}
-use Rattle.crossbeam_channel.specs.Claims.{view}
+use Rattle.dac_workers.specs.laws.Common.{view, Ships}
 use Rattle.crossbeam_channel.specs.Ends.{sends_on}
-use Rattle.dac_workers.specs.Links.{Ships}
 use Rattle.dac_workers.proofs.links.ship_times.Given as goal
 
 abbrev pub invariant-loop-count : goal.invariant-loop-count

@@ -1,11 +1,7 @@
 use Rattle.std.proofs.Common.{◌≡◌, ◌∙◌, get_or, sym, ap, subst, Err, Some}
-use Rattle.dac_messages.specs.declared.message.Message.{Message}
-use Rattle.dac_messages.specs.declared.event.Event.TheVariants.{Crash, Hear}
-use Rattle.dac_events.specs.declared.world_fault.WorldFault.TheVariants.{Refused}
-use Rattle.dac_settle.specs.dac_model_world.WorldValue.{WorldValue}
-use Rattle.dac_settle.specs.dac_model_world.ModelWorld.{heard_by, counted}
-use Rattle.dac_settle.specs.dac_model_world.AtNode.{HappensAt}
-use Rattle.dac_settle.specs.dac_model_world.laws.Follow.{node_at, happens_refused}
+use Rattle.dac_core.proofs.Common.{Message, Crash, Refused, WorldValue, counted, HappensAt, node_at, happens_refused}
+use Rattle.dac_messages.specs.declared.event.Event.TheVariants.{Hear}
+use Rattle.dac_settle.specs.dac_model_world.ModelWorld.{heard_by}
 use Rattle.dac_core.proofs.Readiness.{prepared_at, message_by_dots}
 use Rattle.dac_core.proofs.cluster.Cluster.deliver.Goals as goal
 

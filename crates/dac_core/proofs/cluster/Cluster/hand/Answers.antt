@@ -1,11 +1,7 @@
 use Rattle.std.proofs.Common.{◌≡◌, ◌∙◌, get_or, sym, ap, subst, Err, Some}
-use Rattle.dac_operations.specs.Operations.{Operation}
-use Rattle.dac_messages.specs.declared.event.Event.TheVariants.{Crash, HearOp}
-use Rattle.dac_events.specs.declared.world_fault.WorldFault.TheVariants.{Refused}
-use Rattle.dac_settle.specs.dac_model_world.WorldValue.{WorldValue}
-use Rattle.dac_settle.specs.dac_model_world.ModelWorld.{handed_by, counted}
-use Rattle.dac_settle.specs.dac_model_world.AtNode.{HappensAt}
-use Rattle.dac_settle.specs.dac_model_world.laws.Follow.{node_at, happens_refused}
+use Rattle.dac_core.proofs.Common.{Operation, Crash, Refused, WorldValue, counted, HappensAt, node_at, happens_refused}
+use Rattle.dac_messages.specs.declared.event.Event.TheVariants.{HearOp}
+use Rattle.dac_settle.specs.dac_model_world.ModelWorld.{handed_by}
 use Rattle.dac_core.proofs.Readiness.{prepared_at, operation_by_dot}
 use Rattle.dac_core.proofs.cluster.Cluster.hand.Goals as goal
 

@@ -1,6 +1,5 @@
 use Rattle.std.proofs.Common.{◌≡◌, get_or, refl, subst, Ok}
-use Rattle.dac_settle.specs.dac_model_world.WorldValue.{WorldValue}
-use Rattle.dac_settle.specs.dac_model_world.laws.Follow.{node_at, happens_refused}
+use Rattle.dac_core.proofs.Common.{WorldValue, node_at, happens_refused}
 use Rattle.dac_core.proofs.Readiness.{prepared_at}
 use Rattle.dac_core.proofs.cluster.Cluster.happen.Goals as goal
 

@@ -1,8 +1,6 @@
 use Rattle.std.specs.Prelude.{Ok, Err, IfOk, IfErr}
 use Rattle.std.proofs.Common.{subst}
-use Rattle.dac_settle.specs.dac_model_world.WorldValue.{WorldValue}
-use Rattle.dac_settle.specs.dac_model_world.AtNode.{HappensAt}
-use Rattle.dac_core.specs.Ready.{IsPreparedAt}
+use Rattle.dac_core.proofs.Common.{WorldValue, HappensAt, IsPreparedAt}
 use Rattle.dac_core.proofs.cluster.Cluster.happen_by_itself.Goals as goal
 
 pub returns-clause-prepared : goal.returns-clause-prepared

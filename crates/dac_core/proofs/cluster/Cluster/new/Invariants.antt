@@ -1,6 +1,6 @@
 use Rattle.std.proofs.Common.{◌≡◌, ℕ, cond, Some, None, length}
+use Rattle.dac_core.proofs.Common.{slice_get}
 use Rattle.std.specs.Prelude.{nat_lt}
-use Rattle.std.specs.List.{slice_get}
 use Rattle.dac_settle.specs.dac_model_world.NodeValue.{off}
 use Rattle.dac_core.proofs.cluster.Cluster.new.Given as goal
 

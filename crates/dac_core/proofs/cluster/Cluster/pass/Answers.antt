@@ -1,8 +1,5 @@
 use Rattle.std.proofs.Common.{◌<◌, Err, length, refl, rules, sym, subst}
-use Rattle.dac_settle.specs.dac_model_world.WorldValue.{WorldValue}
-use Rattle.dac_settle.specs.dac_model_world.ModelWorld.{event_of}
-use Rattle.dac_settle.specs.dac_model_world.Made.{IsMade}
-use Rattle.dac_settle.specs.dac_model_world.laws.Follow.{follows_in}
+use Rattle.dac_core.proofs.Common.{WorldValue, event_of, IsMade, follows_in}
 use Rattle.dac_core.proofs.Readiness.{passed_at, made_past, stayed_at}
 use Rattle.dac_core.proofs.cluster.Cluster.pass.Goals as goal
 

@@ -1,8 +1,5 @@
 use Rattle.std.proofs.Common.{Err, IfOk, IfErr, sym, subst}
-use Rattle.dac_events.specs.declared.What.{What}
-use Rattle.dac_settle.specs.dac_model_world.ModelWorld.{event_of}
-use Rattle.dac_settle.specs.dac_model_world.AtNode.{HappensAt}
-use Rattle.dac_core.specs.Ready.{IsPreparedAt}
+use Rattle.dac_core.proofs.Common.{What, event_of, HappensAt, IsPreparedAt}
 use Rattle.dac_core.proofs.cluster.Cluster.prepare_at.Goals as goal
 
 pub returns-in-Deliver-clause-prepared : goal.returns-in-Deliver-clause-prepared

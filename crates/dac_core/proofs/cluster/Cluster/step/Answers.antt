@@ -1,8 +1,6 @@
 use Rattle.std.proofs.Common.{◌<◌, Err, length, rules, sym, subst}
-use Rattle.dac_settle.specs.dac_model_world.WorldValue.{WorldValue}
-use Rattle.dac_settle.specs.dac_model_world.ModelWorld.{event_of}
-use Rattle.dac_settle.specs.dac_model_world.Made.{IsMade}
-use Rattle.dac_settle.specs.dac_model_world.laws.Follow.{follows_in, hears_in}
+use Rattle.dac_core.proofs.Common.{WorldValue, event_of, IsMade, follows_in}
+use Rattle.dac_settle.specs.dac_model_world.laws.Follow.{hears_in}
 use Rattle.dac_core.proofs.Readiness.{gone_at, made_at, stayed_at}
 use Rattle.dac_core.proofs.cluster.Cluster.step.Goals as goal
 

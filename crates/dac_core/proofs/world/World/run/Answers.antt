@@ -1,13 +1,8 @@
 use Rattle.std.proofs.Common.{◌≡◌, ℕ, ◌+◌, ◌≤◌, List, Result, cond, true, ap, ◌∙◌, rules, take, take_all, get_or, length, vec_len}
+use Rattle.dac_core.proofs.Common.{Table, WorldEvent, Reply, WorldFault, WorldValue, RanAs}
 use Rattle.std.specs.Prelude.{is_ok}
 use Rattle.std.proofs.lemmas.List.{get_or_default}
-use Rattle.dac_config.specs.Table.{Table}
-use Rattle.dac_events.specs.declared.WorldEvent.{WorldEvent}
 use Rattle.dac_events.specs.declared.What.TheVariants.{Boot}
-use Rattle.dac_messages.specs.declared.reply.Reply.{Reply}
-use Rattle.dac_events.specs.declared.world_fault.WorldFault.{WorldFault}
-use Rattle.dac_settle.specs.dac_model_world.WorldValue.{WorldValue}
-use Rattle.dac_settle.specs.dac_model_world.ModelWorld.{RanAs}
 use Rattle.dac_settle.specs.dac_model_world.laws.Runs.{ran_next}
 use Rattle.dac_core.proofs.world.World.run.Goals as goal
 

@@ -1,7 +1,7 @@
 use Rattle.std.proofs.Common.{◌≡◌, ◌≤◌, length, take, vec_len}
+use Rattle.dac_core.proofs.Common.{RanAs}
 use Rattle.std.specs.Vec.{vec_capacity}
 use Rattle.dac_config.specs.Table.{node_count}
-use Rattle.dac_settle.specs.dac_model_world.ModelWorld.{RanAs}
 use Rattle.dac_core.proofs.world.World.run.Given as goal
 
 abbrev pub invariant-loop-event : goal.invariant-loop-event
