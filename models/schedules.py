@@ -14,7 +14,7 @@ from __future__ import annotations
 
 import random
 from dataclasses import dataclass, field
-from itertools import count
+from itertools import accumulate, count
 from typing import Callable, Dict, Iterable, Iterator, List, Tuple
 
 from check import Config, spelled
@@ -24,6 +24,7 @@ from simulator import ACTOR, APP, HEARD, NODE, NUMBER, SHAPES, Line, Player, Val
 CHANGES = 3
 SHIP, HEAR, PAGE = b"ship", b"hear", b"page"
 REFUSED, NO_NEWS = b"refused ", HEARD[False]
+COMMENT, CLOSED = b"% ", (b"close ok", b"weave ok")
 
 # The lines of each node's final page.
 Pages = Tuple[Tuple[bytes, ...], ...]
@@ -92,15 +93,34 @@ class Event:
     ship: Event | None = None
 
 
+@dataclass
+class Played:
+    """A phase of a run: the output of its callers, and all its events, with those ships that were refused."""
+
+    output: List[bytes] = field(default_factory=list)
+    events: List[Event] = field(default_factory=list)
+
+
 class Kept(Run):
-    """A run that keeps its events. Refused ships have no effect, and aren't among them."""
+    """A run that keeps its phases, and its events. Refused ships have no effect, and aren't among the latter."""
 
     def __init__(self, config: Config, choose: Choose) -> None:
         super().__init__(config, self.chosen)
         self.chooser = choose
         self.steps = 0
+        self.phases: List[Played] = []
         self.events: List[Event] = []
         self.ships: Dict[int, Event] = {}
+
+    def keep(self, phase: Phase) -> None:
+        """Plays a phase without its feeds, which have the same output in each run."""
+        self.phases.append(Played())
+        self.phases[-1].output = self.printed(len(self.phases), Phase(phase.asked))
+
+    def add(self, event: Event) -> None:
+        """Keeps an event that has an effect, or an answer."""
+        self.events.append(event)
+        self.phases[-1].events.append(event)
 
     def chosen(self, threads: List[Thread]) -> Thread:
         """The thread of the next step."""
@@ -109,20 +129,22 @@ class Kept(Run):
 
     def answer(self, asked: Asked) -> bytes:
         if asked.word != READ:
-            self.events.append(Event(asked.word, asked.values))
+            self.add(Event(asked.word, asked.values))
         return super().answer(asked)
 
     def ship(self, link: Link) -> None:
-        shipped = len(self.world.messages)
+        shipped, event = len(self.world.messages), Event(SHIP, (link.node, link.to))
         super().ship(link)
         if len(self.world.messages) > shipped:
-            self.ships[shipped + 1] = Event(SHIP, (link.node, link.to))
-            self.events.append(self.ships[shipped + 1])
+            self.ships[shipped + 1] = event
+            self.add(event)
+        else:
+            self.phases[-1].events.append(event)
 
     def hear(self, link: Link) -> None:
         """Hears the next message, if there is one."""
         if link.letters:
-            self.events.append(Event(HEAR, (link.to,), self.ships[link.letters[0]]))
+            self.add(Event(HEAR, (link.to,), self.ships[link.letters[0]]))
         super().hear(link)
 
     @property
@@ -138,7 +160,7 @@ def runs(config: Config, phases: List[Phase], seed: int) -> Iterator[Kept]:
         chance = random.Random(f"{seed} {number}")
         run = Kept(config, KINDS[kind_of(number)](chance, steps))
         for phase in phases:
-            run.phase(phase.asked)
+            run.keep(phase)
         steps = run.steps if number == 1 else steps
         yield run
 
@@ -197,6 +219,42 @@ def unknown(names: List[bytes]) -> bytes:
     while name in names:
         name += b"_"
     return name
+
+
+# Recording
+
+
+class Record:
+    """The text that `distac record` prints of a run, if its script has all phases or some first ones.
+
+    Its length depends on the run alone, and not on the order of events at different nodes: there each message has its number once.
+    """
+
+    def __init__(self, config: Config, canonical: bytes, phases: List[Phase], played: List[Played]) -> None:
+        self.config, self.canonical, self.played = config, canonical, played
+        self.comments = [[*own.output, *map(Run(config).fed, phase.feeds)] for phase, own in zip(phases, played)]
+        numbered = {event: values for event, values, _ in self.replay(len(played)).played}
+        rows = ([(event.word, numbered.get(event, event.values)) for event in own.events] for own in played)
+        self.lines = [[line_of(config, *row) for row in own] for own in rows]
+
+    def replay(self, last: int) -> Replay:
+        """The phases up to this one, played anew."""
+        return replayed(self.config, (event for own in self.played[:last] for event in own.events))
+
+    def text(self, last: int) -> bytes:
+        """The text, if this phase is the last one."""
+        pages = self.replay(last).pages
+        comments = [line for own in (*self.comments[:last], *pages, CLOSED) for line in own]
+        ends = [line_of(self.config, PAGE, (node,)) for node in range(len(pages))]
+        events = [line for own in self.lines[:last] for line in own]
+        return b"\n".join([self.canonical, b"--", *(COMMENT + line for line in comments), *events, *ends, b""])
+
+    def last_within(self, most: int) -> int:
+        """The last phase up to which the text has at most so many bytes, or 0. A later one may have shorter pages."""
+        parts = ([*(COMMENT + line for line in said), *lines] for said, lines in zip(self.comments, self.lines))
+        sizes = list(accumulate(sum(len(line) + 1 for line in part) for part in parts))
+        fit = (last for last in range(len(sizes), 0, -1) if sizes[last - 1] <= most and len(self.text(last)) <= most)
+        return next(fit, 0)
 
 
 # Shrinking

@@ -12,11 +12,11 @@ from distac_view.asking.program import BY_MODELS, Distac
 from distac_view.asking.races import MOST_IN_THREADS, Pages, Race, Written, kinds, pages_in
 from distac_view.common.interrupts import Stop
 from distac_view.common.problems import Problem, Status
-from distac_view.common.texts import shown
+from distac_view.common.texts import listed, shown
 from distac_view.reading.script_file import MOST_INPUT
 
 if TYPE_CHECKING:
-    from schedules import Event
+    from schedules import Event, Played
 
 # A node's page, and the line's place on it.
 LinePlace = Tuple[int, int]
@@ -57,10 +57,12 @@ class Search:
 
 @dataclass
 class Found:
-    """An end while the search goes on: its schedules by kind, and the first and the shortest one of them."""
+    """An end while the search goes on: its schedules by kind, and the first and the shortest of them, the latter with its phases
+    and events."""
 
     first: int
     shortest: int
+    phases: List[Played]
     events: List[Event]
     numbers: "Counter[str]" = field(default_factory=Counter)
 
@@ -74,7 +76,8 @@ class Found:
 class End:
     """An end: its final pages, its schedules, the shortest of these as a script, and as few of its lines as suffice.
 
-    It is played if the program printed, for both scripts, exactly what the models did.
+    It is played if the program printed, for both scripts, exactly what the models did. If the whole schedule is longer than a script
+    may be, the other one suffices. `distac record` could print that schedule up to the phase `last_recorded`.
     """
 
     pages: Pages
@@ -84,6 +87,12 @@ class End:
     is_smallest: bool
     is_played: bool
     unmet: List[str]
+    last_recorded: int
+
+    @property
+    def scripts(self) -> "Dict[str, Written]":
+        """Its scripts, by the end of a file's name."""
+        return {"": self.small, **({} if self.whole.is_long else {"-whole": self.whole})}
 
     @property
     def count(self) -> int:
@@ -177,8 +186,9 @@ def ends_in(distac: Distac, search: Search, found: "Dict[Pages, Found]", stop: S
         small, is_smallest = search.race.shrunk(own.events, pages, len(order), lambda: stop.is_wished)
         whole, fewer = scripts_of(search, number, own, small)
         unmet = [each.text for each in search.expected if not each.is_met(pages)]
-        has_played = all(each.pages == pages and is_played(distac, each, stop) for each in (whole, fewer))
-        ends.append(End(pages, own, whole, fewer, is_smallest, has_played, unmet))
+        scripts = (fewer,) if whole.is_long else (whole, fewer)
+        has_played = all(each.pages == pages and is_played(distac, each, stop) for each in scripts)
+        ends.append(End(pages, own, whole, fewer, is_smallest, has_played, unmet, search.race.last_recorded(own.phases)))
         distac.cases_done = number
     return ends
 
@@ -189,10 +199,10 @@ def searched(distac: Distac, search: Search, stop: Stop) -> "Tuple[Dict[Pages, F
     names = kinds()
     distac.cases, distac.unit = search.schedules, "schedule"
     for number, run in zip(range(1, search.schedules + 1), search.race.runs(search.seed)):
-        own = found.setdefault(pages_in(run.pages), Found(number, number, run.events))
+        own = found.setdefault(pages_in(run.pages), Found(number, number, run.phases, run.events))
         own.numbers[names[(number - 1) % len(names)]] += 1
         if len(run.events) < len(own.events):
-            own.shortest, own.events = number, run.events
+            own.shortest, own.phases, own.events = number, run.phases, run.events
         distac.cases_done = number
         if stop.is_wished:
             break
@@ -211,7 +221,7 @@ def scripts_of(search: Search, number: int, found: Found, small: List[Event]) ->
 def is_played(distac: Distac, script: Written, stop: Stop) -> bool:
     """Whether the program plays a script byte for byte as the models do."""
     try:
-        return len(script.source) <= MOST_INPUT and distac.has_played(script.source, script.output)
+        return not script.is_long and distac.has_played(script.source, script.output)
     except Problem:
         if stop.is_wished:
             return False
@@ -226,11 +236,26 @@ def unseen(reply: Reply) -> str:
     return f"{came} in {reply.played} schedules, so one more schedule would {then} (Good-Turing estimate)"
 
 
+def notes_on_length(reply: Reply) -> Iterable[Note]:
+    """What is longer than a script may be."""
+    long = [str(number) for number, end in enumerate(reply.ends, 1) if end.whole.is_long]
+    if long:
+        text = f"the whole schedule of end {listed(long)} is longer than a script may be ({MOST_INPUT:,} bytes): only its small script was played"
+        yield Note("LongSchedule", text)
+    phases = len(reply.search.race.phases)
+    last = [end.last_recorded for end in reply.ends if end.last_recorded < phases]
+    if last and len(reply.search.race.nodes) <= MOST_IN_THREADS:
+        which = f"phase {min(last)}" if min(last) == max(last) else f"by schedule a phase from {min(last)} to {max(last)}"
+        fit = f"{which} of {phases} is the last that fits" if max(last) else "not even phase 1 fits"
+        yield Note("LongRecord", f"distac record can't print so long a run as a script (record fault 1 TooLong): {fit}")
+
+
 def notes_on(reply: Reply) -> Iterable[Note]:
     """What limits the answer. The last note is on what is verified, and what isn't."""
     nodes = len(reply.search.race.nodes)
     if nodes > MOST_IN_THREADS:
         yield Note("MoreNodes", f"distac live itself would refuse this file, since it runs {MOST_IN_THREADS} nodes at most and not {nodes}")
+    yield from notes_on_length(reply)
     if reply.is_stopped:
         yield Note("EndedEarly", f"Ctrl-C ended the search after {reply.played} of {reply.search.schedules} schedules")
     unmet = [each.text for each in reply.search.expected if all(each.text in end.unmet for end in reply.ends)]

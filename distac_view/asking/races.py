@@ -14,12 +14,12 @@ from distac_view.common.problems import Problem
 from distac_view.common.texts import bytes_of, shown, text_of
 from distac_view.reading.configuration import Checked
 from distac_view.reading.live_faults import remark_on_live_line
-from distac_view.reading.script_file import MOST_INPUT, read_bytes, script_of
+from distac_view.reading.script_file import MOST_CONFIG, MOST_INPUT, read_bytes, script_of
 
 if TYPE_CHECKING:
     from check import Config
     from live import Phase
-    from schedules import Event, Kept
+    from schedules import Event, Kept, Played
 
 # More nodes are refused by distac live, which has threads for each.
 MOST_IN_THREADS = 4
@@ -39,6 +39,11 @@ class Written:
     source: bytes
     output: bytes
     pages: Pages
+
+    @property
+    def is_long(self) -> bool:
+        """Whether no program reads it, since it is longer than an input may be."""
+        return len(self.source) > MOST_INPUT
 
 
 @dataclass(frozen=True)
@@ -78,6 +83,13 @@ class Race:
         most = max(min(MOST_OF_END, MOST_PLAYED // ends), LEAST_RUNS * len(events))
         small, is_smallest = shrunk(few if keeps(few) else events, keeps, most)
         return small, is_smallest and not is_stopped()
+
+    def last_recorded(self, played: List[Played]) -> int:
+        """The last phase up to which `distac record` can print a run, or 0."""
+        from schedules import Record
+
+        canonical = bytes_of(self.checked.canonical)
+        return Record(self.config, canonical, self.phases, played).last_within(MOST_INPUT) if len(canonical) <= MOST_CONFIG else 0
 
     def written(self, events: List[Event], comment: str) -> Written:
         """The script of some events, with a comment at its top."""

@@ -62,10 +62,10 @@ def make(folder: str) -> None:
 
 
 def keep(reply: Reply, folder: str) -> None:
-    """Writes the scripts of each end into a folder: the small one and the whole schedule."""
+    """Writes the scripts of each end into a folder: the small one, and the whole schedule if a script may be so long."""
     for number, end in enumerate(reply.ends, 1):
-        for name, script in ((f"end-{number}.distac", end.small), (f"end-{number}-whole.distac", end.whole)):
-            write_whole(os.path.join(folder, name), script.source, [reply.search.race.path])
+        for suffix, script in end.scripts.items():
+            write_whole(os.path.join(folder, f"end-{number}{suffix}.distac"), script.source, [reply.search.race.path])
 
 
 def seed(word: str) -> int:
@@ -82,7 +82,7 @@ def add_ends(parser: argparse.ArgumentParser) -> None:
     parser.add_argument("--schedules", metavar="N", type=count_from_one, default=SCHEDULES, help=about)
     about = "the seed of the schedules, 1 if absent: the same one gives the same answer"
     parser.add_argument("--seed", metavar="S", type=seed, default=1, help=about)
-    about = "a folder for the scripts of each end: end-N.distac, and end-N-whole.distac with its whole schedule"
+    about = "a folder for the scripts of each end: end-N.distac, and end-N-whole.distac with its whole schedule, if a script may be so long"
     parser.add_argument("--keep", metavar="FOLDER", help=about)
     about = "a line that the final page of each running node must have, its first words, or a regular expression for either"
     parser.add_argument("--expect", metavar="PATTERN", nargs="+", action="extend", default=[], help=about)

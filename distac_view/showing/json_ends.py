@@ -35,7 +35,7 @@ def end_fields(reply: Reply, end: End) -> Fields:
         "differing": page_lines(reply.differing(end)),
         "script": text_of(end.small.source),
         "smallest": end.is_smallest,
-        "whole": text_of(end.whole.source),
+        "whole": None if end.whole.is_long else text_of(end.whole.source),
     }
 
 

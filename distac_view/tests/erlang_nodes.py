@@ -9,15 +9,22 @@ from __future__ import annotations
 import os
 import queue
 import shutil
+import signal
 import socket
 import subprocess
 import threading
 import time
+from contextlib import contextmanager
 from pathlib import Path
+from typing import Iterable, Iterator
 
 HERE = Path(__file__).resolve().parent
 HOST = "127.0.0.1"
 NEEDED = ("erl", "erlc", "epmd")
+# The time in which a killed process is gone, even on a very busy machine.
+MOST_SECONDS = 60
+# Signals that end a comparison.
+ENDING = (signal.SIGALRM, signal.SIGINT, signal.SIGTERM)
 
 
 def is_installed() -> bool:
@@ -44,6 +51,20 @@ def surroundings(port: int) -> dict[str, str]:
     """The environment of nodes: the name server's port and address."""
     kept = {name: value for name, value in os.environ.items() if not name.startswith("ERL_")}
     return {**kept, "ERL_EPMD_PORT": str(port), "ERL_EPMD_ADDRESS": HOST, "ERL_CRASH_DUMP_SECONDS": "0"}
+
+
+@contextmanager
+def held(numbers: Iterable[int]) -> Iterator[None]:
+    """Signals of these numbers take effect afterwards."""
+    came: list[int] = []
+    before = {number: signal.signal(number, lambda caught, _: came.append(caught)) for number in numbers}
+    try:
+        yield
+    finally:
+        for number, handler in before.items():
+            signal.signal(number, handler)
+        for number in came:
+            signal.raise_signal(number)
 
 
 class Node:
@@ -102,11 +123,11 @@ class Node:
         return self.answer(text.split(" ")[0], seconds)
 
     def kill(self) -> None:
-        """The node goes down silently."""
+        """The node goes down silently. What it started may keep its output open, and closing that would wait for them."""
         self.process.kill()
-        self.process.wait()
+        self.process.wait(MOST_SECONDS)
         self.thread.join(5)
-        for pipe in (self.process.stdin, self.process.stdout):
+        for pipe in (self.process.stdin, *([] if self.thread.is_alive() else [self.process.stdout])):
             try:
                 pipe.close()  # type: ignore[union-attr]
             except OSError:
@@ -135,15 +156,24 @@ class Cluster:
     def __enter__(self) -> Cluster:
         words = ["epmd", "-port", str(self.port), "-address", HOST]
         self.name_server = subprocess.Popen(words, env=self.environment, stdout=subprocess.DEVNULL, stderr=subprocess.DEVNULL)
-        self.wait_for_name_server()
+        try:
+            self.wait_for_name_server()
+        except BaseException:
+            self.end()
+            raise
         return self
 
     def __exit__(self, *_: object) -> None:
+        with held(ENDING):
+            self.end()
+
+    def end(self) -> None:
+        """Ends all nodes and the name server."""
         for node in self.nodes.values():
             if node.is_up:
                 node.kill()
-        self.name_server.terminate()
-        self.name_server.wait()
+        self.name_server.kill()
+        self.name_server.wait(MOST_SECONDS)
 
     def wait_for_name_server(self) -> None:
         """Waits until it accepts connections."""
@@ -153,7 +183,7 @@ class Cluster:
                 return
             except OSError:
                 time.sleep(0.05)
-        raise TimeoutError("epmd doesn't answer")
+        raise TimeoutError("no answer by epmd")
 
     def boot(self, name: str, config: str) -> Node:
         """A node comes up with a configuration file of the folder."""

@@ -1,9 +1,10 @@
 #!/usr/bin/env python3
 """Compares `gather`, `what-if`, `rolling` and warnings with three or four real nodes of Erlang/OTP on the loopback interface.
 
-python3 distac_view/tests/real_erlang.py [--only NAME ..] [--groups NAME ..] [--runs N] [--seconds N]
+python3 distac_view/tests/real_erlang.py [--only NAME ..] [--groups NAME ..] [--runs N] [--seconds N] [--most N]
 
-The last lines are a table: how many observations of each group agree, were announced by a note, or differ.
+The last lines are a table: how many observations of each group agree, were announced by a note, or differ, and how many
+comparisons had no answer in their time. The status is 1 if any differ, and else 2 if one had no answer.
 
 It requires `erl`, `erlc` and `epmd` in PATH, as in Debian's package erlang-base, and runs the program that the
 environment variable DISTAC names, or else the models. It isn't part of the tests, because it takes minutes and depends
@@ -22,7 +23,7 @@ from collections import Counter
 from dataclasses import dataclass
 from functools import partial
 from pathlib import Path
-from typing import Any, Callable, Dict
+from typing import Any, Callable, Dict, Iterable, Tuple
 
 sys.dont_write_bytecode = True
 sys.path.insert(0, str(Path(__file__).resolve().parent))
@@ -30,8 +31,9 @@ sys.path.insert(0, str(Path(__file__).resolve().parent))
 from erlang_nodes import Cluster, is_installed, release_of_otp
 import real_splits
 from real_events import WALKS, compare_split, take
-from real_shared import LATE_SECONDS, NODES, SINGLE, Score, bare, boot, seen, wait_for, whole
+from real_shared import DIFFER, KINDS, LATE_SECONDS, NO_ANSWER, NODES, SINGLE, Score, bare, boot, seen, wait_for, whole
 from support import run_view
+from arguments import at_least
 from distac_view.reading.configuration import configuration_of
 from distac_view.reading.equal_times import pairs_among
 
@@ -40,6 +42,8 @@ NEVER = 3_600_000
 MOST_SECONDS = 60.0
 # The time until a node starts its applications, on a busy machine.
 BOOT_SECONDS = 1.5
+# The time that a comparison may take. Most of them take half a minute, and several minutes on a very busy machine.
+COMPARISON_SECONDS = 600
 
 
 @dataclass(frozen=True)
@@ -178,9 +182,19 @@ def run_case(scenario: Scenario, down: tuple[str, ...], score: Score) -> None:
     tell_case(case, {"now": now, "then": then, "back": back}, outages, score)
 
 
+def head_of(scenario: Scenario, down: tuple[str, ...]) -> str:
+    """The name of a case."""
+    return f"{scenario.name}, without {shortened(down, ' and ')}"
+
+
+def shortened(nodes: Iterable[str], between: str) -> str:
+    """The names of some nodes without their host."""
+    return between.join(node.split("@")[0] for node in nodes)
+
+
 def tell_case(case: Case, observed: dict[str, dict[str, str | None]], outages: dict[str, float], score: Score) -> None:
     """Counts agreement, and prints a line."""
-    head = f"{case.scenario.name}, without {' and '.join(node.split('@')[0] for node in case.down)}"
+    head = head_of(case.scenario, case.down)
     kinds: Counter[str] = Counter()
     for app, moment in ((app, moment) for app in case.scenario.names for moment in observed):
         wanted, found = expected(case.fates, moment)[app], observed[moment][app]
@@ -231,7 +245,7 @@ Said = Dict[str, Any]
 def roll(scenario: Scenario, order: list[str], takes: int | None, score: Score) -> None:
     """One rolling restart with its own nodes: each application is at its place in each step of `rolling`. A node is back
     after its time, or once all waits are over."""
-    head = f"{scenario.name}, rolling {' > '.join(node.split('@')[0] for node in order)}"
+    head = f"{scenario.name}, rolling {shortened(order, ' > ')}"
     with tempfile.TemporaryDirectory(prefix="distac-nodes-") as room, Cluster(Path(room), dict.fromkeys(scenario.names, 0)) as cluster:
         config = prepared(scenario, NODES[:1], Path(room), {}).folder / "cluster.config"
         boot(cluster, NODES, scenario.names)
@@ -346,24 +360,24 @@ def compare_mixed(what: str, entries: tuple[str, str], score: Score) -> None:
     print(row, flush=True)
 
 
-# A comparison, which counts its observations.
-Comparison = Callable[[Score], None]
+# A comparison's name, and itself: it counts its observations.
+Comparison = Tuple[str, Callable[[Score], None]]
 
 
 def groups_of(only: list[str]) -> dict[str, list[Comparison]]:
     """The comparisons of each group: if scenarios are named, only the losses of these."""
     chosen = [each for each in SCENARIOS if not only or any(each.name.startswith(name) for name in only)]
-    losses: dict[str, list[Comparison]] = {"losses": [partial(run_case, each, down) for each in chosen for down in each.cases]}
+    losses: dict[str, list[Comparison]] = {"losses": [(head_of(each, down), partial(run_case, each, down)) for each in chosen for down in each.cases]}
     if only:
         return losses
     named = {each.name: each for each in (*SCENARIOS, QUICK, SHARED, HALF)}
     return {
-        "answers": [compare_answers],
-        "boots": [partial(compare_boot, *each) for each in BOOTS],
-        "changes of files": [partial(compare_mixed, what, (old, new)) for what, old, new in MIXED],
-        "rolling restarts": [partial(roll, named[name], [NODES[number] for number in order], takes) for name, order, takes in ROLLED],
-        **{name: [partial(take, walk) for walk in walks] for name, walks in WALKS.items()},
-        "splits": [partial(compare_split, way) for way in real_splits.WAYS],
+        "answers": [("answers of the remote shell", compare_answers)],
+        "boots": [(f"boot with {each[0]}", partial(compare_boot, *each)) for each in BOOTS],
+        "changes of files": [(what, partial(compare_mixed, what, (old, new))) for what, old, new in MIXED],
+        "rolling restarts": [(f"{name}, rolling", partial(roll, named[name], [NODES[number] for number in order], takes)) for name, order, takes in ROLLED],
+        **{name: [(walk.name, partial(take, walk)) for walk in walks] for name, walks in WALKS.items()},
+        "splits": [(way.name, partial(compare_split, way)) for way in real_splits.WAYS],
         **losses,
     }
 
@@ -376,7 +390,13 @@ def words_of(arguments: list[str]) -> argparse.Namespace:
     parser.add_argument("--groups", metavar="NAME", nargs="+", choices=names, default=names, help=f"of {', '.join(names)}")
     parser.add_argument("--runs", metavar="N", type=int, default=1, help="how often each comparison is made, once if absent")
     parser.add_argument("--seconds", metavar="N", type=int, default=3_600, help="none begins later, 3600 if absent")
-    return parser.parse_args(arguments)
+    about = f"a comparison that takes longer has no answer, {COMPARISON_SECONDS} if absent"
+    parser.add_argument("--most", metavar="N", type=at_least(1), default=COMPARISON_SECONDS, help=about)
+    words = parser.parse_args(arguments)
+    unknown = [name for name in words.only if not any(each.name.startswith(name) for each in SCENARIOS)]
+    if unknown:
+        parser.error(f"no scenario begins with {', '.join(unknown)}")
+    return words
 
 
 def compare_all(words: argparse.Namespace, score: Score) -> None:
@@ -384,11 +404,11 @@ def compare_all(words: argparse.Namespace, score: Score) -> None:
     end = time.monotonic() + words.seconds
     for name, comparisons in words.runs * list(groups_of(words.only).items()):
         score.begin(name)
-        for compare in comparisons if name in words.groups else ():
+        for title, compare in comparisons if name in words.groups else ():
             if time.monotonic() > end:
                 print("no time is left for the other comparisons")
                 return
-            compare(score)
+            score.make(title, compare, words.most)
 
 
 def main(arguments: list[str]) -> int:
@@ -398,13 +418,14 @@ def main(arguments: list[str]) -> int:
         print("real_erlang.py wants erl, erlc and epmd in PATH: install Erlang (Debian: apt-get install erlang-base)")
         return 2
     signal.signal(signal.SIGTERM, lambda *_: sys.exit(128 + signal.SIGTERM))
-    score = Score()
-    print(release_of_otp(), flush=True)
+    score, release = Score(), release_of_otp()
+    print(release, flush=True)
     compare_all(words, score)
     print("\n".join(score.differing))
     print(", ".join(f"{count} {kind}" for kind, count in sorted(score.counts.items())))
-    print("\n".join([f"| {release_of_otp()}, {time.strftime('%Y-%m-%d')} | Agree | Announced | Differ |", "|---|---|---|---|", *score.table]))
-    return 1 if score.counts["differ"] else 0
+    head = f"| {release}, {time.strftime('%Y-%m-%d')} | {' | '.join(map(str.capitalize, KINDS))} |"
+    print("\n".join([head, "|---" * (len(KINDS) + 1) + "|", *score.table]))
+    return 1 if score.counts[DIFFER] else 2 if score.counts[NO_ANSWER] else 0
 
 
 if __name__ == "__main__":

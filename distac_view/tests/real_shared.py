@@ -2,15 +2,41 @@
 
 from __future__ import annotations
 
+import signal
+import subprocess
 import time
 from collections import Counter
+from contextlib import contextmanager
 from dataclasses import dataclass, field
+from typing import Callable, Iterator
 
 from erlang_nodes import HOST, Cluster
 
 NODES = tuple(f"{name}@{HOST}" for name in ("cp1", "cp2", "cp3"))
 SINGLE = tuple((node,) for node in NODES)
 LATE_SECONDS = 4.0
+AGREE, DIFFER, ANNOUNCED, NO_ANSWER = "agree", "differ", "announced", "no answer"
+KINDS = (AGREE, ANNOUNCED, DIFFER, NO_ANSWER)
+
+
+class NoAnswer(Exception):
+    """A comparison didn't end in its time. It is no OSError, because those of nodes that are gone are ignored."""
+
+
+@contextmanager
+def limit(seconds: int) -> Iterator[None]:
+    """Ends what takes longer, in the main thread."""
+
+    def end(*_: object) -> None:
+        raise NoAnswer(f"{NO_ANSWER} in {seconds} s")
+
+    before = signal.signal(signal.SIGALRM, end)
+    signal.alarm(seconds)
+    try:
+        yield
+    finally:
+        signal.alarm(0)
+        signal.signal(signal.SIGALRM, before)
 
 
 def whole(nodes: str) -> str:
@@ -34,9 +60,9 @@ class Score:
         self.group = group
 
     def add(self, what: str, row: str = "", count: int = 1) -> None:
-        """One observation, or several equal ones. One that neither agrees nor differs was announced by a note."""
+        """One observation, or several equal ones. Any other kind than those of the table was announced by a note."""
         self.counts[what] += count
-        kind = what if what in ("agree", "differ") else "announced"
+        kind = what if what in KINDS else ANNOUNCED
         self.rows.setdefault(self.group, Counter())[kind] += count
         if row:
             self.differing.append(row)
@@ -45,11 +71,25 @@ class Score:
         """One observation, as expected or not."""
         self.add("agree" if wanted == found else "differ", "" if wanted == found else f"{where}: {wanted}, and OTP has {found}")
 
+    def make(self, name: str, compare: Callable[[Score], None], seconds: int) -> None:
+        """Makes a comparison, which has so much time."""
+        try:
+            with limit(seconds):
+                compare(self)
+        except subprocess.TimeoutExpired as late:
+            self.add_late(f"{name}: {NO_ANSWER} by {late.cmd[0]} in {late.timeout:.0f} s")
+        except (NoAnswer, TimeoutError) as late:
+            self.add_late(f"{name}: {late}")
+
+    def add_late(self, row: str) -> None:
+        """A comparison without an answer, which is printed at once too."""
+        self.add(NO_ANSWER, row)
+        print(row, flush=True)
+
     @property
     def table(self) -> list[str]:
         """The rows of docs/OPERATORS.md: each comparison with its counts."""
-        kinds = ("agree", "announced", "differ")
-        return [f"| {group} | {' | '.join(str(counts[kind]) for kind in kinds)} |" for group, counts in self.rows.items()]
+        return [f"| {group} | {' | '.join(str(counts[kind]) for kind in KINDS)} |" for group, counts in self.rows.items()]
 
 
 def bare(name: str | None) -> str | None:

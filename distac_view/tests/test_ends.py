@@ -16,8 +16,9 @@ from typing import Any, Dict, List
 from unittest import mock
 
 from json_schema import documented
-from support import EXAMPLES, PROGRAM, TOP, InRoom, Said, distac, hear_signals, run_view, view
-from distac_view.answering.race_ends import Search, expected_by, reply_of
+from support import EXAMPLES, IS_STAND_IN, PROGRAM, TOP, InRoom, Said, distac, hear_signals, run_view, view
+from distac_view.answering.race_ends import Search, expected_by, notes_on, reply_of
+from distac_view.asking import races
 from distac_view.asking.races import load_race, pages_in
 from distac_view.cli import ends as ends_command
 from distac_view.common.interrupts import Stop
@@ -28,6 +29,13 @@ FEW = ("--schedules", "90")
 MOST_SECONDS = 60
 REQUESTS = ("boot", "crash", "down", "permit", "start", "stop", "drain", "takeover", "tick")
 FIVE = "[{kernel,[{distributed,[{a,[n1@h,n2@h,n3@h,n4@h,n5@h]}]}]}].\n--\n1 boot n1@h 0\n4 boot n5@h 0\nphase\n1 down n5@h nowhere\n"
+# Ten phases in which two nodes race for an application, with schedules of more bytes than the live script or a small script has.
+LIMIT = 1_250
+LONG = "[{kernel,[{distributed,[{s,[m@h,e@h]}]}]}].\n--\n1 boot m@h 0\n1 boot e@h 0\nphase\n1 start m@h s m@h\n1 start e@h s e@h\n1 tick e@h 9\n"
+LONG += "".join(f"phase\n1 permit m@h s e@h {truth}\n1 tick m@h 9\n" for truth in ("false", "true") * 4)
+# A node with a long page goes off.
+LEAVING = "[{kernel,[{distributed,[{s,[m@h,e@h]},{t,[m@h,e@h]},{u,[m@h,e@h]}]}]}].\n--\n1 boot m@h 0\nphase\n1 crash m@h\nphase\n"
+TOO_LONG = b"record fault 1 TooLong\n"
 # A live line, the column of its fault, and a part of the sentence.
 FAULTS = (
     ("5 boot main@h 0", 1, "BadNumber: a caller is 1, 2, 3 or 4"),
@@ -145,6 +153,92 @@ class Ends(Room):
         end = self.ends(self.path(text))[0]
         self.assertIn("\nstart n1@h unknown_ n1@h\n", end["whole"])
         self.assertIn("\ndown n5@h unknown\n", end["whole"])
+
+
+class Lengths(Room):
+    """Runs that are longer than a script may be."""
+
+    def test_records_are_runs_of_their_scripts(self) -> None:
+        from recorded import by_races, fault_of_record
+        from schedules import Record
+
+        race, text = load_race(distac(), RACE), Path(RACE).read_text()
+        phases = text.split("phase\n")
+        for _, run in zip(range(6), race.runs(1)):
+            record = Record(race.config, race.checked.canonical.encode(), race.phases, run.phases)
+            for last in range(1, len(phases) + 1):
+                source = "phase\n".join(phases[:last]).encode()
+                self.assertIsNone(fault_of_record(by_races, source, record.text(last), 0))
+
+    def test_the_last_phase_that_distac_record_prints(self) -> None:
+        from schedules import Record
+
+        # (test_program_streams.py has the lengths of such records: 4,864 ticks in one phase make 2,097,150 bytes, and each adds 431)
+        node = "n" * 200 + "@h"
+        fits = f"[{{kernel,[{{distributed,[{{a,[{node}]}}]}}]}}].\n--\n" + f"1 tick {node} 0\n" * 4_863 + "phase\n"
+        source = fits + f"phase\n1 tick {node} 0\n"
+        race = load_race(distac(), self.path(source))
+        run = next(race.runs(1))
+        record = Record(race.config, race.checked.canonical.encode(), race.phases, run.phases)
+        self.assertEqual([len(record.text(last)) for last in (1, 2, 3)], [2_096_719, 2_096_729, 2_097_170])
+        self.assertEqual(race.last_recorded(run.phases), 2)
+        for text, length, status in ((fits, 2_096_729, 0), (source, len(TOO_LONG), 1)) if not IS_STAND_IN else ():
+            done = subprocess.run([PROGRAM, "record"], input=text.encode(), capture_output=True, check=False)
+            self.assertEqual((len(done.stdout), done.returncode), (length, status))
+
+    def test_a_later_phase_with_shorter_pages(self) -> None:
+        from schedules import Record
+
+        race = load_race(distac(), self.path(LEAVING))
+        run = next(race.runs(1))
+        record = Record(race.config, race.checked.canonical.encode(), race.phases, run.phases)
+        sizes = [len(record.text(last)) for last in (1, 2, 3)]
+        self.assertLess(sizes[1], sizes[0])
+        self.assertEqual([record.last_within(most) for most in (sizes[1] - 1, sizes[1], sizes[2] - 1, sizes[2])], [0, 2, 2, 3])
+
+    def test_small_scripts_of_long_schedules(self) -> None:
+        path = self.path(LONG)
+        race, folder = load_race(distac(), path), self.room / "kept"
+        with mock.patch.object(races, "MOST_INPUT", LIMIT):
+            said = view("ends", path, *FEW, "--keep", str(folder))
+            answer = json.loads(view("ends", path, *FEW, "--json").output)
+        self.assertEqual((said.status, said.errors), (0, ""))
+        self.assertNotIn("NOT played", said.output)
+        self.assertGreater(len(answer["ends"]), 1)
+        self.assertEqual(documented().faults_of(json.dumps(answer)), [])
+        self.assertEqual(sorted(path.name for path in folder.iterdir()), [f"end-{at}.distac" for at in range(1, len(answer["ends"]) + 1)])
+        for number, end in enumerate(answer["ends"], 1):
+            self.assertEqual((end["whole"], end["played"]), (None, True))
+            self.assertEqual((folder / f"end-{number}.distac").read_text(), end["script"])
+            self.assertLessEqual(len(end["script"]), LIMIT)
+        self.assertIn("is longer than a script may be (2,097,152 bytes): only its small script was played\n", said.output)
+
+    def test_the_last_phases_of_long_schedules(self) -> None:
+        from schedules import Record
+
+        race = load_race(distac(), self.path(LONG))
+        with mock.patch.object(races, "MOST_INPUT", LIMIT):
+            reply = reply_of(distac(), Search(race, 90, 1, []))
+            text = next(note.text for note in notes_on(reply) if note.id == "LongRecord")
+        for end in reply.ends:
+            record = Record(race.config, race.checked.canonical.encode(), race.phases, end.found.phases)
+            fit = [len(record.text(last)) <= LIMIT for last in range(1, len(race.phases) + 1)]
+            self.assertEqual(fit, [True] * end.last_recorded + [False] * (len(fit) - end.last_recorded))
+        last = [end.last_recorded for end in reply.ends]
+        self.assertLess(min(last), max(last))
+        self.assertIn(f": by schedule a phase from {min(last)} to {max(last)} of 10 is the last that fits", text)
+
+    def test_small_scripts_that_are_too_long(self) -> None:
+        race = load_race(distac(), self.path(LONG))
+        with mock.patch.object(races, "MOST_INPUT", 100):
+            reply = reply_of(distac(), Search(race, 3, 1, []))
+        self.assertEqual([end.is_played for end in reply.ends], [False] * len(reply.ends))
+        self.assertEqual(reply.status, 2)
+        self.assertIn("not even phase 1 fits", [note.text for note in notes_on(reply) if note.id == "LongRecord"][0])
+
+    def test_schedules_of_few_bytes(self) -> None:
+        ids = {note["id"] for note in json.loads(view("ends", RACE, *FEW, "--json").output)["notes"]}
+        self.assertEqual(ids & {"LongRecord", "LongSchedule"}, set())
 
 
 class Answers(Room):

@@ -3,6 +3,7 @@
 from __future__ import annotations
 
 import ast
+import io
 import os
 import runpy
 import shutil
@@ -12,7 +13,10 @@ import sys
 import tempfile
 import time
 import unittest
+from contextlib import redirect_stdout
 from pathlib import Path
+from typing import Dict, Tuple
+from unittest import mock
 
 from support import EXAMPLES, TOP, hear_signals
 import folders
@@ -53,6 +57,7 @@ REFUSED = (
     (("checks/fuzz", "--jobs", "0"), "'0' isn't a number of 1 or more"),
     (("checks/fuzz", "--minutes", "-1"), "'-1' isn't a number of 0 or more"),
     (("checks/races", "--jobs", "0"), "'0' isn't a number of 1 or more"),
+    (("checks/races", "--only", "nosuch"), "invalid choice: 'nosuch'"),
     (("checks/growths", "--states", "-1"), "'-1' isn't a number of 0 or more"),
 )
 # A test that keeps a folder while it runs.
@@ -65,6 +70,19 @@ class Waiting(unittest.TestCase):
         self.addCleanup(room.cleanup)
         time.sleep(60)
 """
+# The races, bad accesses and wrong outputs of each program. With a sanitizer or without, and with other findings: what is played
+# by how many scripts, the status, and the middle of the last line.
+NO_RACES = {"weak": (7, 0, 0), "thread": (0, 0, 0), "address": (0, 0, 0)}
+ALL_PLAYED, THREAD_PLAYED, ADDRESS_PLAYED = "weak 5, thread 200, address 200", "weak 5, thread 200", "address 200"
+RACES: "Tuple[Tuple[str, Dict[str, Tuple[int, int, int]], str, int, str], ...]" = (
+    ("", {}, ALL_PLAYED, 0, "0 races, 0 bad accesses, 0 wrong; control: 7 races in 5 scripts"),
+    ("", {"thread": (1, 0, 1), "address": (0, 2, 1)}, ALL_PLAYED, 1, "1 races, 2 bad accesses, 2 wrong; control: 7 races in 5 scripts"),
+    ("thread", {}, THREAD_PLAYED, 0, "0 races, 0 wrong; control: 7 races in 5 scripts"),
+    ("thread", {"thread": (3, 0, 0)}, THREAD_PLAYED, 1, "3 races, 0 wrong; control: 7 races in 5 scripts"),
+    ("thread", {"weak": (0, 0, 0)}, THREAD_PLAYED, 1, "0 races, 0 wrong; control: 0 races in 5 scripts"),
+    ("address", {}, ADDRESS_PLAYED, 0, "0 bad accesses, 0 wrong"),
+    ("address", {"address": (0, 0, 1)}, ADDRESS_PLAYED, 1, "0 bad accesses, 1 wrong"),
+)
 # Those that print their first comment as help.
 COMMENTED = tuple(f"checks/{name}" for name in ("growths", "mutants", "races", "fuzz", "stacks", "nightly"))
 HELPED = ("tests", "examples/check", "checks/check-documents", *COMMENTED)
@@ -183,6 +201,21 @@ class OwnCommands(unittest.TestCase):
         unknown = runpy.run_path(str(TOP / "checks" / "growths"), run_name="growths")["unknown"]
         known = ("State", "Node::step:ship-again", "first-path", "live-failover", "take")
         self.assertEqual(unknown((*known, "nosuch", "first-path.distac")), ["nosuch", "first-path.distac"])
+
+    def test_races_of_one_sanitizer(self) -> None:
+        races = runpy.run_path(str(TOP / "checks" / "races"), run_name="races")
+        for only, found, kinds, status, line in RACES:
+            counts, played, output = {**NO_RACES, **found}, [""][:0], io.StringIO()
+
+            def play_all(program: Path, _seed: int, scripts: int, _pool: object) -> object:
+                played.append(f"{program.name} {scripts}")
+                return races["Count"](*counts[program.name])
+
+            stand_ins = {"play_all": play_all, "instrumented": mock.Mock(programs=lambda *kinds: list(map(Path, kinds)))}
+            words = ["races", *(["--only", only] if only else [])]
+            with mock.patch.dict(races["main"].__globals__, stand_ins), mock.patch.object(sys, "argv", words), redirect_stdout(output):
+                self.assertEqual(races["main"](), status, (only, found))
+            self.assertEqual((", ".join(played), output.getvalue()), (kinds, f"200 live scripts: {line}; the program is not proved\n"))
 
     @unittest.skipUnless(shutil.which("prlimit"), "prlimit sets the stacks")
     def test_stacks_of_a_program_that_answers_nothing(self) -> None:

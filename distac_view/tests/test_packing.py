@@ -21,6 +21,7 @@ MANUAL = str(EXAMPLES / "manual.config")
 PACKAGE = TOP / "distac_view"
 PACK = str(PACKAGE / "pack.py")
 PYTHON_FILES = sorted([*(TOP / "models").glob("*.py"), *PACKAGE.glob("*.py"), *PACKAGE.glob("[!t]*/*.py")])
+COMMANDS = sorted(path for path in (TOP / "believe", *(TOP / "checks").glob("*"), *(TOP / "checks").glob("library/*.py")) if path.is_file())
 NEWER = (".removeprefix(", ".removesuffix(", "import pairwise", "import cache\n", ".with_stem(", "strict=True)", ".bit_count(", ".is_relative_to(")
 BUILT_IN = ("list", "dict", "tuple", "set", "frozenset", "type", "int", "bool", "bytes", "str")
 OLDER = "import sys\nsys.version_info = (3, 7, 16, 'final', 0)\nexec(compile(open(sys.argv[1]).read(), 'distac-view', 'exec'))\n"
@@ -96,7 +97,7 @@ class Pythons(unittest.TestCase):
             self.assertEqual([ast.dump(node) for node in newer_types(tree)], [], path)
 
     def test_nothing_newer_is_used(self) -> None:
-        for path in PYTHON_FILES:
+        for path in (*PYTHON_FILES, *COMMANDS):
             for word in NEWER:
                 self.assertFalse(word in path.read_text(encoding="utf-8"), (path.name, word))
 
