@@ -64,12 +64,12 @@ module _ {W F : Type 0} (is_cause : F → Bool) where
       by other (inl has) none = tells.cause none other has
       by other (inr e) none = ok_is_no_fault worker other e
 
-  -- one more fault, of which `preferred` is reported
-  pub a_fault : (seen : List (Result W F)) (workers : List W) (told : Option F) (fault preferred : F) → (is_cause fault ≡ true → preferred ≡ fault) → (is_cause fault ≡ false → IfSome told (λ f. preferred ≡ f)) → (told ≡ None → preferred ≡ fault)
-      → Tells seen workers told → IsTold is_cause (seen ++ Err fault ∷ []) preferred
-  a_fault seen workers told fault preferred cause kept alone tells = by told refl (is_cause fault) refl
+  -- one more fault, of which `louder` is reported
+  pub a_fault : (seen : List (Result W F)) (workers : List W) (told : Option F) (fault louder : F) → (is_cause fault ≡ true → louder ≡ fault) → (is_cause fault ≡ false → IfSome told (λ f. louder ≡ f)) → (told ≡ None → louder ≡ fault)
+      → Tells seen workers told → IsTold is_cause (seen ++ Err fault ∷ []) louder
+  a_fault seen workers told fault louder cause kept alone tells = by told refl (is_cause fault) refl
     where
-      told_now : preferred ≡ fault → ((other : F) → HasFault seen other → is_cause fault ≡ false → is_cause other ≡ false) → IsTold is_cause (seen ++ Err fault ∷ []) preferred
+      told_now : louder ≡ fault → ((other : F) → HasFault seen other → is_cause fault ≡ false → is_cause other ≡ false) → IsTold is_cause (seen ++ Err fault ∷ []) louder
       told_now same rest = record {
         one = subst (HasFault (seen ++ Err fault ∷ [])) (sym same) (newest seen fault);
         cause = λ none other has. of_all other (either seen (Err fault) other has) (sym (ap is_cause same) ∙ none);
@@ -79,12 +79,12 @@ module _ {W F : Type 0} (is_cause : F → Bool) where
           of_all other (inl has) none = rest other has none
           of_all other (inr e) none = sym (ap is_cause (same_fault fault other e)) ∙ none
 
-      by : (t : Option F) → told ≡ t → (b : Bool) → is_cause fault ≡ b → IsTold is_cause (seen ++ Err fault ∷ []) preferred
+      by : (t : Option F) → told ≡ t → (b : Bool) → is_cause fault ≡ b → IsTold is_cause (seen ++ Err fault ∷ []) louder
       by t is true e = told_now (cause e) (λ other has none. absurd (true≢false (sym e ∙ none)))
       by None is false e = told_now (alone is) (λ other has none. absurd (no_fault workers other (subst (λ os. HasFault os other) (sym (subst (Tells seen workers) is tells)) has)))
       by (Some f) is false e =
           let was : IsTold is_cause seen f = subst (Tells seen workers) is tells in
-          let same : preferred ≡ f = subst (λ o. IfSome o (λ g. preferred ≡ g)) is (kept e) in
+          let same : louder ≡ f = subst (λ o. IfSome o (λ g. louder ≡ g)) is (kept e) in
           record {
             one = subst (HasFault (seen ++ Err fault ∷ [])) (sym same) (before seen (Err fault) f was.one);
             cause = λ none other has. later other (either seen (Err fault) other has) (sym (ap is_cause same) ∙ none) was;

@@ -59,7 +59,7 @@ fn ended<W: Worker, R: Threads + Wait>(rt: &R, started: Started<W>) -> Result<W,
 }
 
 /// The fault to report after one more: a cause replaces the fault so far, and a consequence doesn't.
-fn prefer_cause<W: Worker>(told: Option<W::Fault>, fault: W::Fault) -> W::Fault
+fn louder<W: Worker>(told: Option<W::Fault>, fault: W::Fault) -> W::Fault
     ensures cause { W.is_cause fault ≡ true → result ≡ fault }
     ensures kept { W.is_cause fault ≡ false → IfSome told (λ before. result ≡ before) }
     ensures alone { told ≡ None → result ≡ fault }
@@ -87,7 +87,7 @@ pub fn workers_of<W: Worker>(
     for outcome in outcomes {
         match outcome {
             Ok(worker) => workers.push(worker)?,
-            Err(fault) => told = Some(prefer_cause::<W>(told, fault)),
+            Err(fault) => told = Some(louder::<W>(told, fault)),
         }
     }
     match told {

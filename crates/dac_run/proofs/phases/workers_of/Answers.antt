@@ -14,6 +14,6 @@ pub loop-outcome-preserved : goal.loop-outcome-preserved
 loop-outcome-preserved g c =
     let rest = into_iter_items c.next.new.self in
     let is = c.loop-outcome.invariant in
-    let preferred = c.prefer_cause.ensures in
+    let louder = c.louder.ensures in
     one_more g.W.Worker.is_cause _ _ rest _ _ _ _ (Err c.in-Err.fault) is (c.in-Some.ensures.steps.0 ∙ ap (λ o. o ∷ rest) c.in-Err.is)
-    (a_fault g.W.Worker.is_cause is.seen c.loop-outcome.workers.items c.loop-outcome.told c.in-Err.fault c.prefer_cause.result preferred.cause preferred.kept preferred.alone is.tells)
+    (a_fault g.W.Worker.is_cause is.seen c.loop-outcome.workers.items c.loop-outcome.told c.in-Err.fault c.louder.result louder.cause louder.kept louder.alone is.tells)
