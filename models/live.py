@@ -196,7 +196,6 @@ class Run:
         return Thread(lambda: bool(link.letters), lambda: self.hear(link))
 
     def shipper(self, link: Link) -> Thread:
-        """The thread that ships into a link."""
         return Thread(lambda: link.ships > 0, lambda: self.ship(link))
 
     def answer(self, asked: Asked) -> bytes:

@@ -88,7 +88,6 @@ class Mutation:
         return f"{self.file} {self.function}: {self.old} -> {self.new}"
 
     def applied(self, text: str) -> str:
-        """The text with this change."""
         return text[: self.edit.start] + self.edit.put + text[self.edit.end :]
 
 
@@ -348,7 +347,6 @@ class Walk:
             yield self.other(node.body, f"({', '.join(items)})", node)
 
     def without_rows(self, node: ast.Dict) -> Iterator[Edit]:
-        """A table without one of its rows."""
         for key, value in zip(node.keys, node.values):
             if key is not None:
                 start, end = self.span(key)[0], self.span(value)[1]

@@ -196,7 +196,6 @@ class Checked:
     has_loss: bool = False
 
     def take(self, pattern: bytes, what: str) -> re.Match[bytes]:
-        """Consumes a match of a pattern from the output."""
         match = re.match(pattern, self.rest)
         if match is None:
             raise Broken(f"{what} was to be printed at {self.rest[:80]!r}")

@@ -124,7 +124,6 @@ class OpenPhase:
         return self.may_issue(who) and self.issuers <= {who}
 
     def has_issued(self, node: int) -> bool:
-        """Whether a node issued something."""
         return any(issuer == node for issuer, _ in self.issuers)
 
     def may_go(self, node: int) -> bool:

@@ -79,7 +79,6 @@ class Maker:
         self.now = 0
 
     def name_of(self, node: int) -> bytes:
-        """A node's name as a word."""
         return spelled(self.config.nodes[node])
 
     def usual_node(self) -> int:
@@ -151,7 +150,6 @@ class PlayingMaker(Maker):
         return [node for node in self.nodes if self.world.is_on(node)]
 
     def off(self) -> list[int]:
-        """The nodes that are off."""
         return [node for node in self.nodes if not self.world.is_on(node)]
 
     def usual_node(self) -> int:

@@ -159,7 +159,6 @@ def group_at(tokens: Tokens, at: int) -> int:
 
 
 def perhaps_string(random: Random) -> Tokens:
-    """A string, or nothing."""
     found: list[Tokens] = [[], [random.choice(STRINGS + BAD_STRINGS)]]
     return random.choice(found)
 

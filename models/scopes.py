@@ -101,7 +101,6 @@ class Scopes:
         return list(latest.values())
 
     def kind_at(self, name: str, at: int) -> Optional[Kind]:
-        """The kind of a name at a place."""
         return next((one.kind for one in self.bound_at(at) if one.name == name), None)
 
     def others(self, node: Union[ast.Name, ast.Attribute]) -> List[str]:

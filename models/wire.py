@@ -38,7 +38,6 @@ Rows = Dict[Origin, Tuple[int, List[int]]]
 
 
 def rows_of(dots: set[Dot]) -> Rows:
-    """The written form of a set of dots."""
     counters: dict[Origin, list[int]] = {}
     for dot in sorted(dots):
         counters.setdefault(dot.origin, []).append(dot.n)

@@ -187,7 +187,6 @@ class World:
         return running
 
     def down(self, node: int, about: int) -> int:
-        """A node reports another one as down."""
         self.active(node)
         refuse("UnknownNode", about >= len(self.nodes))
         refuse("OnSelf", about == node)
@@ -254,7 +253,6 @@ class World:
         return self.issue(node, ClaimAct(app, self.next_term(state, app), TAKEOVER, source))
 
     def next_term(self, state: Meaning, app: int) -> int:
-        """The term of the next claim of an application."""
         return state.claims[app].term + 1 if app in state.claims else 1
 
     # Ticks

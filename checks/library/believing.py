@@ -117,7 +117,6 @@ def believe(arguments: argparse.Namespace) -> int:
 
 
 def listed(title: str, items: Sequence[str]) -> None:
-    """Prints a title with a count, and the items counted."""
     print(f"{len(items)} {title}{':' if items else ''}")
     if items:
         print("\n".join(wrapped("; ".join(items), "    ")))

@@ -149,7 +149,6 @@ class Page:
             yield from ("", f"## {layer}", *parts) if parts else ()
 
     def counts(self) -> str:
-        """The sentence with the counts."""
         crates = self.modules.crates.order()
         every = sum(len(self.modules.definitions_of(crate)) for crate in crates)
         few = f"{len(self.chosen.definitions):,} of the {every:,} definitions"

@@ -83,5 +83,4 @@ def faults_in(one: Round, crate: str, said: List[str]) -> Dict[str, str]:
 
 
 def without(code: Code, one: Round, faults: Mapping[str, str]) -> Round:
-    """A round without these mutants."""
     return round_of(code, {body: edit for body, edit in one.edits.items() if edit.name not in faults})

@@ -20,8 +20,6 @@ GENERATED = ("declared", "contracts", "sources", "impls", "model", "models")
 
 
 class Import(NamedTuple):
-    """One import."""
-
     path: Tuple[str, ...]
     # each name by its local name; None if the whole module is imported
     names: Optional[Dict[str, str]]
@@ -129,7 +127,7 @@ class Module:
         while self._blocks and depth_of(line) <= self._blocks[-1][0]:
             self._end()
             self._blocks.pop()
-        if self._name and depth_of(line) > self._depth():
+        if self._name and depth_of(line) > depth_of(self._text[0]):
             self._text.append(line)
         elif bare.startswith("-- ----"):
             self._comment = []
@@ -165,10 +163,6 @@ class Module:
         if self._text:
             self._text.append("")
 
-    def _depth(self) -> int:
-        """The indentation of the current declaration."""
-        return depth_of(self._text[0])
-
     def _end(self) -> None:
         """Ends the current declaration."""
         if not self._name:
@@ -184,8 +178,6 @@ class Module:
 
 
 class Modules:
-    """The modules of all crates."""
-
     def __init__(self, root: pathlib.Path = HERE) -> None:
         """Reads nothing until asked."""
         self.root = root

@@ -127,8 +127,6 @@ def faults_of_clauses(text: str, sources: Sources) -> Iterator[str]:
 
 
 class Promises:
-    """The promises of the document."""
-
     def __init__(self, root: pathlib.Path, sources: Sources) -> None:
         """Reads the document."""
         self.text = (root / "docs" / "PROMISES.md").read_text(encoding="utf-8")

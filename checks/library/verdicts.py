@@ -52,7 +52,6 @@ class Record:
         return self.root / FOLDER / f"{crate}.tsv"
 
     def rows(self, crate: str) -> Dict[str, Row]:
-        """The rows of a crate, by mutant."""
         file = self.file(crate)
         lines = file.read_text(encoding="utf-8").splitlines() if file.exists() else []
         cells = [line.split("\t") for line in lines]

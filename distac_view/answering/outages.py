@@ -38,5 +38,4 @@ def outage_of(wait: int, tick_time: int, takes: int | None = None) -> str:
 
 
 def seconds_of(milliseconds: int) -> str:
-    """Milliseconds as seconds."""
     return f"{milliseconds / 1000:.3f}".rstrip("0").rstrip(".")

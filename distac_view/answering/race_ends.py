@@ -135,7 +135,6 @@ class Reply:
         return {place for own in lines for place, _ in own - common}
 
     def differing(self, end: End) -> List[PageLine]:
-        """The lines of an end that differ between ends."""
         return self.lines_at(end, self.places)
 
     def common(self) -> List[PageLine]:
@@ -154,7 +153,6 @@ class Reply:
 
 
 def placed(pages: Pages) -> "Dict[LinePlace, str]":
-    """Each line of some pages, by its place."""
     return {(page, at): line for page, lines in enumerate(pages) for at, line in enumerate(lines)}
 
 

@@ -62,7 +62,6 @@ class Step:
 
     @property
     def moves(self) -> int:
-        """The number of its moves."""
         return len(self.drained) + len(self.down) + len(self.back)
 
     @property
@@ -275,6 +274,5 @@ def moves_of(page: Page, claims: list[Claimed], earlier: Page | None = None) -> 
 
 
 def runs_at(page: Page, app: str) -> str | None:
-    """The node that runs an application, on a page."""
     held = page.held.get(app)
     return held.runs_at if held else None

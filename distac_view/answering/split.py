@@ -63,7 +63,6 @@ class SplitReply:
 
 
 def split_reply(distac: Distac, question: Question) -> SplitReply:
-    """The answer to a question on a split."""
     checked = load_config(distac, question.config)
     groups = groups_of(question.split, checked.configuration)
     side = sides_of(distac, checked, question, known_nodes(question.not_started, checked.configuration))[0]

@@ -137,12 +137,10 @@ class Reply:
 
     @property
     def cases(self) -> list[Case]:
-        """The cases of all sides."""
         return [case for answers in self.sides for case in answers.cases]
 
 
 def reply_to(distac: Distac, question: Question) -> Reply:
-    """The answer to a question."""
     return reply_on(distac, load_config(distac, question.config), question)
 
 
@@ -167,7 +165,6 @@ def reply_on(distac: Distac, checked: Checked, question: Question) -> Reply:
 
 
 def sides_of(distac: Distac, checked: Checked, question: Question, not_started: list[str]) -> list[Side]:
-    """The sides at the beginning of the question."""
     if question.now:
         if question.after or not_started:
             raise Problem("--now can't stand beside --after or --not-started: it says itself what runs where")
@@ -196,7 +193,6 @@ def courses_of(distac: Distac, side: Side, losses: list[Loss], failing: Sequence
     distac.cases += len(losses)
 
     def played(number: int) -> Course:
-        """The course of a case."""
         if failing:
             return failing_course(distac, side.cluster, losses[number], list(failing))
         return course_of(distac, side.cluster, losses[number], pages[number])
@@ -213,7 +209,6 @@ def cases_of(distac: Distac, side: Side, losses: list[Loss], failing: Sequence[F
 
 
 def case_of(side: Side, course: Course) -> Case:
-    """The course of each application in a case."""
     now, at_once, then, back = (held_on(page, side.cluster.configuration) for page in (side.page, course.at_once, course.then, course.back))
     claims = {each.app: each.milliseconds for each in course.claims}
     fates = [fate_of(now[name], at_once[name], then[name], back[name], claims.get(name), name in course.waiting) for name in now]

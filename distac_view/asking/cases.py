@@ -213,6 +213,5 @@ def is_claim(one: Answered, line: str) -> bool:
 
 
 def claimed(one: Answered, line: str, milliseconds: int) -> Claimed:
-    """The claim in a line."""
     found = CLAIM.match(line)
     return Claimed(found["app"], one.actor, found["how"].split(" ")[0], milliseconds) if found else Claimed("", one.actor, "", milliseconds)

@@ -55,7 +55,6 @@ class Cluster:
 
     @property
     def configuration(self) -> Configuration:
-        """The configuration of all nodes."""
         return self.story.configuration
 
     def boot(self, nodes: list[str], not_started: Iterable[str]) -> None:
@@ -103,7 +102,6 @@ class Cluster:
         self.is_untold = False
 
     def tick(self, nodes: Iterable[str]) -> None:
-        """Nodes tick."""
         self.story.add(*(f"tick {node} {self.story.now}" for node in nodes))
 
     def page(self, distac: Distac) -> Page:

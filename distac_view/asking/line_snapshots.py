@@ -33,7 +33,6 @@ def seen_lines(distac: Distac, loaded: Loaded, first: int, last: int) -> Iterato
 
 
 def asked_after(line: Line, nodes: list[str]) -> list[str]:
-    """The nodes whose pages are printed after a line."""
     if not line.is_event:
         return []
     if line.verb == "share":

@@ -57,12 +57,7 @@ def new_story(checked: Checked) -> Story:
     for name in (*configuration.nodes, *configuration.names):
         if " " in name:
             raise Problem(f"the name {shown(name)} has a space, and no script can name it: it can't be played")
-    return Story(playable(checked), configuration)
-
-
-def playable(checked: Checked) -> bytes:
-    """The configuration at the beginning of a script: its own text, unless one of its lines would end it."""
-    return checked.text if separator_in(checked.text) is None else bytes_of(checked.canonical + "\n")
+    return Story(checked.text if separator_in(checked.text) is None else bytes_of(checked.canonical + "\n"), configuration)
 
 
 def opened(distac: Distac, checked: Checked, not_started: list[str]) -> Side:

@@ -57,7 +57,6 @@ class Race:
 
     @property
     def nodes(self) -> List[str]:
-        """The names of all nodes."""
         return self.checked.configuration.nodes
 
     def runs(self, seed: int) -> Iterator[Kept]:
@@ -80,7 +79,6 @@ class Race:
         return small, is_smallest and not is_stopped()
 
     def written(self, events: List[Event], comment: str) -> Written:
-        """The script of some events, with a comment at its top."""
         from schedules import replayed
 
         replay = replayed(self.config, events)

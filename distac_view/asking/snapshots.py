@@ -53,7 +53,6 @@ class Held:
         return self.runs_at is not None and set(self.nodes_marked("ok")) <= {self.runs_at}
 
     def nodes_marked(self, *marks: str) -> list[str]:
-        """The nodes of its list with one of some marks."""
         return [node for node, mark in marks_in(self.marks) if mark in marks]
 
 
@@ -76,7 +75,6 @@ class Page:
 
 
 def page_of(answer: list[str]) -> Page:
-    """The page in some lines."""
     head = HEAD.match(answer[0])
     if not head:
         return Page()

@@ -65,6 +65,5 @@ def told(looked: Looked, words: argparse.Namespace, output: Output) -> Status:
 
 
 def file_fields(looked: Looked, words: argparse.Namespace) -> Fields:
-    """The fields of a file."""
     faults = [remark_fields("fault", looked.fault)] if looked.fault is not None else []
     return {"file": looked.path, "configuration": looked.canonical, "remarks": [*faults, *warnings_fields(words, looked.warnings)]}

@@ -76,7 +76,6 @@ def seed(word: str) -> int:
 
 
 def add_ends(parser: argparse.ArgumentParser) -> None:
-    """The words of `ends`."""
     parser.add_argument("file", metavar="FILE.live", help="a configuration, a line --, and the lines of a live script")
     about = f"how many schedules are played, {SCHEDULES} if absent"
     parser.add_argument("--schedules", metavar="N", type=count_from_one, default=SCHEDULES, help=about)

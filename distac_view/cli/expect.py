@@ -57,7 +57,6 @@ class Stored:
         return self.status == Status.TROUBLE and self.verdict != "same"
 
     def lines(self) -> Iterator[str]:
-        """The differences, as lines."""
         if self.verdict == "same":
             return
         yield f"{shown(self.name)}: {shown(' '.join(self.words)) or 'no question has this answer any more'}"
@@ -231,7 +230,6 @@ def standard_error(errors: io.BytesIO) -> Iterator[None]:
 
 
 def fields_of(each: Stored, is_written: bool) -> Fields:
-    """The fields of a question."""
     return {
         "name": each.name,
         "words": each.words,
@@ -244,7 +242,6 @@ def fields_of(each: Stored, is_written: bool) -> Fields:
 
 
 def add_expect(parser: argparse.ArgumentParser) -> None:
-    """The words of `expect`."""
     parser.add_argument("folder", metavar="FOLDER", help="a folder with NAME.question, the words of a command line, and NAME.answer")
     parser.add_argument("names", metavar="NAME", nargs="*", help="the questions that are asked: all, if none is named")
     parser.add_argument("--write", action="store_true", help="write the answers that differ anew")

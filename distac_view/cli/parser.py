@@ -29,7 +29,6 @@ class Parser(argparse.ArgumentParser):
         return self.actions[-1]
 
     def add_one_of(self, *options: "tuple[str, dict[str, Any]]") -> None:
-        """Adds mutually exclusive options."""
         group = self.add_mutually_exclusive_group()
         self.actions += [group.add_argument(name, **settings) for name, settings in options]
 

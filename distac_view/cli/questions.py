@@ -164,7 +164,6 @@ def add_what_if(parser: argparse.ArgumentParser) -> None:
 
 
 def add_load(parser: argparse.ArgumentParser) -> None:
-    """The words of `load`."""
     parser.add_argument("config", metavar="CONFIG", help="a configuration, as erl -config takes it")
     add_now(parser)
     parser.add_argument("--pairs", action="store_true", help="ask about each two nodes that go down together too")
@@ -175,7 +174,6 @@ def add_load(parser: argparse.ArgumentParser) -> None:
 
 
 def add_rolling(parser: argparse.ArgumentParser) -> None:
-    """The words of `rolling`."""
     parser.add_argument("config", metavar="CONFIG", help="a configuration, as erl -config takes it")
     add_now(parser)
     order = "restart these nodes in this order; if absent, the best order of all nodes is looked for"

@@ -75,7 +75,6 @@ def remark_fields(kind: str, told: Told, is_allowed: bool = False) -> Fields:
 
 
 def warnings_fields(words: argparse.Namespace, warnings: list[Told]) -> list[Fields]:
-    """The fields of warnings."""
     allowed = Allowed(words.allow)
     return [remark_fields("warning", told, allowed.has(told)) for told in warnings]
 

@@ -38,7 +38,6 @@ class Remark:
         return "\n".join((head, *quoted(self.place)))
 
     def told(self, path: str) -> Told:
-        """The remark with its file."""
         return Told(self.name, self.sentence, path, self.place, self.apps)
 
 

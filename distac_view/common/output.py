@@ -22,7 +22,6 @@ class Output:
 
     @property
     def is_terminal(self) -> bool:
-        """Whether it is a terminal."""
         return self.stream.isatty()
 
     def line(self, text: str) -> None:

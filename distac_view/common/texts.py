@@ -39,7 +39,6 @@ def width_of(character: str) -> int:
 
 
 def padded(text: str, columns: int) -> str:
-    """A text padded with spaces to so many columns."""
     return text + " " * (columns - columns_of(text))
 
 

@@ -36,7 +36,6 @@ class Scene:
 
     @property
     def here(self) -> Token | None:
-        """The token at the fault, if there is one."""
         token = next(byte_tokens(self.text[self.at :]), None)
         return token if token is not None and token.start == 0 else None
 
@@ -87,7 +86,6 @@ class Scene:
 
 
 def remark_on(fault: Fault, text: bytes) -> Remark:
-    """The remark on a fault of a configuration."""
     before = list(byte_tokens(text[: fault.place]))
     scene = Scene(text, fault.place, before)
     sentence = SENTENCES[fault.name](scene) if fault.name in SENTENCES else "see docs/FORMATS.md"

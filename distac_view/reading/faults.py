@@ -34,7 +34,6 @@ FORMS = {
 
 
 def fault_of(line: str) -> Fault:
-    """The fault in a printed line."""
     for part, form in FORMS.items():
         found = form.match(line)
         if found:

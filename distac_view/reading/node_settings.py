@@ -71,7 +71,6 @@ class Setting:
     origin: Origin
 
     def fault(self, name: str, sentence: str) -> Faulty:
-        """The fault of the parameter."""
         return self.origin.file.fault(self.origin.place, name, sentence)
 
     def remark_in(self, way: Way, name: str, sentence: str) -> Remark:
@@ -115,12 +114,10 @@ class Library:
             self.terms.update(zip(new, self.reader(new)))
 
     def term(self, text: str) -> Read:
-        """The term of a text, or its fault."""
         self.read([text])
         return self.terms[text]
 
     def sections(self, file: SourceFile) -> list[Term]:
-        """The outer list of a file."""
         term = self.term(file.text)
         if isinstance(term, Misread):
             raise fault_of_syntax(file, term)
@@ -151,7 +148,6 @@ def settings_of(node: str, files: list[SourceFile], surroundings: Surroundings, 
 
 
 def named_in(file: SourceFile, surroundings: Surroundings, library: Library) -> list[SourceFile]:
-    """The files named in a file's outer list."""
     names = map(file_name, library.sections(file))
     paths = [surroundings.config_of(name, os.path.dirname(file.path)) for name in names if name]
     return [library.file(path, surroundings.variables) for path in paths]

@@ -17,7 +17,6 @@ RETURN = "a carriage return stands at the line's end, and counts as a part of it
 
 
 def remark_on_input(fault: Fault, source: bytes) -> Remark:
-    """The remark on a fault of a whole input."""
     if fault.name == "TooLong":
         offset, sentence = MOST_INPUT, "an input has at most 2,097,152 bytes, configuration and script together: play it in parts"
     elif fault.name == "NoScript":

@@ -25,7 +25,6 @@ class Line(NamedTuple):
 
     @property
     def words(self) -> list[str]:
-        """Its words."""
         return words_of(self.text)
 
     @property

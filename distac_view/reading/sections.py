@@ -52,17 +52,12 @@ class Sections:
             self.parameters.append((len(self.sections) - 1, name, place))
 
     def of_section(self, name: str) -> int:
-        """The last section of a name."""
         return max((place for section, place in self.sections if section == name), default=0)
 
     def of_parameter(self, name: str) -> int:
         """The last parameter of kernel of a name."""
         found = (place for number, parameter, place in self.parameters if (self.sections[number][0], parameter) == ("kernel", name))
         return max(found, default=0)
-
-    def twice_sections(self) -> Iterator[tuple[str, int]]:
-        """Repeated sections."""
-        return again(self.sections)
 
     def twice_parameters(self) -> Iterator[tuple[str, int]]:
         """Parameters repeated in their section."""
@@ -94,7 +89,7 @@ def again(named: Iterable[tuple[Name, int]]) -> Iterator[tuple[Name, int]]:
 def twice_in(file: SourceFile, sections: Sections, about_parameter: str) -> Iterator[Remark]:
     """Sections and parameters repeated in one file, with a sentence on a parameter: OTP doesn't boot with such a
     file."""
-    for name, place in sections.twice_sections():
+    for name, place in again(sections.sections):
         if os.path.basename(file.path) not in SYS_CONFIG:
             sentence = f"the section {cut(shown(name), 60)} stands twice: OTP boots with that in sys.config alone; put both into one"
             yield file.remark(place, "TwiceSection", sentence)

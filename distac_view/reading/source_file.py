@@ -33,7 +33,6 @@ class SourceFile:
 
     @property
     def text(self) -> str:
-        """Its text for reading."""
         return self.filled.text
 
     @property
@@ -59,7 +58,6 @@ class SourceFile:
         return Remark(place_of(self.source, offset), name, sentence)
 
     def fault(self, place: int, name: str, sentence: str) -> Faulty:
-        """The fault at a character."""
         return Faulty(self.path, self.remark(place, name, sentence))
 
 

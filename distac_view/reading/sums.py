@@ -23,7 +23,6 @@ class Sum:
 
     @property
     def comment(self) -> str:
-        """The comment about it."""
         return f"%% {self.node} {self.file} sha256 {self.mark}"
 
 

@@ -17,7 +17,6 @@ UNIT = re.compile(r"(?<=\d) (?=(?:ms|s|to)\b)|(?<=\bto) (?=\d)")
 
 
 def text_in(text: str) -> str:
-    """A text in an element."""
     return escape(shown(text), quote=True)
 
 
@@ -40,7 +39,6 @@ def pieces_of(word: str) -> Iterator[str]:
 
 
 def paragraphs(sentences: Iterable[str]) -> str:
-    """A paragraph for each sentence."""
     return "".join(f"<p>{text_in(sentence)}</p>" for sentence in sentences)
 
 

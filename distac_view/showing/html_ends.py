@@ -14,7 +14,6 @@ from distac_view.showing.provenance import Asked
 
 
 def ends_page(reply: Reply, asked: Asked) -> str:
-    """The page of `ends`."""
     glance = section("At a glance", table_of(reply).text if reply.ends else "")
     ends = "".join(end_section(reply, number, end) for number, end in enumerate(reply.ends, 1))
     common = section("In each end" if len(reply.ends) > 1 else "Final pages", bullets(map(line_text, reply.common())))
@@ -37,7 +36,6 @@ def end_section(reply: Reply, number: int, end: End) -> str:
 
 
 def parts_of(reply: Reply, number: int, end: End) -> Iterator[str]:
-    """The parts of an end."""
     yield paragraphs([f"{counted(end.found.counts)}, {verdict_of(reply, end)}"])
     yield "".join(f'<p class="no">not as expected: {text_in(text)}</p>' for text in end.unmet)
     yield bullets(map(line_text, reply.differing(end)))

@@ -45,12 +45,10 @@ class Verdict:
 
 
 def notes_section(notes: Iterable[Note]) -> str:
-    """All notes, in words."""
     return section("Notes", bullets(note.text for note in notes))
 
 
 def what_if_page(reply: Reply, notes: Iterable[Note], shows_all: bool, asked: Asked) -> str:
-    """The page of `what-if`."""
     tables = [side_section(reply, answers, shows_all) for answers in reply.sides]
     nobody = section("Lost", bullets(nobody_lines(reply)))
     lasts = f"Each loss lasts {lasting(reply.question.takes, reply.configuration)}."
@@ -59,7 +57,6 @@ def what_if_page(reply: Reply, notes: Iterable[Note], shows_all: bool, asked: As
 
 
 def split_page(reply: SplitReply, notes: Iterable[Note], shows_all: bool, asked: Asked) -> str:
-    """The page of `what-if --split`."""
     sides: List[Cells] = list(side_rows(reply, shows_all))
     healed: List[Cells] = list(healed_rows(reply, shows_all))
     parts = [
@@ -80,7 +77,6 @@ def side_section(reply: Reply, answers: Answers, shows_all: bool) -> str:
 
 
 def changes_page(changes: Changes, verdict: Verdict, notes: Iterable[Note], asked: Asked) -> str:
-    """The page of `what-if --then`."""
     parts = [
         verdict.section,
         differing("What the files say", ("of", "setting", "old -> new"), map(setting_row, changes.settings)),
@@ -99,7 +95,6 @@ def differing(heading: str, heads: tuple[str, ...], rows: Iterable[tuple[str, ..
 
 
 def load_page(load: Load, most: int | None, verdict: Verdict, notes: Iterable[Note], asked: Asked) -> str:
-    """The page of `load`."""
     rows = shown_rows(load, most)
     heads, *rest = wide_rows(load, rows) if is_wide(load) else narrow_rows(load, rows)
     cells: List[Cells] = list(rest)
@@ -114,7 +109,6 @@ def load_page(load: Load, most: int | None, verdict: Verdict, notes: Iterable[No
 
 
 def rolling_page(rolling: Rolling, verdict: Verdict, notes: Iterable[Note], asked: Asked) -> str:
-    """The page of `rolling`."""
     steps = "\n".join(step_part(number, step, rolling) for number, step in enumerate(rolling.steps, 1))
     parts = [
         rolling_glance(rolling),

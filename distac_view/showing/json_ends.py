@@ -10,7 +10,6 @@ from distac_view.showing.json_answers import Fields, json_of, names_of
 
 
 def ends_answer(reply: Reply) -> str:
-    """The answer of `ends`."""
     fields: Fields = {
         "nodes": names_of(reply.search.race.nodes),
         "schedules": reply.played,
@@ -24,7 +23,6 @@ def ends_answer(reply: Reply) -> str:
 
 
 def end_fields(reply: Reply, end: End) -> Fields:
-    """The fields of an end."""
     return {
         "schedules": end.count,
         "kinds": [{"kind": kind, "schedules": count} for kind, count in end.found.counts.items()],
@@ -40,5 +38,4 @@ def end_fields(reply: Reply, end: End) -> Fields:
 
 
 def page_lines(lines: Iterable[PageLine]) -> "list[Fields]":
-    """The fields of lines of pages."""
     return [{"line": line.text, "pages": names_of(line.nodes)} for line in lines]

@@ -48,7 +48,6 @@ def setting_row(setting: Differing) -> tuple[str, ...]:
 
 
 def change_rows(changes: Changes) -> Iterator[tuple[str, ...]]:
-    """The rows of changes."""
     short = changes.short
     for each in changes.changes:
         down = " ".join(short.each(each.down))
@@ -70,7 +69,6 @@ def parts_of(old: Answer, new: Answer, short: Short) -> Iterator[str]:
 
 
 def named(place: str | None, short: Short) -> str:
-    """The place of an application."""
     return short.one(place) if place else "nowhere"
 
 

@@ -48,7 +48,6 @@ def lasting_line(reply: SplitReply) -> str:
 
 
 def side_rows(reply: SplitReply, shows_all: bool) -> "Iterator[tuple[str, ...]]":
-    """The rows of all sides."""
     for part in reply.parts:
         yield from part_rows(part, reply.configuration.short, shows_all)
 
@@ -127,7 +126,6 @@ def marks_notes(reply: SplitReply) -> Iterator[Note]:
 
 
 def split_answer(reply: SplitReply, notes: Iterable[Note]) -> str:
-    """The answer as JSON."""
     fields: Fields = {
         "nodes": names_of(reply.configuration.nodes),
         "net_ticktime": reply.tick_time,
@@ -148,6 +146,5 @@ def split_answer(reply: SplitReply, notes: Iterable[Note]) -> str:
 
 
 def part_fields(part: Part, tick_time: int) -> Fields:
-    """The fields of a side."""
     fates = [fate_fields(fate, tick_time) for fate in part.case.fates]
     return {"nodes": names_of(part.nodes), "applications": fates, "may_hang": names_of(part.case.may_hang)}

@@ -39,7 +39,6 @@ def lasting(takes: int | None, configuration: Configuration) -> str:
 
 
 def side_table(reply: Reply, answers: Answers, shows_all: bool) -> Iterator[str]:
-    """The table of one side."""
     yield from lines_of_rows([HEADS, *rows_of_side(reply, answers, shows_all)])
 
 

@@ -82,7 +82,6 @@ def without_folders(word: str, paths: List[str]) -> str:
 
 
 def file_at(path: str) -> File:
-    """A file with its checksum."""
     if path == PIPE or not os.path.isfile(path):
         return File(file_name(path), "")
     try:

@@ -1,7 +1,5 @@
 """Chromium without a window, controlled by its developer pipe: measurements of a page, pictures, and prints."""
 
-from __future__ import annotations
-
 import base64
 import json
 import os
@@ -110,7 +108,6 @@ class Browser:
         return [event["params"] for event in self.events if event["method"] == method]
 
     def value(self, expression: str) -> Any:
-        """The value of an expression on the page."""
         found = self.ask("Runtime.evaluate", expression=expression, returnByValue=True)
         assert "exceptionDetails" not in found, found
         return found["result"].get("value")
@@ -121,7 +118,6 @@ class Browser:
         return [str(node.get("name", {}).get("value", "")) for node in nodes if node.get("role", {}).get("value") == role]
 
     def picture(self) -> bytes:
-        """A picture of the window."""
         return base64.b64decode(self.ask("Page.captureScreenshot")["data"])
 
     def paper(self) -> bytes:

@@ -7,8 +7,6 @@ The schema accepts further fields and ids, because later programs may add them. 
 described.
 """
 
-from __future__ import annotations
-
 import json
 import re
 import sys
@@ -45,7 +43,6 @@ def described() -> Rule:
 
 
 def object_rule(fields: "Dict[str, tuple[str, str]]", objects: "set[str]") -> Rule:
-    """The schema of an object."""
     properties = {name: {**rule_of(value, objects), "description": meaning} for name, (value, meaning) in fields.items()}
     return {"type": "object", "properties": properties, "required": list(fields)}
 
@@ -64,8 +61,6 @@ def rule_of(kind: str, objects: "set[str]") -> Rule:
 
 
 class Schema:
-    """A schema for answers."""
-
     def __init__(self, schema: Rule) -> None:
         self.schema = schema
 
@@ -78,7 +73,6 @@ class Schema:
         return list(self.faults_in(value, self.schema["$defs"][question], str(question)))
 
     def faults_in(self, value: Any, rule: Rule, place: str) -> Iterator[str]:
-        """The faults of a value."""
         if "$ref" in rule:
             yield from self.faults_in(value, self.schema["$defs"][rule["$ref"].split("/")[-1]], place)
         if "anyOf" in rule and all(list(self.faults_in(value, choice, place)) for choice in rule["anyOf"]):
@@ -111,7 +105,6 @@ def documented() -> Schema:
 
 
 def text_of(schema: Rule) -> str:
-    """The file of a schema."""
     return json.dumps(schema, indent=2) + "\n"
 
 

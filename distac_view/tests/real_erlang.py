@@ -10,8 +10,6 @@ environment variable DISTAC names, or else the models. It isn't part of the test
 on the release of OTP. Each case has its own nodes, which are started, killed and started again.
 """
 
-from __future__ import annotations
-
 import argparse
 import json
 import signal
@@ -55,11 +53,9 @@ class Scenario:
 
     @property
     def names(self) -> list[str]:
-        """The names of its applications."""
         return [app for app, _, _ in self.apps]
 
     def distributed(self) -> str:
-        """The value of `distributed`."""
         entries = ["{%s,%s,%s}" % (app, milliseconds, whole(nodes)) for app, milliseconds, nodes in self.apps]
         return "[%s]" % ",\n      ".join(entries)
 
@@ -159,7 +155,6 @@ def expected(fates: list[Fate], moment: str) -> dict[str, str | None]:
 
 
 def run_case(scenario: Scenario, down: tuple[str, ...], score: Score) -> None:
-    """One case with its own nodes."""
     apps = {app: scenario.start_takes for app in scenario.names}
     with tempfile.TemporaryDirectory(prefix="distac-nodes-") as room, Cluster(Path(room), apps) as cluster:
         case = prepared(scenario, down, Path(room), {})
@@ -255,7 +250,6 @@ def roll(scenario: Scenario, order: list[str], takes: int | None, score: Score) 
 
 
 def moved(places: dict[str, str | None], moves: list[Said]) -> dict[str, str | None]:
-    """The places of applications after some moves."""
     return {**places, **{move["application"]: move["to"] for move in moves}}
 
 

@@ -3,8 +3,6 @@
 Chains of losses, permissions of single nodes, starts that fail, and splits, for real_erlang.py.
 """
 
-from __future__ import annotations
-
 import json
 import tempfile
 import time
@@ -40,11 +38,9 @@ class Walk:
 
     @property
     def names(self) -> List[str]:
-        """The names of its applications."""
         return [app for app, _, _ in self.apps]
 
     def text(self, node: str) -> str:
-        """The file of a node."""
         entries = ",".join("{%s,%d,%s}" % each for each in self.apps)
         return whole(FILE % (entries, ",".join("{%s,false}" % app for app in self.forbidden.get(node, "").split())))
 
@@ -83,7 +79,6 @@ WALKS = {"chains": CHAINS, "permissions": PERMISSIONS, "starts that fail": FAILI
 
 
 def take(walk: Walk, score: Score) -> None:
-    """A walk with its own nodes."""
     longest = max(milliseconds for _, milliseconds, _ in walk.apps) / 1000
     with tempfile.TemporaryDirectory(prefix="distac-nodes-") as room, Cluster(Path(room), dict.fromkeys(walk.names, 0)) as cluster:
         config = gathered(walk, Path(room))
@@ -151,7 +146,6 @@ def expected(walk: Walk, config: Path, what: str, now: Path, node: str) -> "Dict
 
 
 def compare_split(way: real_splits.Way, score: Score) -> None:
-    """One configuration of real_splits.py, split in a way."""
     counts: "Counter[str]" = Counter()
     real_splits.run_split(real_splits.SCENARIOS[0], real_splits.SPLITS[0], way, counts)
     for what, count in counts.items():

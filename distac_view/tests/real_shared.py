@@ -1,7 +1,5 @@
 """Shared parts of comparisons with real nodes: where applications run, what is counted, and nodes that come up."""
 
-from __future__ import annotations
-
 import time
 from collections import Counter
 from dataclasses import dataclass, field

@@ -9,8 +9,6 @@ parameter prevent_overlapping_partitions false and true. Then the cookies are re
 the end the nodes of all sides but the first are restarted.
 """
 
-from __future__ import annotations
-
 import argparse
 import json
 import sys

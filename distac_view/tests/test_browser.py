@@ -3,8 +3,6 @@
 It requires chromium in PATH, as in Debian's package of that name; without one these tests are skipped.
 """
 
-from __future__ import annotations
-
 import re
 import tempfile
 import unittest
@@ -174,7 +172,3 @@ class InBrowser(unittest.TestCase):
         self.assertIn("node-00@ rack-0.example.org", self.browser.names_of("rowheader"))
         self.assertIn("application", self.browser.names_of("columnheader"))
         self.assertIn("Each loss", self.browser.names_of("region"))
-
-
-if __name__ == "__main__":
-    unittest.main()

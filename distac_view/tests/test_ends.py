@@ -1,7 +1,5 @@
 """`ends`: the ends of a race, with a script of each that the program plays."""
 
-from __future__ import annotations
-
 import json
 import os
 import re
@@ -9,13 +7,11 @@ import signal
 import subprocess
 import sys
 import time
-import unittest
 from collections import Counter
 from pathlib import Path
 from typing import Any, Dict, List
 from unittest import mock
 
-from json_schema import documented
 from support import EXAMPLES, PROGRAM, TOP, InRoom, Said, distac, hear_signals, run_view, view
 from distac_view.answering.race_ends import Search, expected_by, reply_of
 from distac_view.asking.races import load_race, pages_in
@@ -49,7 +45,6 @@ class Room(InRoom):
     """A temporary folder."""
 
     def path(self, text: str) -> str:
-        """A file of a text."""
         path = self.room / "some.live"
         path.write_bytes(text.encode("utf-8", "surrogateescape"))
         return str(path)
@@ -192,8 +187,7 @@ class Answers(Room):
             self.assertEqual(view("ends", RACE, "--schedules", "1", *words).status, 2, words)
 
     def test_a_program_that_differs(self) -> None:
-        program = self.write("program", f'#!/bin/sh\n"{PROGRAM}" "$@" | sed "s/halted/kept/"\n')
-        program.chmod(0o755)
+        program = self.script("program", f'"{PROGRAM}" "$@" | sed "s/halted/kept/"')
         said = view("ends", RACE, *FEW, program=str(program))
         self.assertEqual(said.status, 2, said)
         self.assertIn(", NOT played by the program\n", said.output)
@@ -219,11 +213,8 @@ class Answers(Room):
 
     def test_json(self) -> None:
         for words in ((), ("--expect", "app shop holder main@h")):
-            said = view("ends", RACE, *FEW, "--json", *words)
-            self.assertEqual(documented().faults_of(said.output), [], said.output)
-            answer = json.loads(said.output)
+            answer = self.answer(1 if words else 0, "ends", RACE, *FEW, *words)
             self.assertEqual(sum(end["schedules"] for end in answer["ends"]), 90)
-            self.assertEqual(said.status, 1 if words else 0)
 
     def test_a_stored_answer(self) -> None:
         self.write("race.question", f"ends {RACE} --schedules 6 --expect 'app shop holder main@h'")
@@ -282,7 +273,3 @@ class Answers(Room):
             self.assertTrue(stop.is_wished)
             signal.raise_signal(signal.SIGINT)
         self.assertEqual(signal.getsignal(signal.SIGINT), before)
-
-
-if __name__ == "__main__":
-    unittest.main()

@@ -1,8 +1,6 @@
 """Pairs of applications that are reported to hang: the cases measured with three real nodes of OTP 25, which all start
 all applications."""
 
-from __future__ import annotations
-
 import unittest
 
 from support import distac
@@ -57,7 +55,3 @@ class EqualTimes(unittest.TestCase):
         self.assertEqual(pairs_that_hang(configuration_of_two(((400, "[cp1,{cp2,cp3}]"), (400, "[cp4,{cp2,cp3}]")))), [])
         self.assertEqual(pairs_that_hang(configuration_of_two(((400, "[cp1,{cp2,cp3}]"), (400, "[cp1]")))), [])
         self.assertEqual(pairs_that_hang(configuration_of_two(((400, "[cp1,cp2,{cp3,cp4}]"), (400, "[cp1,cp2,{cp3,cp4}]"))))[0].node, "cp2")
-
-
-if __name__ == "__main__":
-    unittest.main()

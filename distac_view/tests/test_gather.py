@@ -1,8 +1,6 @@
 """`gather`: files of nodes become one configuration, equal to a handwritten one, or a fault or a warning explains why
 not."""
 
-from __future__ import annotations
-
 import hashlib
 import os
 import shutil
@@ -15,11 +13,10 @@ from unittest import mock
 
 from hostile_files import FINE, hostile_sources
 from random_clusters import random_cluster
-from support import EXAMPLES, InRoom, Said, distac, run_view, view
+from support import EXAMPLES, NODES, InRoom, Said, distac, gather, run_view, view
 from distac_view.reading.erlang_reader import has_erlang
 
 COUNT = 200
-NODES = Path(__file__).resolve().parent / "nodes"
 READERS = ("erl", "own") if has_erlang() else ("own",)
 DESKS = tuple(f"desk{number}@10.4.0.{number}=manual/desk{number}.config" for number in (1, 2, 3))
 BY_HAND = (
@@ -79,16 +76,6 @@ WRONG_PARAMETERS = (
 SYNC = ",{sync_nodes_mandatory,[%s]},{sync_nodes_optional,[%s]},{sync_nodes_timeout,%s}"
 
 
-def gather(*words: str) -> Said:
-    """The output of `gather` for files in the folder of this test's nodes."""
-    here = os.getcwd()
-    os.chdir(NODES)
-    try:
-        return view("gather", *words)
-    finally:
-        os.chdir(here)
-
-
 def canonical(text: bytes) -> str:
     """The configuration of a correct text."""
     answer = distac().check(text)
@@ -96,7 +83,7 @@ def canonical(text: bytes) -> str:
     return answer.lines[0]
 
 
-class FilesOfNodes(unittest.TestCase):
+class FilesOfNodes(InRoom):
     """Files as clusters have them."""
 
     def test_equal_to_what_is_written_by_hand(self) -> None:
@@ -141,17 +128,15 @@ class FilesOfNodes(unittest.TestCase):
             self.assertIn("--reader own", said.errors)
 
     def test_the_script_of_permissions(self) -> None:
-        with tempfile.TemporaryDirectory() as room:
-            config, script = f"{room}/cluster.config", f"{room}/opening.distac"
-            said = gather("bank1=barred/bank1.config", "bank2=barred/bank2.config", "-o", config, "-s", script)
-            self.assertEqual((said.status, said.output), (0, ""))
-            self.assertIn("\npermit bank1@vault audit bank1@vault false\n", Path(script).read_text())
-            self.assertEqual(view("play", script).status, 0)
-            answer = view("what-if", config, "--after", script, "--down", "bank2@vault")
-            self.assertEqual(answer.status, 0, answer)
-            self.assertIn("audit", answer.output)
-            self.assertRegex(answer.output, r"audit without bank2@vault: .*bank1@vault=barred|audit +bank2@vault +- +nobody")
-            self.assertEqual(sorted(os.listdir(room)), ["cluster.config", "opening.distac"])
+        config, script = f"{self.room}/cluster.config", f"{self.room}/opening.distac"
+        said = gather("bank1=barred/bank1.config", "bank2=barred/bank2.config", "-o", config, "-s", script)
+        self.assertEqual((said.status, said.output), (0, ""))
+        self.assertIn("\npermit bank1@vault audit bank1@vault false\n", Path(script).read_text())
+        self.assertEqual(view("play", script).status, 0)
+        answer = view("what-if", config, "--after", script, "--down", "bank2@vault")
+        self.assertEqual(answer.status, 0, answer)
+        self.assertRegex(answer.output, r"audit without bank2@vault: .*bank1@vault=barred|audit +bank2@vault +- +nobody")
+        self.assertEqual(self.names(), ["cluster.config", "opening.distac"])
 
 
 class RandomClusters(unittest.TestCase):
@@ -194,7 +179,6 @@ class Differences(InRoom):
             self.assertIn(part, text)
 
     def config_of(self, said: Said) -> str:
-        """The configuration that was written."""
         self.assertEqual(said.status, 0, said)
         return said.output.splitlines()[-1]
 
@@ -384,7 +368,3 @@ class Use(unittest.TestCase):
                 path.write_bytes(source[:end])
                 said = view("gather", "--reader", "own", f"x@h={path}")
                 self.assertEqual(said.status, 2, (end, said))
-
-
-if __name__ == "__main__":
-    unittest.main()

@@ -3,8 +3,6 @@
 `python3 test_mistakes.py --write` writes the present output to mistakes.txt, for review.
 """
 
-from __future__ import annotations
-
 import sys
 import unittest
 
@@ -38,8 +36,5 @@ class Mistakes(unittest.TestCase):
             self.assertTrue(is_told or "s16_quoted" in part or "s18_indent" in part, part)
 
 
-if __name__ == "__main__":
-    if sys.argv[1:] == ["--write"]:
-        EXPECTED.write_text(said_of_all())
-    else:
-        unittest.main()
+if __name__ == "__main__" and sys.argv[1:] == ["--write"]:
+    EXPECTED.write_text(said_of_all())

@@ -1,7 +1,5 @@
 """The parts of `distac_view`: their imports from each other, and the names of modules."""
 
-from __future__ import annotations
-
 import ast
 import re
 import unittest
@@ -74,7 +72,3 @@ class Modules(unittest.TestCase):
             words = Counter(re.findall(r"\w+", text))
             for name in names_bound(ast.parse(text)):
                 self.assertGreater(words[name], 1, f"{path.name} imports {name}")
-
-
-if __name__ == "__main__":
-    unittest.main()

@@ -1,7 +1,5 @@
 """The commands at the top that check the program: what they refuse, before any work."""
 
-from __future__ import annotations
-
 import ast
 import os
 import runpy
@@ -203,7 +201,3 @@ class OwnCommands(unittest.TestCase):
             for text, is_right in ((printed, True), (printed.replace(b"\ntick ", b"\n# tick ", 1), False)):
                 output.write_bytes(text)
                 self.assertEqual(fuzz["is_right"](fuzz["Target"]("record", program, Path(room)), source), is_right)
-
-
-if __name__ == "__main__":
-    unittest.main()

@@ -1,13 +1,10 @@
 """The pages of `what-if`, `rolling` and `load`: their contents, their places, and that they contain the whole printed
 answer."""
 
-from __future__ import annotations
-
 import hashlib
 import json
 import os
 import re
-import unittest
 from html import unescape
 from html.parser import HTMLParser
 from pathlib import Path
@@ -63,7 +60,6 @@ class Text(HTMLParser):
         assert self.tags.pop() == tag, tag
 
     def handle_data(self, data: str) -> None:
-        """Notes a text."""
         if self.tags:
             self.found[self.tags[-1]][-1] += data
         if self.tags and self.tags[-1] in ("th", "td"):
@@ -93,7 +89,6 @@ class Pages(InRoom):
             return view(*self.words(words), "-o", "-")
 
     def answer(self, *words: str) -> Dict[str, Any]:
-        """The answer as JSON."""
         found: Dict[str, Any] = json.loads(view(*self.words(words), "--json").output)
         return found
 
@@ -292,7 +287,3 @@ class Pages(InRoom):
         self.assertEqual(wrapped("shop1@10.0.0.11"), "shop1@<wbr>10.0.0.11")
         self.assertLessEqual(max(map(len, wrapped("x" * 300).split("<wbr>"))), 12)
         self.assertEqual(wrapped("x" * 24), "x" * 24)
-
-
-if __name__ == "__main__":
-    unittest.main()

@@ -1,7 +1,5 @@
 """`load`, `rolling` and `what-if --then`, each compared with other plays of their questions."""
 
-from __future__ import annotations
-
 import json
 import re
 import unittest
@@ -12,7 +10,7 @@ from random import Random
 from unittest import mock
 
 from json_schema import documented
-from support import EXAMPLES, IS_STAND_IN, InRoom, distac, view
+from support import IS_STAND_IN, InRoom, distac, view
 from test_starts import checked_of, random_places
 from test_what_if import random_config
 from distac_view.answering import load as loads
@@ -59,7 +57,6 @@ class Files(InRoom):
         self.shop = self.path("shop.config", SHOP)
 
     def path(self, name: str, text: str) -> str:
-        """A file of a text."""
         return str(self.write(name, text))
 
 
@@ -179,8 +176,6 @@ class Hangs(Files):
 
 
 class Rolls(Files):
-    """Rolling restarts."""
-
     def test_moves_are_the_claims_of_the_script(self) -> None:
         for number in range(COUNT // 2):
             random = Random(f"rolling {number}")
@@ -505,8 +500,3 @@ class Now(Files):
         for words in (("'My-App'='a=b@h'",), ("My-App=a=b@h",), (self.path("now", "a=b@h My-App\n'c-d@h'\r\n"),)):
             answer = json.loads(view("what-if", path, "--now", *words, "--json").output)
             self.assertEqual([fate["now"] for case in answer["cases"] for fate in case["applications"]], ["a=b@h", "a=b@h"])
-
-
-if __name__ == "__main__":
-    assert EXAMPLES
-    unittest.main()

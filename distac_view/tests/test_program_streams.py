@@ -1,7 +1,5 @@
 """The program's behavior if its output can't be written or memory is short. Skipped if the models replace it."""
 
-from __future__ import annotations
-
 import functools
 import resource
 import subprocess
@@ -68,7 +66,3 @@ class Program(unittest.TestCase):
         for word in ("--help", "--version"):
             status, errors = self.ended(f'exec "$0" {word} >/dev/full', "check")
             self.assertEqual((status, errors.partition(": No")[0]), (1, "distac: standard output can't be written"), word)
-
-
-if __name__ == "__main__":
-    unittest.main()

@@ -1,15 +1,11 @@
 """The two readers of configuration files: their results, and their agreement if Erlang is installed."""
 
-from __future__ import annotations
-
 import os
-import tempfile
 import unittest
-from pathlib import Path
 from random import Random
 from unittest import mock
 
-import support
+from support import InRoom
 from hostile_files import hostile_sources
 from random_terms import changed, random_file
 from distac_view.common.problems import Problem
@@ -62,8 +58,6 @@ class ByteTokens(unittest.TestCase):
 
 
 class OwnReader(unittest.TestCase):
-    """Our own reader."""
-
     def test_what_is_read(self) -> None:
         for text, term in (*READ, *NEWER):
             with self.subTest(text=text[:80]):
@@ -133,7 +127,7 @@ class Agreement(unittest.TestCase):
             self.assertEqual(read_by_erlang(["[a]."]), [[Atom("a")]])
 
 
-class ErlangThatFails(unittest.TestCase):
+class ErlangThatFails(InRoom):
     """An Erlang that is missing, or doesn't answer."""
 
     def test_none(self) -> None:
@@ -148,16 +142,8 @@ class ErlangThatFails(unittest.TestCase):
                 read_by_erlang(["[]."])
 
     def test_why_it_failed(self) -> None:
-        with tempfile.TemporaryDirectory() as room:
-            script = Path(room, "escript")
-            script.write_text("#!/bin/sh\necho loading >&2; echo no memory >&2; exit 3\n")
-            script.chmod(0o755)
-            for which, said in ((str(script), "status 3 (no memory): try"), ("/bin/false", "status 1: try")):
-                with mock.patch("shutil.which", lambda _: which), self.assertRaises(Problem) as caught:
-                    read_by_erlang(["[]."])
-                self.assertEqual(caught.exception.sentence, f"escript ended with {said} --reader own")
-
-
-if __name__ == "__main__":
-    assert support.TOP
-    unittest.main()
+        script = self.script("escript", "echo loading >&2; echo no memory >&2; exit 3")
+        for which, said in ((str(script), "status 3 (no memory): try"), ("/bin/false", "status 1: try")):
+            with mock.patch("shutil.which", lambda _: which), self.assertRaises(Problem) as caught:
+                read_by_erlang(["[]."])
+            self.assertEqual(caught.exception.sentence, f"escript ended with {said} --reader own")

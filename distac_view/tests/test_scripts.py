@@ -1,7 +1,5 @@
 """Random scripts of the models: `play` shows the lines of `distac` in order, and a `tell` of all nodes is a share."""
 
-from __future__ import annotations
-
 import unittest
 from random import Random
 
@@ -143,7 +141,3 @@ class Guesses(unittest.TestCase):
         written = written_out(lines, lambda run: ["refused 1 Off" if line.is_event else "" for line in run])
         self.assertEqual([line.text for line in written], ["% tell a b c", "boot a 0"])
         self.assertTrue(Script(b"tell", b"", lines).has_tells)
-
-
-if __name__ == "__main__":
-    unittest.main()

@@ -4,8 +4,6 @@ places.
 A case written in one go is compared with the case played step by step.
 """
 
-from __future__ import annotations
-
 import json
 import tempfile
 import unittest
@@ -64,7 +62,6 @@ class Asked(InRoom):
         self.path = self.room / "script"
 
     def reply(self, config: str, script: str, *down: str) -> Reply:
-        """The reply to a question after a script."""
         self.path.write_text(config + "--\n" + script)
         return reply_on(distac(), checked_of(config), Question("x", list(down), after=str(self.path)))
 
@@ -382,7 +379,3 @@ class Plays(unittest.TestCase):
         reply = reply_on(program, checked_of(text), Question("x"))
         self.assertEqual((len(reply.cases), program.cases, program.cases_done), (9, 9, 9))
         self.assertLessEqual(len(asked), 9 + 5)
-
-
-if __name__ == "__main__":
-    unittest.main()

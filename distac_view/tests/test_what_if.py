@@ -4,15 +4,13 @@ Nothing is printed or read here: worlds of the models are copied, and the models
 knowledge.
 """
 
-from __future__ import annotations
-
 import copy
 import unittest
 from collections.abc import Iterable
 from random import Random
 from typing import Optional, Tuple
 
-from support import IS_STAND_IN, distac
+from support import distac
 import placement
 from check import Config, read_config
 from world import Refused, World
@@ -185,8 +183,3 @@ class WhatIf(unittest.TestCase):
         reply = reply_on(distac(), check_config(distac(), "x", text.encode()), Question("x", down, not_started, takes=takes))
         answered = [(fate.now, fate.then, fate.how, fate.milliseconds, fate.back) for fate in reply.cases[0].fates]
         self.assertEqual(answered, expected)
-
-
-if __name__ == "__main__":
-    assert IS_STAND_IN or distac()
-    unittest.main()

@@ -1,7 +1,5 @@
 """Words of the program's own command line that no test of a crate can pass."""
 
-from __future__ import annotations
-
 import subprocess
 import unittest
 
@@ -19,7 +17,3 @@ class Words(unittest.TestCase):
             with self.subTest(words=words):
                 done = subprocess.run([PROGRAM.encode(), *words], stdin=subprocess.DEVNULL, capture_output=True)
                 self.assertEqual((done.returncode, done.stdout, done.stderr), (2, b"", SENTENCE))
-
-
-if __name__ == "__main__":
-    unittest.main()
