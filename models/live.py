@@ -137,7 +137,6 @@ class Run:
         self.links = [Link(node, to) for node in nodes for to in nodes if to != node]
 
     def play(self, phases: list[Phase]) -> bytes:
-        """The output of all phases and of the end."""
         lines = [line for number, phase in enumerate(phases, 1) for line in self.printed(number, phase)]
         for node in range(len(self.world.nodes)):
             lines += self.text.page(node)

@@ -120,8 +120,6 @@ Act = Union[Up, Down, Permit, Start, Stop, ClaimAct, Drain]
 
 @dataclass(frozen=True)
 class Operation:
-    """An operation: its dot and its effect."""
-
     dot: Dot
     act: Act
 

@@ -92,8 +92,7 @@ def all_mutations() -> list[Mutation]:
 
 @contextmanager
 def loaded(mutation: Mutation) -> Iterator[None]:
-    """The models with a change. In its context the changed module and those that depend on it replace the original
-    ones."""
+    """The changed models. In this context the changed module and its users replace the original ones."""
     first = [f"{name}.py" for name in MODULES].index(mutation.file)
     kept = {name: importlib.import_module(name) for name in MODULES}
     try:

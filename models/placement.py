@@ -55,7 +55,6 @@ def holder(meaning: Meaning, app: int) -> Origin | None:
 
 
 def running_node(config: Config, meaning: Meaning, app: int) -> int | None:
-    """The node that runs an application."""
     origin = holder(meaning, app)
     if origin is None or meaning.live(origin.node) != origin.inc:
         return None

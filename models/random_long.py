@@ -36,7 +36,6 @@ GATES = (b"", b"", WAITING % b"optional", WAITING % b"mandatory")
 
 
 def names(letter: bytes, count: int, end: bytes = b"") -> list[bytes]:
-    """This many names, in order."""
     return [b"%s%02d%s" % (letter, number, end) for number in range(count)]
 
 
@@ -80,7 +79,6 @@ class LongMaker:
         self.off.discard(node)
 
     def crash(self, node: bytes) -> None:
-        """A node goes off."""
         self.add(b"crash", node)
         self.off.add(node)
 

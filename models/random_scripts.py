@@ -231,7 +231,6 @@ class ScriptMaker(PlayingMaker):
             self.add(b"share")
 
     def start_all(self, node: int, rate: float) -> None:
-        """Start wishes for all that a node may run."""
         for app in self.starts(node, rate):
             self.add(b"start", self.name_of(node) if self.world.is_on(node) else self.node(), app, self.name_of(node))
 

@@ -35,7 +35,6 @@ ANY_TOKEN = NODES + APPS + NUMBERS + BAD_NUMBERS + STRINGS + BAD_STRINGS + BAD_A
 
 
 def parted(items: list[Tokens]) -> Tokens:
-    """Items separated by commas."""
     tokens: Tokens = []
     for item in items:
         tokens += ([b","] if tokens else []) + item
@@ -276,7 +275,6 @@ def long_number(random: Random) -> bytes:
 
 
 def no_applications(random: Random) -> bytes:
-    """A file without applications."""
     found = [one for one in parameters(random) if b"distributed" not in one]
     if random.random() < 0.5:
         found.append(tuple_of([[b"distributed"], listed([])]))

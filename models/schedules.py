@@ -32,11 +32,6 @@ Pages = Tuple[Tuple[bytes, ...], ...]
 # Choosing
 
 
-def by_chance(chance: random.Random, _: int) -> Choose:
-    """Chooses any thread that can go on."""
-    return chance.choice
-
-
 def by_thread(chance: random.Random, steps: int) -> Choose:
     """Chooses the thread of the highest priority. At random ones of so many steps it falls below all others."""
     priorities: Dict[Thread, float] = {}
@@ -73,7 +68,7 @@ def highest_of(threads: List[Thread], priorities: Dict[Thread, float], chance: r
     return max(threads, key=priorities.__getitem__)
 
 
-KINDS: Dict[str, Callable[[random.Random, int], Choose]] = {"uniform": by_chance, "PCT": by_thread, "POS": by_step}
+KINDS: Dict[str, Callable[[random.Random, int], Choose]] = {"uniform": lambda chance, _: chance.choice, "PCT": by_thread, "POS": by_step}
 
 
 def kind_of(number: int) -> str:
@@ -103,7 +98,6 @@ class Kept(Run):
         self.ships: Dict[int, Event] = {}
 
     def chosen(self, threads: List[Thread]) -> Thread:
-        """The thread of the next step."""
         self.steps += 1
         return self.chooser(threads)
 
@@ -162,7 +156,6 @@ class Replay:
 
 
 def replayed(config: Config, events: Iterable[Event]) -> Replay:
-    """Plays events anew."""
     player, found = Player(config), Replay(config)
     numbers: Dict[Event, int] = {}
     for event in events:

@@ -47,8 +47,7 @@ class Scopes:
     # Binding
 
     def bind(self, node: ast.AST, end: Optional[int], of: Optional[str]) -> None:
-        """Binds the names in a part of a function, which ends there, or of a class. Those outside of functions aren't
-        bound."""
+        """Binds the names in a part of a function, which ends there, or of a class, but none outside of functions."""
         inner = end
         if isinstance(node, ast.FunctionDef):
             extent = self.places.span(node)

@@ -54,7 +54,6 @@ def faults_agree(of: str, read: Callable[[bytes], object], faulty: Iterable[Faul
 
 
 def with_byte(data: bytes, at: int, byte: int) -> bytes:
-    """The bytes with one of them changed."""
     return data[:at] + bytes((byte,)) + data[at + 1 :]
 
 
@@ -339,7 +338,6 @@ def verdicts_of(config: Config, state: Meaning) -> tuple[str, str, int]:
 
 
 def placement_checks() -> Iterator[Check]:
-    """The placement of two applications."""
     config = read_config(TWO_APPLICATIONS)
     ups = [Operation(Dot(node, 1, 1), Up()) for node in range(3)]
     starts = [Operation(Dot(node, 1, 2), Start(Key(0, node, 1), ())) for node in range(3)]

@@ -142,7 +142,6 @@ class World:
         return running
 
     def is_on(self, node: int) -> bool:
-        """Whether a node runs."""
         return self.nodes[node].running is not None
 
     def message(self, number: int) -> Message:
@@ -368,8 +367,7 @@ class World:
         return self.running(node).add(1 << number - 1)
 
     def share(self) -> int:
-        """Each running node ships to every other one, and all is delivered at once. Returns the number of messages
-        shipped."""
+        """Each running node ships to every other, all is delivered at once, and the number of messages is returned."""
         on = [node for node in range(len(self.nodes)) if self.is_on(node)]
         shipped = 0
         for node in on:

@@ -76,7 +76,6 @@ class BelievedPage:
         yield self.counts()
 
     def _code(self, crate: str) -> Iterator[str]:
-        """The types and constants of a crate."""
         of_crate = sorted((one for one in self.types if one.crate == crate), key=lambda one: (str(one.file), one.line))
         for file, group in itertools.groupby(of_crate, lambda one: one.file):
             yield f"==== {crate}, {file.relative_to(self.modules.root / 'crates' / crate)}"

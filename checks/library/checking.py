@@ -61,7 +61,6 @@ def crate_list() -> List[Check]:
 
 
 def script_list(types: bool) -> List[Check]:
-    """The checks of edits and scripts with the tools available."""
     files = document_checks.files_of(HERE)
     no_types = script_checks.why_no_types() if types else "--no-types was given"
     no_shellcheck = script_checks.why_not("shellcheck")

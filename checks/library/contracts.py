@@ -149,7 +149,6 @@ class SourceFile:
                 yield self._function(place, function, blocks)
 
     def _block(self, place: int, match: "re.Match[str]") -> Block:
-        """The block that begins at a line."""
         is_of_trait = match["kind"] == "trait" or " for " in match["rest"]
         ghosts = tuple(ghosts_in(self.lines, place)) if is_of_trait else ()
         return Block(depth_of(self.lines[place]), name_of_block(match["rest"]), is_of_trait, ghosts)

@@ -7,8 +7,6 @@ HERE = pathlib.Path(__file__).resolve().parent.parent.parent
 
 
 class Crates(NamedTuple):
-    """The contents of crates.txt."""
-
     # the crates of each layer, lowest first, by the layer's first word
     layers: Dict[str, Tuple[str, ...]]
     # the crates of the repository and libraries of the toolchain that each crate lists

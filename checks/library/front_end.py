@@ -65,7 +65,6 @@ def reading_of(root: pathlib.Path, codes: Mapping[str, Code], rounds: Dict[str, 
 
 
 def write(root: pathlib.Path, crate: str, texts: Mapping[str, str]) -> None:
-    """Writes texts of a crate's files."""
     for name, text in texts.items():
         (root / "crates" / crate / name).write_text(text, encoding="utf-8")
 

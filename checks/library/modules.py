@@ -83,7 +83,6 @@ def declared_in(line: str) -> Optional[str]:
 
 
 def constructors_of(text: Tuple[str, ...]) -> Iterator[str]:
-    """The constructors of a declaration of data."""
     if not re.match(r"^\s*(?:pub )?data ", text[0]):
         return
     depth = min((depth_of(line) for line in text[1:] if line.strip()), default=0)
@@ -164,7 +163,6 @@ class Module:
             self._text.append("")
 
     def _end(self) -> None:
-        """Ends the current declaration."""
         if not self._name:
             return
         while self._text and not self._text[-1].strip():
@@ -214,7 +212,6 @@ class Modules:
         return self._read[file]
 
     def all_of(self, crate: str) -> List[Module]:
-        """All modules of a crate's specs/."""
         folder = self.root / "crates" / crate / "specs"
         found = []
         for file in sorted(folder.glob("**/*.antt")):

@@ -82,7 +82,6 @@ def items_of(text: str) -> Iterator[Item]:
 
 
 def promises_of(text: str) -> Iterator[Promise]:
-    """The promises of the section by crates."""
     above: Tuple[Cited, ...] = ()
     for one in items_of(text):
         says, _, carriers = one.text.rpartition(CARRIED)
@@ -107,7 +106,6 @@ def place_of(one: Function) -> Tuple[str, int]:
 
 
 def faults_of_cited(one: Cited, crate: str, sources: Sources) -> Iterator[str]:
-    """The faults of a name and its clauses."""
     found = functions_of(one, crate, sources)
     is_function = not one.name.split("::")[-1][0].isupper() and not re.fullmatch(r"dac_\w+", one.name)
     if not found and is_function:

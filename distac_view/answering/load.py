@@ -95,7 +95,6 @@ def hanging(side: Side, *courses: Course) -> list[str]:
 
 
 def row_by(down: list[str], side: Side, held: dict[str, Held], may_hang: list[str]) -> Row:
-    """The row of applications with these holders."""
     places = {name: each.runs_at for name, each in held.items() if each.runs_at is not None}
     counts = {node: list(places.values()).count(node) for node in side.nodes if node not in down}
     ran = [name for name, each in side.page.held.items() if each.runs_at is not None]

@@ -157,8 +157,7 @@ def placed(pages: Pages) -> "Dict[LinePlace, str]":
 
 
 def reply_of(distac: Distac, search: Search) -> Reply:
-    """Plays the schedules until Ctrl-C, shrinks the shortest run of each end until another one, and has the program play the
-    scripts."""
+    """Plays schedules until Ctrl-C, shrinks the shortest run of each end until another, and plays the scripts."""
     with Stop() as stop:
         found, played = searched(distac, search, stop)
     with Stop() as shrinking:

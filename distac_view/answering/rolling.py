@@ -264,8 +264,7 @@ def drain(distac: Distac, cluster: Cluster, node: str) -> list[Claimed]:
 
 
 def moves_of(page: Page, claims: list[Claimed], earlier: Page | None = None) -> list[Move]:
-    """Claims as moves from each application's node, on the page before them, or on an earlier one if it ran nowhere
-    then."""
+    """Claims as moves from each application's node on the page before, or on an earlier one if it ran nowhere."""
     found = []
     for claim in claims:
         source = runs_at(page, claim.app) or (runs_at(earlier, claim.app) if earlier else None)

@@ -35,8 +35,7 @@ class Part:
 
 @dataclass(frozen=True)
 class Healed:
-    """An application after a split: the places of its copies, the greatest claim, and its place once all nodes have
-    booted."""
+    """An application after a split: where its copies are, the greatest claim, and its place after all boots."""
 
     app: str
     copies: list[str]
@@ -108,8 +107,7 @@ def course_of_part(distac: Distac, whole: Cluster, group: list[str]) -> Course:
 
 
 def held_when_healed(distac: Distac, whole: Cluster) -> dict[str, Held]:
-    """The holder of each application once all nodes hear each other again. A second share spreads the news of the first
-    one."""
+    """The holder of each application once all hear each other. A second share spreads the news of the first."""
     whole.story.add_uncounted("share", "share")
     page = page_of(whole.story.play(distac, f"page {whole.hub}")[0].answer) if whole.nodes else Page()
     return held_on(page, whole.configuration)

@@ -169,8 +169,7 @@ def careful_course(distac: Distac, settled: Cluster, loss: Loss) -> Course:
 
 
 def wait_out(distac: Distac, cluster: Cluster, at_once: Page, loss: Loss) -> None:
-    """The remaining nodes tick at once, and at each moment at which an application's wait ends before nodes are
-    back."""
+    """The remaining nodes tick at once, and whenever a wait ends before nodes are back."""
     begin, waits = cluster.story.now, [wait for wait in waits_of(cluster, at_once) if loss.outlasts(wait)]
     for moment in [begin, *(begin + wait for wait in sorted(waits))]:
         cluster.story.now = moment

@@ -102,8 +102,7 @@ def named(what: str, word: str, names: list[str], where: str) -> str:
 
 
 def opened_now(distac: Distac, checked: Checked, placed: Placed) -> Side:
-    """A cluster with applications at their present places. Those that would move at the next ticks haven't moved
-    yet."""
+    """A cluster with applications at their places. Those that would move at the next ticks haven't moved yet."""
     configuration = checked.configuration
     forbidden = forbidden_in(checked)
     idle = [each for each in configuration.applications if each.name not in placed.places and each.name not in placed.fresh]

@@ -44,7 +44,6 @@ class Held:
 
     @property
     def is_pending(self) -> bool:
-        """Whether an action is pending for it."""
         return self.verdict in PENDING
 
     @property

@@ -39,7 +39,7 @@ def play(distac: Distac, words: argparse.Namespace, output: Output) -> Status:
         output.raw(loaded.plain)
         return Status.FINE
     each = answers_in(distac, loaded, words.page)
-    for row in rows_of(each, words.explain or output.is_terminal):
+    for row in rows_of(each, words.explain or output.stream.isatty()):
         output.line(row)
     output.flush()
     remarks = [*unknown_names(each, loaded.configuration), *too_wide(each)]
@@ -79,7 +79,6 @@ Subcommand = Callable[[Distac, argparse.Namespace, Output], Status]
 
 
 def parser_of_words() -> Parser:
-    """The parser of the command line."""
     description = "For people around distac: where a fault is, what a script did, and what happens if a node goes down."
     parser = Parser("distac-view", description=description, epilog=epilog_of(""), formatter_class=Formatter)
     nowhere = argparse.SUPPRESS

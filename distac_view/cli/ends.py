@@ -69,7 +69,6 @@ def keep(reply: Reply, folder: str) -> None:
 
 
 def seed(word: str) -> int:
-    """A seed from the command line."""
     if not fits(Role.NUMBER, word):
         raise argparse.ArgumentTypeError(f"a seed is a number in decimal digits, and not {shown(word)}")
     return int(word)

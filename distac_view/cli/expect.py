@@ -35,8 +35,7 @@ ERRORS = "standard error:"
 
 @dataclass(frozen=True)
 class Stored:
-    """A question by its name: its words, the stored answer, and the present answer with its status. Either answer can
-    be missing."""
+    """A question: its name, words, stored answer, and present answer with its status. An answer can be missing."""
 
     name: str
     words: "list[str]"
@@ -97,7 +96,6 @@ def status_of(found: "list[Stored]") -> Status:
 
 
 def path_of(folder: str, name: str, ending: str) -> str:
-    """The path of a question or of an answer."""
     return os.path.join(folder, name + ending)
 
 
@@ -220,7 +218,6 @@ def standard_input(data: bytes) -> Iterator[None]:
 
 @contextmanager
 def standard_error(errors: io.BytesIO) -> Iterator[None]:
-    """Captures a question's standard error."""
     before, sys.stderr = sys.stderr, io.TextIOWrapper(errors, "utf-8", "surrogateescape", write_through=True)
     try:
         yield
@@ -231,12 +228,7 @@ def standard_error(errors: io.BytesIO) -> Iterator[None]:
 
 def fields_of(each: Stored, is_written: bool) -> Fields:
     return {
-        "name": each.name,
-        "words": each.words,
-        "status": each.status,
-        "verdict": each.verdict,
-        "stored": each.stored,
-        "answer": each.answer,
+        **{name: getattr(each, name) for name in ("name", "words", "status", "verdict", "stored", "answer")},
         "written": is_written,
     }
 

@@ -205,13 +205,11 @@ def milliseconds(word: str) -> int:
 
 
 def add_page(parser: argparse.ArgumentParser) -> None:
-    """The word that requests a page."""
     more = "write the answer as a page too, to be printed or kept with a change; a dash is standard output, with the page alone"
     parser.add_argument("-o", "--output", metavar="FILE.html", help=more)
 
 
 def add_json(parser: argparse.ArgumentParser) -> None:
-    """The word that requests JSON."""
     parser.add_argument("--json", action="store_true", help="print the answer as JSON")
 
 

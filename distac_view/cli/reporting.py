@@ -60,7 +60,6 @@ def warned(words: argparse.Namespace, warnings: list[Told]) -> Status:
 
 
 def remark_fields(kind: str, told: Told, is_allowed: bool = False) -> Fields:
-    """The fields of a fault or a warning."""
     place = told.place
     return {
         "kind": kind,

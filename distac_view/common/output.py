@@ -20,10 +20,6 @@ class Output:
     def __init__(self) -> None:
         self.stream = sys.stdout.buffer
 
-    @property
-    def is_terminal(self) -> bool:
-        return self.stream.isatty()
-
     def line(self, text: str) -> None:
         """A line of text."""
         self.raw(bytes_of(text) + b"\n")

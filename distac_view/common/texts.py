@@ -20,8 +20,7 @@ def bytes_of(text: str) -> bytes:
 
 
 def shown(text: str) -> str:
-    """A text without cursor moves and changes of direction: each such character, and each invalid byte, becomes one
-    character."""
+    """A text in which each cursor move, change of direction and invalid byte is one replaced character."""
     whole = text.encode("utf-8", "surrogateescape").decode("utf-8", "replace")
     return CONTROLS.sub("\N{REPLACEMENT CHARACTER}", whole.replace("\t", " "))
 

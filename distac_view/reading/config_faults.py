@@ -7,7 +7,7 @@ import re
 from dataclasses import dataclass
 from typing import Callable
 
-from distac_view.common.diagnostics import Remark, last_offset, line_from, place_of
+from distac_view.common.diagnostics import Remark, line_from, place_of
 from distac_view.common.misspellings import near_to
 from distac_view.common.names import name_of
 from distac_view.common.texts import cut, shown, text_of
@@ -99,7 +99,7 @@ def shown_offset(scene: Scene) -> int:
     meant = meant_for_distributed(scene)
     if meant and not scene.open_brackets():
         return meant.start
-    return scene.before[-1].end if scene.before else last_offset(scene.text, scene.at)
+    return scene.before[-1].end if scene.before else len(scene.text[: scene.at].rstrip())
 
 
 def quotes_for(scene: Scene) -> str:
@@ -327,11 +327,6 @@ def twice(scene: Scene) -> str:
     return f"{cut(shown(name), 80)} stands twice in this list{where}: take one of them out"
 
 
-def twice_app(scene: Scene) -> str:
-    """An application repeated in `distributed`."""
-    return twice(scene).replace("in this list", "in distributed", 1)
-
-
 def named(sign: str) -> str:
     """A character in words."""
     return "this" if not sign or shown(sign) != sign else sign
@@ -348,7 +343,7 @@ SENTENCES: dict[str, Callable[[Scene], str]] = {
     "Unsupported": unsupported,
     "BadShape": bad_shape,
     "NoDistributed": no_distributed,
-    "TwiceApp": twice_app,
+    "TwiceApp": lambda scene: twice(scene).replace("in this list", "in distributed", 1),
     "TwiceInList": twice,
     "EmptyList": constant("an application needs a node that may run it: name one in this list"),
     "EmptyTuple": constant("a tuple of nodes needs one: name a node in it, or take the tuple out"),

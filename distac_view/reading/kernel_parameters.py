@@ -41,8 +41,7 @@ class Entry:
 
 @dataclass
 class Placement:
-    """The contents of one node's files. A sync time is a number of milliseconds, or infinity; without one it is
-    absent."""
+    """The contents of one node's files. A sync time is in milliseconds, infinity, or absent."""
 
     node: str
     settings: NodeSettings

@@ -41,7 +41,7 @@ def missing_separator(source: bytes) -> tuple[int, str]:
 
 def remark_on_line(name: str, line: Line, nodes: list[str]) -> Remark:
     """The remark on a fault of a script's line, with the names of the known nodes."""
-    offset, sentence = SENTENCES.get(name, unknown_fault)(line, nodes)
+    offset, sentence = SENTENCES.get(name, lambda *_: (0, "see docs/FORMATS.md"))(line, nodes)
     return remark_in_line(line, offset, name, sentence)
 
 
@@ -165,11 +165,6 @@ def bad_hex(line: Line, _: list[str]) -> tuple[int, str]:
     if wrong is None:
         return offset_of(line, place), "bytes are two digits each, and these are an odd number of digits: was one cut off?"
     return offset_of(line, place) + wrong.start(), "bytes are written in digits 0 to 9 and a to f, in small letters"
-
-
-def unknown_fault(_: Line, __: list[str]) -> tuple[int, str]:
-    """A fault that only docs/FORMATS.md describes."""
-    return 0, "see docs/FORMATS.md"
 
 
 def first_unfit(line: Line, roles: tuple[Role, ...]) -> tuple[int, Role, str]:

@@ -15,7 +15,7 @@ from distac_view.showing.provenance import Asked
 
 def ends_page(reply: Reply, asked: Asked) -> str:
     glance = section("At a glance", table_of(reply).text if reply.ends else "")
-    ends = "".join(end_section(reply, number, end) for number, end in enumerate(reply.ends, 1))
+    ends = "".join(section(f"End {number}", "".join(parts_of(reply, number, end))) for number, end in enumerate(reply.ends, 1))
     common = section("In each end" if len(reply.ends) > 1 else "Final pages", bullets(map(line_text, reply.common())))
     return page_of(f"Ends of a race: {asked.files[0].name}", asked, "".join([glance, ends, common, notes_section(notes_on(reply))]), head_of(reply))
 
@@ -28,11 +28,6 @@ def table_of(reply: Reply) -> Table:
         said: Union[str, Square] = Square("no", f"{lines} - not as expected") if end.unmet else lines
         rows.append((f"end {number}", str(end.count), said))
     return Table("Each end", ("end", "schedules", "last pages"), rows, range(1, 2), True)
-
-
-def end_section(reply: Reply, number: int, end: End) -> str:
-    """An end: how often it came, the lines in which it differs, and its script with the answers."""
-    return section(f"End {number}", "".join(parts_of(reply, number, end)))
 
 
 def parts_of(reply: Reply, number: int, end: End) -> Iterator[str]:

@@ -17,12 +17,7 @@ from distac_view.showing.json_answers import Fields, json_of, name_or_none, name
 def rolling_answer(rolling: Rolling, failures: Iterable[Failure], notes: Iterable[Note]) -> str:
     fields: Fields = {
         "order": names_of(rolling.order),
-        "moves": rolling.moves,
-        "waits": rolling.waits,
-        "restarts": rolling.restarts,
-        "compared": rolling.compared,
-        "worst": rolling.worst,
-        "takes": rolling.takes,
+        **{name: getattr(rolling, name) for name in ("moves", "waits", "restarts", "compared", "worst", "takes")},
         "gathered": sums_of(rolling.configuration),
         "steps": [step_fields(step) for step in rolling.steps],
         "failed": failed_fields(failures),

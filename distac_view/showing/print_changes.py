@@ -102,8 +102,7 @@ def stale_line(changes: Changes) -> str:
 
 
 def notes_on(changes: Changes) -> Iterator[Note]:
-    """Advice for a rollout: about files that changed, about different lists, about times alone, and about applications
-    that one file has."""
+    """Advice for a rollout: changed files, different lists, times alone, and applications of one file."""
     if changes.stale:
         yield Note("Stale", shown(f"{stale_line(changes)}."))
     if any(setting.name in GATES for setting in changes.settings):

@@ -191,8 +191,7 @@ class Drawing:
         return box(left, band.start * ROW + 4, width, (band.end - band.start) * ROW - 2, kind, words)
 
     def bar(self, bar: Bar, part: Part) -> str:
-        """An application that a node holds over some rows. Its term is at the head, and below it its name if there are
-        many."""
+        """An application that a node holds over some rows, with its term, and its name if there are many."""
         lane, held = self.lanes[bar.node], bar.held
         place = apps_at(self.timeline.configuration, bar.node).index(held.app)
         names = self.timeline.configuration.names

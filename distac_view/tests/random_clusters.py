@@ -31,8 +31,7 @@ class RandomCluster:
         return "[{kernel,[%s]}]." % ",".join(parts)
 
     def files_of(self, node: str, folder: Path) -> "list[Path]":
-        """The files of a node: its parameters in other spellings, among those of other applications, in one file or
-        several."""
+        """The files of a node: its parameters in other spellings, among those of others, in one file or several."""
         parameters = self.parameters_of(node)
         self.random.shuffle(parameters)
         parts = [parameters]

@@ -182,15 +182,11 @@ def tell_case(case: Case, observed: dict[str, dict[str, str | None]], outages: d
         kind = kind_of(case, observed, wanted, found, moment)
         kinds[kind] += 1
         score.add(kind, f"{head}: {app} {moment} {wanted}, and OTP has {found}: {kind}" if kind != "agree" else "")
-    moves = [(fate["application"], fate["milliseconds"]) for fate in case.fates if is_moved(fate, outages)]
+    moved = (fate for fate in case.fates if fate["milliseconds"] is not None and fate["application"] in outages)
+    moves = [(fate["application"], fate["milliseconds"]) for fate in moved]
     returns = [f"{app} {outages[app] * 1000:.0f} ms ({milliseconds})" for app, milliseconds in moves]
     warned = "; warned of a hang" if case.may_hang else ""
     print(f"{head}: {', '.join(f'{count} {kind}' for kind, count in kinds.items())}{warned}; back after {', '.join(returns) or 'nothing'}", flush=True)
-
-
-def is_moved(fate: Fate, outages: dict[str, float]) -> bool:
-    """Whether an application was expected to move and return."""
-    return fate["milliseconds"] is not None and fate["application"] in outages
 
 
 def kind_of(case: Case, observed: dict[str, dict[str, str | None]], wanted: str | None, found: str | None, moment: str) -> str:

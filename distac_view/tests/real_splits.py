@@ -63,8 +63,7 @@ def whole(nodes: str) -> str:
 
 @dataclass(frozen=True)
 class Way:
-    """How nodes are separated: whether OTP prevents overlapping partitions, and whether all connections break at
-    once."""
+    """How nodes are separated: whether OTP prevents overlaps, and whether all connections break at once."""
 
     name: str
     prevents: bool
@@ -171,8 +170,7 @@ def sides_formed(heard: "dict[str, list[str]]") -> "tuple[str, ...]":
 
 
 def tell(way: Way, answer: Any, seen: "dict[str, Places]", counts: "Counter[str]") -> None:
-    """Counts agreement, and prints a line for each difference. After the restart one copy is expected if one was
-    left."""
+    """Counts agreement, and prints each difference. After the restart one copy is expected if one was left."""
     for each in answer["healed"]:
         app, left = each["application"], seen["healed"][each["application"]]
         wanted = {"during": sorted(each["copies"]), "healed": sorted(each["copies"]), "back": [each["back"]] if each["back"] else []}

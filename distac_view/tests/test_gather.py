@@ -311,7 +311,7 @@ class Differences(InRoom):
         self.expect(view("gather", f"x@h={room}/sys.config"), 2, "can't be read")
 
 
-class Use(unittest.TestCase):
+class Use(InRoom):
     """The command line, and hostile files."""
 
     def test_wrong_use(self) -> None:
@@ -336,35 +336,31 @@ class Use(unittest.TestCase):
         self.assertEqual((line.count("\n"), line.count("'")), (1, 0))
         if not shutil.which("elixir"):
             self.skipTest("elixir isn't in PATH")
-        with tempfile.TemporaryDirectory() as room:
-            (Path(room) / "config").mkdir()
-            (Path(room) / "config" / "runtime.exs").write_text(ELIXIR_CONFIG)
-            words = ["elixir", "-e", line]
-            done = subprocess.run(words, cwd=room, env={**os.environ, "FAILOVER_MS": "700"}, capture_output=True, timeout=60, check=True)
-            (Path(room) / "answer").write_bytes(done.stdout)
-            said = view("gather", *(f"{node}@h={room}/answer" for node in "ab"))
-            self.assertEqual(said.errors, "")
-            self.assertIn("{distributed,[{shop,700,[a@h,b@h]}]}", said.output)
+        self.write("config/runtime.exs", ELIXIR_CONFIG)
+        words = ["elixir", "-e", line]
+        done = subprocess.run(words, cwd=self.room, env={**os.environ, "FAILOVER_MS": "700"}, capture_output=True, timeout=60, check=True)
+        self.write("answer", done.stdout.decode())
+        said = gather("a@h=answer", "b@h=answer", folder=self.room)
+        self.assertEqual(said.errors, "")
+        self.assertIn("{distributed,[{shop,700,[a@h,b@h]}]}", said.output)
 
     def test_standard_input(self) -> None:
         said = run_view("gather", "a@h=-", source=b"[{kernel,[{distributed,[{a,[a@h]}]}]}].")
         self.assertEqual(said.status, 0, said)
 
     def test_hostile_files(self) -> None:
-        with tempfile.TemporaryDirectory() as room:
-            path = Path(room) / "node.config"
-            for source in hostile_sources():
-                path.write_bytes(source)
-                with self.subTest(source=source[:60]):
-                    said = view("gather", "--reader", "own", f"x@h={path}")
-                    self.assertIn(said.status, (2,) if source not in FINE else (0,), said)
-                    self.assertTrue(said.output + said.errors)
+        path = self.room / "node.config"
+        for source in hostile_sources():
+            path.write_bytes(source)
+            with self.subTest(source=source[:60]):
+                said = view("gather", "--reader", "own", f"x@h={path}")
+                self.assertIn(said.status, (2,) if source not in FINE else (0,), said)
+                self.assertTrue(said.output + said.errors)
 
     def test_cut_files(self) -> None:
         source = (NODES / "broker" / "advanced.config").read_bytes()
-        with tempfile.TemporaryDirectory() as room:
-            path = Path(room) / "node.config"
-            for end in range(0, len(source) - 4, 7):
-                path.write_bytes(source[:end])
-                said = view("gather", "--reader", "own", f"x@h={path}")
-                self.assertEqual(said.status, 2, (end, said))
+        path = self.room / "node.config"
+        for end in range(0, len(source) - 4, 7):
+            path.write_bytes(source[:end])
+            said = view("gather", "--reader", "own", f"x@h={path}")
+            self.assertEqual(said.status, 2, (end, said))

@@ -35,8 +35,7 @@ class Modules(unittest.TestCase):
     """All modules except the tests."""
 
     def test_each_part_is_there(self) -> None:
-        folders = {path.parent.name for path in PACKAGE.glob("*/__init__.py")}
-        self.assertEqual(folders, set(PARTS))
+        self.assertEqual({path.parent.name for path in PACKAGE.glob("*/__init__.py")}, set(PARTS))
         self.assertEqual(len(MODULES), sum(len(list((PACKAGE / part).glob("*.py"))) for part in ("", *PARTS)) - len(PARTS) - 1)
 
     def test_no_part_imports_from_one_above_it(self) -> None:

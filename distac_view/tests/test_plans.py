@@ -361,8 +361,7 @@ def fates_of(reply: Reply) -> "dict[tuple[str, ...], Fate]":
 
 
 def what_follows(fate: Fate) -> "tuple[object, ...]":
-    """The effect of a loss on an application. All random files have one net_ticktime, so an outage is as long as its
-    wait."""
+    """The effect of a loss on an application. All random files have one net_ticktime: an outage is its wait."""
     able = {node for node, mark in marks_in(fate.marks) if mark == "ok"}
     return fate.then, fate.milliseconds, fate.how == "failover", fate.back, fate.then is not None and able <= {fate.then}
 
@@ -382,7 +381,6 @@ class Json(Files):
     """Answers as JSON have the form described in docs/FORMATS.md."""
 
     def test_answers(self) -> None:
-        schema = documented()
         gate = self.path("gate.config", GATED_SHOP)
         now = self.path("now", "shop1@h billing audit\nshop2@h mail\n")
         questions = (
@@ -398,8 +396,7 @@ class Json(Files):
             ("what-if", self.shop, "--down", "shop1@h", "shop2@h", "--back", "shop1@h"),
         )
         for words in questions:
-            said = view(*words, "--json")
-            self.assertEqual(schema.faults_of(said.output), [], words)
+            self.assertEqual(documented().faults_of(view(*words, "--json").output), [], words)
 
 
 class Now(Files):

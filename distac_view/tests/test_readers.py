@@ -61,8 +61,7 @@ class OwnReader(unittest.TestCase):
     def test_what_is_read(self) -> None:
         for text, term in (*READ, *NEWER):
             with self.subTest(text=text[:80]):
-                found = term_of(text) if term is not None else None
-                self.assertEqual(found, term)
+                self.assertEqual(term_of(text) if term is not None else None, term)
 
     def test_what_is_refused(self) -> None:
         for text in MISREAD:

@@ -82,8 +82,7 @@ class Release(Room):
         return said(sys.executable, str(self.top / "distac_view" / "release.py"), *words, str(self.folder), cwd=self.room, path=path)
 
     def facts(self) -> Dict[str, str]:
-        lines = (self.folder / "RELEASE").read_text().splitlines()
-        return dict(line.split(": ", 1) for line in lines)
+        return dict(line.split(": ", 1) for line in (self.folder / "RELEASE").read_text().splitlines())
 
     def refused(self, sentence: str, *words: str, has_rt: bool = True) -> None:
         """No release is made, and nothing of it is left."""

@@ -5,7 +5,6 @@ A case written in one go is compared with the case played step by step.
 """
 
 import json
-import tempfile
 import unittest
 from functools import partial
 from pathlib import Path
@@ -134,10 +133,7 @@ class Splits(Asked):
     def test_the_table_names_its_sides(self) -> None:
         config, script = (EXAMPLES / "split.distac").read_text().split("--\n", 1)
         self.path.write_text(config + "--\n" + script[: script.index("page cp1@cave")])
-        with tempfile.NamedTemporaryFile("w", suffix=".config") as file:
-            file.write(config)
-            file.flush()
-            output = view("what-if", file.name, "--after", str(self.path)).output
+        output = view("what-if", str(self.write("some.config", config)), "--after", str(self.path)).output
         self.assertIn("side of cp1@cave:\n", output)
         self.assertIn("side of cp2@cave and cp3@cave:\n", output)
 
@@ -281,8 +277,7 @@ class Courses(Asked):
         return quick_ones[0] is not None
 
     def no_living_holder_is_missed(self, course: Course) -> None:
-        """An application that is nowhere at the end has no running holder, according to any running node of the side
-        once all was told."""
+        """What is nowhere at the end has no running holder, says any running node once all was told."""
         cluster = course.cluster.copy()
         share_all(distac(), cluster)
         pages = {one.actor: page_of(one.answer) for one in cluster.story.play(distac(), *(f"page {node}" for node in cluster.nodes))}

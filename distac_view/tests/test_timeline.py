@@ -73,8 +73,7 @@ class Pages(InRoom):
         for path in SCRIPTS:
             page = Elements(page_of(path))
             first_picture = place_in(page, "svg", role="img")
-            heading = place_in(page, "h2")
-            self.assertLess(heading, first_picture, path.name)
+            self.assertLess(place_in(page, "h2"), first_picture, path.name)
             if any(its.get("aria-label") == "Claims of ticks" for _, its in page.found):
                 self.assertLess(place_in(page, "table"), first_picture)
                 self.assertTrue(all(its.get("scope") in ("col", "row") for tag, its in page.found if tag == "th"))

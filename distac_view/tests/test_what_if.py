@@ -114,8 +114,7 @@ class Oracle:
         return [found.node if found.what in (placement.KEPT, placement.HALTED) else None for found in self.verdicts(world)]
 
     def fates(self, down: list[int], takes: int | None) -> list[Fate]:
-        """For each application: its place, the next one, how, after how long, and the final one. Nodes are back after
-        some milliseconds."""
+        """Of each application: its place, the next one, how, after how long, and once nodes are back, the final one."""
         last = self.longest if takes is None else min(self.longest, takes - 1)
         world = self.opened()
         begin = 10 * self.longest + 10
