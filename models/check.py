@@ -502,7 +502,6 @@ def check(text: bytes) -> tuple[bytes, int]:
 
 
 def main() -> int:
-    """Checks standard input."""
     return run_model("check.py", check)
 
 

@@ -195,7 +195,6 @@ def show(difference: Difference) -> None:
 
 
 def arguments() -> argparse.Namespace:
-    """The command line's arguments."""
     parser = argparse.ArgumentParser(description="Compares the program with the models on random inputs.")
     parser.add_argument("--seed", type=int, default=1)
     for kind, (count, what) in COUNTS.items():

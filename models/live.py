@@ -233,7 +233,6 @@ def run_live(source: bytes, choose: Choose = first) -> tuple[bytes, int]:
 
 
 def main() -> int:
-    """Runs standard input."""
     return run_model("live.py", run_live)
 
 

@@ -146,8 +146,7 @@ class LongMaker:
 def still(random: Random) -> bytes:
     """An event, and then many ticks that change nothing. Waits end among them, some of several applications at once."""
     maker = LongMaker(random, random.randint(2, 5), random.randint(2, 12))
-    waits = random.choice(WAITS)
-    text = maker.config([maker.some_list(waits, 2) for _ in maker.apps], random.choice(GATES))
+    text = maker.config([maker.some_list(random.choice(WAITS), 2) for _ in maker.apps], random.choice(GATES))
     maker.open()
     for _ in range(random.choice((2, 4, 8))):
         maker.happen()

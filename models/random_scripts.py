@@ -557,8 +557,7 @@ def random_packets(seed: int, number: int) -> bytes:
     maker = ScriptMaker(random, read_config(text))
     maker.open()
     maker.some(random.choice((CALM, LETTERS, HANDS, DRAINS)), random.choice((5, 20, 40)))
-    feeds = [maker.feed_line(maker.world) for _ in range(PACKETS)]
-    return text + b"--\n" + b"\n".join(maker.lines + feeds)
+    return text + b"--\n" + b"\n".join(maker.lines + [maker.feed_line(maker.world) for _ in range(PACKETS)])
 
 
 if __name__ == "__main__":

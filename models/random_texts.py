@@ -56,8 +56,7 @@ def named(random: Random, kind: str, most: int) -> list[bytes]:
         pool.remove(b"'b'")
     if random.random() < 0.15:
         pool += [b"%s%d@x" % (kind.encode(), number) for number in range(most)]
-    count = min(len(pool), random.choice((1, 1, 2, 3, 3, 4, 6, most)))
-    return random.sample(pool, count)
+    return random.sample(pool, min(len(pool), random.choice((1, 1, 2, 3, 3, 4, 6, most))))
 
 
 def term(random: Random, depth: int = 0) -> Tokens:
@@ -291,8 +290,7 @@ def near(random: Random) -> bytes:
     """A valid text with one token or group changed, or a few."""
     tokens = valid_tokens(random)
     for _ in range(random.choice((1, 1, 1, 2, 4))):
-        change = random.choice((changed_token, changed_group, changed_like))
-        tokens = change(random, tokens)
+        tokens = random.choice((changed_token, changed_group, changed_like))(random, tokens)
     return with_blanks(random, tokens)
 
 

@@ -129,8 +129,7 @@ def runs(config: Config, phases: List[Phase], seed: int) -> Iterator[Kept]:
     """The runs of all schedules, in the order of their numbers from 1."""
     steps = 1
     for number in count(1):
-        chance = random.Random(f"{seed} {number}")
-        run = Kept(config, KINDS[kind_of(number)](chance, steps))
+        run = Kept(config, KINDS[kind_of(number)](random.Random(f"{seed} {number}"), steps))
         for phase in phases:
             run.phase(phase.asked)
         steps = run.steps if number == 1 else steps

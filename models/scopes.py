@@ -1,7 +1,5 @@
 """The names of a Python text: where each one can be used, of which kind it is, and which others can stand for it."""
 
-from __future__ import annotations
-
 import ast
 from dataclasses import dataclass
 from typing import List, Optional, Tuple, Union
@@ -96,8 +94,7 @@ class Scopes:
 
     def bound_at(self, at: int) -> List[Binding]:
         """The names that are bound at a place, each as it was bound last."""
-        latest = {one.name: one for one in self.bindings if one.start <= at < one.end}
-        return list(latest.values())
+        return list({one.name: one for one in self.bindings if one.start <= at < one.end}.values())
 
     def kind_at(self, name: str, at: int) -> Optional[Kind]:
         return next((one.kind for one in self.bound_at(at) if one.name == name), None)

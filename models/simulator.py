@@ -354,5 +354,4 @@ def simulate(source: bytes) -> tuple[bytes, int]:
 
 
 def main() -> int:
-    """Plays standard input."""
     return run_model("sim.py", simulate)

@@ -386,8 +386,7 @@ def two_fault_checks() -> Iterator[Check]:
         expected = (b"script fault 1 %s\n" % fault, 1)
         yield f"{line}, with two faults", simulate(script_under(TWO_APPLICATIONS, line)) == expected
     claims = [Writer().claim(1, Claim(1, node, 1, NORMAL, -1)) for node in (1, 0)]
-    state = bytes(13) + b"\0\2" + b"".join(claims)
-    read = partial(read_state, read_config(TWO_APPLICATIONS), state)
+    read = partial(read_state, read_config(TWO_APPLICATIONS), bytes(13) + b"\0\2" + b"".join(claims))
     yield "a claim with two faults", fault_of(read) == ("NotInList", 36)
 
 

@@ -84,7 +84,6 @@ def passes(check: Check) -> bool:
 
 
 def main(arguments: Sequence[str]) -> int:
-    """Runs the command."""
     return printed("check-documents", lambda: ran(arguments))
 
 
@@ -94,8 +93,7 @@ def ran(arguments: Sequence[str]) -> int:
         prog="check-documents", description=WHAT, formatter_class=argparse.RawDescriptionHelpFormatter
     )
     parser.add_argument("--no-types", action="store_true", help="leave out mypy, which takes longer than all the others")
-    asked = parser.parse_args(arguments)
-    checks = document_list() + crate_list() + script_list(not asked.no_types)
+    checks = document_list() + crate_list() + script_list(not parser.parse_args(arguments).no_types)
     skipped = [check for check in checks if check.lacks]
     passed = [passes(check) for check in checks if not check.lacks]
     for check in skipped:

@@ -98,8 +98,7 @@ class Reached:
                 for file in sorted(folder.glob(f"proofs/**/{name}")):
                     text = file.read_text(encoding="utf-8")
                     yield from self.cited(text, imports_in(text))
-        named = {PINS, *self.documented()}
-        yield from (one for one in self.words if name_of(one) in named)
+        yield from (one for one in self.words if name_of(one) in {PINS, *self.documented()})
 
     def documented(self) -> Iterator[str]:
         """The names in backticks in documents, and those of the list of sources."""
@@ -168,7 +167,6 @@ def lines_of(one: Definition) -> int:
 
 
 def main(arguments: Sequence[str]) -> int:
-    """Runs the command."""
     return printed("dead-names", lambda: ran(arguments))
 
 

@@ -147,8 +147,7 @@ class Page:
             yield from ("", f"## {layer}", *parts) if parts else ()
 
     def counts(self) -> str:
-        crates = self.modules.crates.order()
-        every = sum(len(self.modules.definitions_of(crate)) for crate in crates)
+        every = sum(len(self.modules.definitions_of(crate)) for crate in self.modules.crates.order())
         few = f"{len(self.chosen.definitions):,} of the {every:,} definitions"
         return f"The lists have {few}. In bold are the {len(self.chosen.marked)} that the headline rests on."
 

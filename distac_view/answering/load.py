@@ -68,8 +68,7 @@ class Load:
 
 def load_of(distac: Distac, question: Question, has_pairs: bool) -> Load:
     """The answer for a configuration, by default with all nodes up and everything started."""
-    checked = load_config(distac, question.config)
-    side = sides_of(distac, checked, question, [])[0]
+    side = sides_of(distac, load_config(distac, question.config), question, [])[0]
     return load_on(distac, side, has_pairs)
 
 

@@ -71,8 +71,7 @@ def split_reply(distac: Distac, question: Question) -> SplitReply:
         up = [node for node in group if node in side.nodes]
         if up:
             parts.append(Part(up, case_of(side, course_of_part(distac, whole, up))))
-    held = held_when_healed(distac, whole)
-    healed = healed_by(distac, checked, side, parts, held)
+    healed = healed_by(distac, checked, side, parts, held_when_healed(distac, whole))
     return SplitReply(checked.configuration, question, side, [with_back(part, healed) for part in parts], healed, tick_time_of(checked.text))
 
 

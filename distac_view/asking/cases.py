@@ -141,8 +141,7 @@ def quick_course(distac: Distac, settled: Cluster, loss: Loss, at_once: Page, is
     cluster.story.play(distac)
     then, back = (page_of(cluster.story.answers[place].answer) for place in (then_at, back_at))
     held_up = any(one.first in (GAVE_UP, HELD_BACK) for one in cluster.story.answers[start:])
-    timeouts = cluster.configuration.timeouts
-    is_left = all(loss.leaves(held, timeouts) for held in then.held.values())
+    is_left = all(loss.leaves(held, cluster.configuration.timeouts) for held in then.held.values())
     if held_up or not draft.is_whole() or not is_left or not back.is_at_rest:
         return None
     claims = claims_in(cluster, start, then_at)

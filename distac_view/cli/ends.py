@@ -1,7 +1,5 @@
 """`ends`: the final pages that a live script can have, with a script that leads to each."""
 
-from __future__ import annotations
-
 import argparse
 import os
 

@@ -4,8 +4,6 @@ NAME.question contains a command line in shell syntax, and NAME.answer its resul
 paths don't depend on the folder's place.
 """
 
-from __future__ import annotations
-
 import argparse
 import io
 import os
@@ -122,8 +120,7 @@ def held_against(distac: Distac, words: argparse.Namespace, name: str) -> Stored
     commands = commands_in(question)
     with within(words.folder):
         text, status = asked_in_turn(distac, words.parser_of_words(), question, commands)
-    words_asked = [word for command in commands for word in (PIPE, *command)][1:]
-    return Stored(name, words_asked, stored, text, status)
+    return Stored(name, [word for command in commands for word in (PIPE, *command)][1:], stored, text, status)
 
 
 def commands_in(path: str) -> "list[list[str]]":
@@ -148,8 +145,7 @@ def asked_in_turn(distac: Distac, parser: argparse.ArgumentParser, path: str, co
     data, errors, status = b"", io.BytesIO(), int(Status.FINE)
     for command in commands:
         with standard_input(data), standard_error(errors):
-            words = parsed(parser, path, command, errors)
-            data, status = answer_to(distac, words)
+            data, status = answer_to(distac, parsed(parser, path, command, errors))
         if status == Status.TROUBLE:
             break
     said = errors.getvalue()

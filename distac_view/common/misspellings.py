@@ -1,7 +1,5 @@
 """Similar names, such as a misspelt name and the intended one."""
 
-from __future__ import annotations
-
 from os.path import commonprefix
 from typing import Iterable
 

@@ -86,8 +86,7 @@ class Scene:
 
 
 def remark_on(fault: Fault, text: bytes) -> Remark:
-    before = list(byte_tokens(text[: fault.place]))
-    scene = Scene(text, fault.place, before)
+    scene = Scene(text, fault.place, list(byte_tokens(text[: fault.place])))
     sentence = SENTENCES[fault.name](scene) if fault.name in SENTENCES else "see docs/FORMATS.md"
     return Remark(place_of(text, shown_offset(scene)), fault.name, sentence)
 
@@ -282,8 +281,7 @@ def missing_comma(scene: Scene) -> str | None:
     if not is_term_before or scene.sign in "]},.":
         return None
     line = scene.line_of(scene.before[-1])
-    here = place_of(scene.text, scene.at).line
-    where = "before this" if line == here else f"at the end of line {line}"
+    where = "before this" if line == place_of(scene.text, scene.at).line else f"at the end of line {line}"
     return f"a comma is missing {where}, behind {cut(shown(scene.last), 40)}"
 
 

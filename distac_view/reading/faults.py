@@ -1,7 +1,5 @@
 """The faults that `distac` prints."""
 
-from __future__ import annotations
-
 import re
 from dataclasses import dataclass
 from enum import Enum

@@ -47,8 +47,7 @@ def remark_on_line(name: str, line: Line, nodes: list[str]) -> Remark:
 
 def remark_in_line(line: Line, offset: int, name: str, sentence: str) -> Remark:
     """A remark on a place in a line, given by the number of characters before it."""
-    before = len(bytes_of(line.text[:offset]))
-    return Remark(place_in(bytes_of(line.text), line.number, before), name, sentence)
+    return Remark(place_in(bytes_of(line.text), line.number, len(bytes_of(line.text[:offset]))), name, sentence)
 
 
 def offset_of(line: Line, place: int) -> int:
@@ -169,8 +168,7 @@ def bad_hex(line: Line, _: list[str]) -> tuple[int, str]:
 
 def first_unfit(line: Line, roles: tuple[Role, ...]) -> tuple[int, Role, str]:
     """The first word of some roles that doesn't fit, with its number."""
-    words = roles_in(line.words)
-    for place, (role, word) in enumerate(words, 1):
+    for place, (role, word) in enumerate(roles_in(line.words), 1):
         if role in roles and not fits(role, word):
             return place, role, word
     return 0, roles[0], line.verb

@@ -1,7 +1,5 @@
 """A file of a node with its text: variables are filled in, and everything around a remote shell's answer is blank."""
 
-from __future__ import annotations
-
 import hashlib
 import os
 import re

@@ -137,8 +137,7 @@ def turns_of(line: Line) -> list[Turn]:
     names = sorted((name_of(word) for word in line.words[1:]), key=name_order)
     pairs = [(one, other) for one in names for other in names if one != other]
     comment = Turn(Line(line.number, f"% {line.text.strip()}"), 0)
-    ships = [Told(Line(line.number, f"ship {one} {other}"), 1, other) for one, other in pairs]
-    return [comment, *ships]
+    return [comment, *[Told(Line(line.number, f"ship {one} {other}"), 1, other) for one, other in pairs]]
 
 
 def fault_in(line: Line, nodes: list[str]) -> Remark | None:

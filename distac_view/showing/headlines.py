@@ -1,7 +1,5 @@
 """The first sentences of an answer: what runs nowhere or twice, the longest outage, and where OTP may hang."""
 
-from __future__ import annotations
-
 from typing import Iterator, List
 
 from distac_view.answering.caveats import few_of

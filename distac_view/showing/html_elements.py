@@ -1,7 +1,5 @@
 """Elements of pages, as text."""
 
-from __future__ import annotations
-
 import re
 from dataclasses import dataclass
 from html import escape

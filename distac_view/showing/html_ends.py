@@ -1,7 +1,5 @@
 """The answer of `ends` as a page."""
 
-from __future__ import annotations
-
 from typing import Iterator, List, Union
 
 from distac_view.answering.race_ends import End, Reply, notes_on

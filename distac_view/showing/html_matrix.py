@@ -3,8 +3,6 @@
 A square says everything in words too: its pattern and color repeat them, on paper without colors as well.
 """
 
-from __future__ import annotations
-
 from typing import Iterable, List, Tuple, Union
 
 from distac_view.answering.outages import seconds_of

@@ -41,8 +41,7 @@ class Verdict:
         """The part of a page about it, if there were requirements."""
         failed = "".join(f'<p class="no">{text_in(failure.what)}: {text_in(failure.text)}</p>' for failure in self.failures)
         passed = [word for word in self.words if word not in [failure.what for failure in self.failures]]
-        fine = paragraphs([f"{listed(passed)}: nothing found"] if passed else [])
-        return section("Budget", failed + fine)
+        return section("Budget", failed + paragraphs([f"{listed(passed)}: nothing found"] if passed else []))
 
 
 def notes_section(notes: Iterable[Note]) -> str:

@@ -1,7 +1,5 @@
 """The page of a timeline: everything in one file."""
 
-from __future__ import annotations
-
 from distac_view.asking.sim_output import Answered
 from distac_view.common.names import bare_name
 from distac_view.common.texts import cut

@@ -1,7 +1,5 @@
 """The answer of `ends` as JSON, in the form described in docs/FORMATS.md."""
 
-from __future__ import annotations
-
 from typing import Iterable
 
 from distac_view.answering.race_ends import End, PageLine, Reply, notes_on

@@ -1,7 +1,5 @@
 """The answer on a split: as tables with notes, and as JSON."""
 
-from __future__ import annotations
-
 from typing import Iterable, Iterator
 
 from distac_view.answering.caveats import TEXTS, below, idle_notes, is_in_tuple, start_notes

@@ -1,7 +1,5 @@
 """The origin of a page: the command, the time, the files with their checksums, the version, and the program used."""
 
-from __future__ import annotations
-
 import argparse
 import hashlib
 import os

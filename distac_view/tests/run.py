@@ -19,7 +19,6 @@ import processes
 
 
 def main() -> int:
-    """Runs the tests, and counts them."""
     processes.handle_signals(signal.default_int_handler)
     print(f"distac-view is tested with {PROGRAM}")
     sys.stdout.flush()

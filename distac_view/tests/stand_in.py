@@ -16,7 +16,6 @@ MODELS: Dict[str, Callable[[bytes], Tuple[bytes, int]]] = {"check": check.check,
 
 
 def main() -> int:
-    """Answers one call."""
     output, status = MODELS[sys.argv[1]](sys.stdin.buffer.read())
     sys.stdout.buffer.write(output)
     return status

@@ -88,7 +88,7 @@ class Pages(InRoom):
         with mock.patch.dict(os.environ, {EPOCH: NOON}):
             return view(*self.words(words), "-o", "-")
 
-    def answer(self, *words: str) -> Dict[str, Any]:
+    def asked(self, *words: str) -> Dict[str, Any]:
         found: Dict[str, Any] = json.loads(view(*self.words(words), "--json").output)
         return found
 
@@ -137,7 +137,7 @@ class Pages(InRoom):
         seen = set()
         for words in QUESTIONS:
             said = Text(self.page(*words).output).texts("li")
-            for note in self.answer(*words)["notes"]:
+            for note in self.asked(*words)["notes"]:
                 self.assertIn(note["text"], said, words)
                 seen.add(note["id"])
         self.assertLessEqual({"EqualTimes", "CannotComeBack", "NoDrain", "NoRollingChange", "Outage", "NotRunning"}, seen)
@@ -151,7 +151,7 @@ class Pages(InRoom):
 
     def test_each_square(self) -> None:
         for words in QUESTIONS[:2]:
-            answer = self.answer(*words)
+            answer = self.asked(*words)
             rows = Text(self.page(*words).output).rows[: len(answer["cases"]) + 2]
             for case, (down, *cells) in zip(answer["cases"], rows[2:]):
                 self.assertEqual((down, len(cells)), (f"{' '.join(case['down'])} down", len(case["applications"])))
@@ -164,7 +164,7 @@ class Pages(InRoom):
 
     def test_each_square_of_a_restart(self) -> None:
         for words in QUESTIONS[4:6]:
-            answer, (heads, *rows) = self.answer(*words), Text(self.page(*words).output).rows
+            answer, (heads, *rows) = self.asked(*words), Text(self.page(*words).output).rows
             self.assertEqual(heads[2:], [f"{number}. {step['node']} restarts" for number, step in enumerate(answer["steps"], 1)])
             for app, place, *squares in rows:
                 for step, square in zip(answer["steps"], squares):
@@ -182,7 +182,7 @@ class Pages(InRoom):
 
     def test_each_square_of_a_split(self) -> None:
         words = QUESTIONS[7]
-        answer, (heads, before, *sides) = self.answer(*words), Text(self.page(*words).output).rows
+        answer, (heads, before, *sides) = self.asked(*words), Text(self.page(*words).output).rows
         sides, healed = sides[: len(answer["parts"])], sides[len(answer["parts"])]
         self.assertEqual(healed[1:], [each["back"] for each in answer["healed"]])
         for part, (name, *squares) in zip(answer["parts"], sides):
@@ -228,7 +228,7 @@ class Pages(InRoom):
 
     def test_each_step(self) -> None:
         for words in QUESTIONS[4:6]:
-            answer, text = self.answer(*words), Text(self.page(*words).output)
+            answer, text = self.asked(*words), Text(self.page(*words).output)
             self.assertEqual(text.texts("h3"), [f"{number}. {step['node']}" for number, step in enumerate(answer["steps"], 1)])
             said = " ".join(text.texts("dd"))
             for step in answer["steps"]:
@@ -245,7 +245,7 @@ class Pages(InRoom):
 
     def test_each_load(self) -> None:
         words = QUESTIONS[6]
-        answer, text = self.answer(*words), Text(self.page(*words).output)
+        answer, text = self.asked(*words), Text(self.page(*words).output)
         nodes = answer["nodes"]
         self.assertEqual(text.rows[0], ["down", *nodes, "lost"])
         rows = {row[0]: row[1:] for row in text.rows[1:]}

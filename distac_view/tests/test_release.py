@@ -181,11 +181,11 @@ class InCI(Room):
     def setUp(self) -> None:
         super().setUp()
         text = (TOP / "docs" / "OPERATORS.md").read_text().split("\n## In CI\n")[1].split("\n## ")[0]
-        self.script, self.workflow = BLOCK.findall(text)[:2]
+        self.steps, self.workflow = BLOCK.findall(text)[:2]
         (self.programs / "python3").symlink_to(sys.executable)
         self.folder = self.room / "configurations"
         (self.folder / "ci").mkdir(parents=True)
-        (self.folder / "ci" / "failover.sh").write_text(self.script)
+        (self.folder / "ci" / "failover.sh").write_text(self.steps)
         done = subprocess.run([sys.executable, str(TOP / "distac_view" / "pack.py"), "-o", str(self.folder / "ci" / "distac-view.pyz")], check=True)
         self.assertEqual(done.returncode, 0)
         for node in OTHERS:
