@@ -98,7 +98,8 @@ class Reached:
                 for file in sorted(folder.glob(f"proofs/**/{name}")):
                     text = file.read_text(encoding="utf-8")
                     yield from self.cited(text, imports_in(text))
-        yield from (one for one in self.words if name_of(one) in {PINS, *self.documented()})
+        named = {PINS, *self.documented()}
+        yield from (one for one in self.words if name_of(one) in named)
 
     def documented(self) -> Iterator[str]:
         """The names in backticks in documents, and those of the list of sources."""

@@ -74,7 +74,8 @@ def remark_fields(kind: str, told: Told, is_allowed: bool = False) -> Fields:
 
 
 def warnings_fields(words: argparse.Namespace, warnings: list[Told]) -> list[Fields]:
-    return [remark_fields("warning", told, Allowed(words.allow).has(told)) for told in warnings]
+    allowed = Allowed(words.allow)
+    return [remark_fields("warning", told, allowed.has(told)) for told in warnings]
 
 
 def add_strict(parser: argparse.ArgumentParser) -> None:

@@ -55,7 +55,8 @@ def before(application: Application, node: str) -> set[str]:
 
 def pairs_among(lost: Iterable[Application], left: Iterable[str]) -> list[tuple[Application, Application]]:
     """Of the applications that fail over because nodes went down together, the pairs that may hang."""
-    return [(one, other) for one, other in combinations(lost, 2) if hang_together(one, other, list(left))]
+    nodes = list(left)
+    return [(one, other) for one, other in combinations(lost, 2) if hang_together(one, other, nodes)]
 
 
 def hang_together(one: Application, other: Application, left: Iterable[str]) -> bool:
