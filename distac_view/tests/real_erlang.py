@@ -20,7 +20,7 @@ from collections import Counter
 from dataclasses import dataclass
 from functools import partial
 from pathlib import Path
-from typing import Any, Callable, Dict
+from typing import Any, Callable
 
 sys.dont_write_bytecode = True
 sys.path.insert(0, str(Path(__file__).resolve().parent))
@@ -99,7 +99,7 @@ NODE_FILE = """\
 
 
 # the fields of an application in `what-if --json`
-Fate = Dict[str, Any]
+Fate = dict[str, Any]
 
 
 @dataclass(frozen=True)
@@ -216,7 +216,7 @@ ROLLED = (
     (HALF.name, (1, 0, 2), 4_000),
 )
 # the fields of a step, or of a move, in `rolling --json`
-Said = Dict[str, Any]
+Said = dict[str, Any]
 
 
 def roll(scenario: Scenario, order: list[str], takes: int | None, score: Score) -> None:

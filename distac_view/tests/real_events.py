@@ -9,7 +9,7 @@ import time
 from collections import Counter
 from dataclasses import dataclass, field
 from pathlib import Path
-from typing import Any, Dict, List, Tuple
+from typing import Any
 
 from erlang_nodes import HOST, Cluster
 from real_shared import LATE_SECONDS, NODES, Score, bare, seen, wait_for, whole
@@ -30,14 +30,14 @@ class Walk:
     """
 
     name: str
-    apps: "Tuple[Tuple[str, int, str], ...]"
-    events: "Tuple[Tuple[str, str], ...]"
-    forbidden: "Dict[str, str]" = field(default_factory=dict)
-    fails: "Dict[str, str]" = field(default_factory=dict)
+    apps: "tuple[tuple[str, int, str], ...]"
+    events: "tuple[tuple[str, str], ...]"
+    forbidden: "dict[str, str]" = field(default_factory=dict)
+    fails: "dict[str, str]" = field(default_factory=dict)
     start_type: str = "temporary"
 
     @property
-    def names(self) -> List[str]:
+    def names(self) -> list[str]:
         return [app for app, _, _ in self.apps]
 
     def text(self, node: str) -> str:
@@ -45,7 +45,7 @@ class Walk:
         return whole(FILE % (entries, ",".join("{%s,false}" % app for app in self.forbidden.get(node, "").split())))
 
     @property
-    def words(self) -> List[str]:
+    def words(self) -> list[str]:
         """The words about starts that fail."""
         pairs = [f"{app}={node}" for node, apps in self.fails.items() for app in apps.split()]
         temporary = ["--temporary", *self.names] if self.start_type == "temporary" else []
@@ -112,7 +112,7 @@ def gathered(walk: Walk, room: Path) -> Path:
     return room / "cluster.config"
 
 
-def boot(cluster: Cluster, walk: Walk, nodes: List[str]) -> None:
+def boot(cluster: Cluster, walk: Walk, nodes: list[str]) -> None:
     """Nodes come up, and start all applications in turn. A node where a start fails may end."""
     for node in nodes:
         short = node.split("@")[0]
@@ -130,13 +130,13 @@ def tell_failures(cluster: Cluster, walk: Walk) -> None:
         cluster.nodes[f"{short}@{HOST}"].order(f"fails {apps}")
 
 
-def places_now(cluster: Cluster, names: List[str]) -> str:
+def places_now(cluster: Cluster, names: list[str]) -> str:
     """The file of `--now`: each node that is up, with what runs there."""
     places = seen(cluster, names)
     return "".join(f"{node.name} {' '.join(app for app in names if places[app] == node.name)}\n" for node in cluster.up())
 
 
-def expected(walk: Walk, config: Path, what: str, now: Path, node: str) -> "Dict[str, str | None]":
+def expected(walk: Walk, config: Path, what: str, now: Path, node: str) -> "dict[str, str | None]":
     """The place of each application after an event, by `what-if`."""
     said = run_view("what-if", str(config), "--json", "--now", str(now), f"--{what}", node, *walk.words)
     if said.status:

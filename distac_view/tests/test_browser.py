@@ -7,7 +7,6 @@ import re
 import tempfile
 import unittest
 from pathlib import Path
-from typing import Dict, List
 
 from browser import Browser, browser_here
 from support import EXAMPLES, view
@@ -64,7 +63,7 @@ class InBrowser(unittest.TestCase):
     """The pages, opened in a window and printed."""
 
     room: Path
-    pages: Dict[str, Path]
+    pages: dict[str, Path]
     browser: Browser
 
     @classmethod
@@ -140,7 +139,7 @@ class InBrowser(unittest.TestCase):
             self.assertEqual(facts["lang"], "en")
             self.assertEqual(facts["viewport"], "width=device-width, initial-scale=1")
             self.assertRegex(facts["title"], r"\A[A-Z][a-z ]+: [^/]+\Z")
-            levels: List[int] = facts["levels"]
+            levels: list[int] = facts["levels"]
             self.assertEqual((levels[0], levels.count(1)), (1, 1), name)
             self.assertTrue(all(later <= earlier + 1 for earlier, later in zip(levels, levels[1:])), (name, levels))
 

@@ -9,7 +9,7 @@ import sys
 import time
 from collections import Counter
 from pathlib import Path
-from typing import Any, Dict, List
+from typing import Any
 from unittest import mock
 
 from support import EXAMPLES, PROGRAM, TOP, InRoom, Said, distac, hear_signals, run_view, view
@@ -42,8 +42,6 @@ FAULTS = (
 
 
 class Room(InRoom):
-    """A temporary folder."""
-
     def path(self, text: str) -> str:
         path = self.room / "some.live"
         path.write_bytes(text.encode("utf-8", "surrogateescape"))
@@ -51,8 +49,6 @@ class Room(InRoom):
 
 
 class Ends(Room):
-    """The ends that are found, and their scripts."""
-
     def test_the_example(self) -> None:
         said = view("ends", OPERATORS)
         self.assertEqual((said.status, said.errors), (0, ""))
@@ -99,9 +95,9 @@ class Ends(Room):
                         self.assertLessEqual(heard[-1], shipped, text)
                 self.assertEqual(len(heard), len(set(heard)), text)
 
-    def ends(self, path: str) -> List[Dict[str, Any]]:
+    def ends(self, path: str) -> list[dict[str, Any]]:
         """The ends of a race as JSON."""
-        found: List[Dict[str, Any]] = json.loads(view("ends", path, *FEW, "--json").output)["ends"]
+        found: list[dict[str, Any]] = json.loads(view("ends", path, *FEW, "--json").output)["ends"]
         return found
 
     def test_whole_schedules_have_all_requests(self) -> None:
@@ -143,8 +139,6 @@ class Ends(Room):
 
 
 class Answers(Room):
-    """Statuses, faults, JSON and pages."""
-
     def test_expected_lines(self) -> None:
         for words, status in (
             (("node main@h up 1",), 0),

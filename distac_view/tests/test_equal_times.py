@@ -36,8 +36,6 @@ def configuration_of_two(entries: tuple[tuple[int, str], ...]) -> Configuration:
 
 
 class EqualTimes(unittest.TestCase):
-    """Cases that hung are reported, and the others aren't."""
-
     def test_measured_cases(self) -> None:
         for entries in HUNG:
             for turned in (entries, entries[::-1]):

@@ -14,8 +14,6 @@ CONFIGS = sorted(EXAMPLES.glob("*.config"))
 
 
 class Examples(unittest.TestCase):
-    """The subcommands show the output of `distac` for the examples."""
-
     def test_check_prints_the_canonical_text(self) -> None:
         for path in CONFIGS:
             said = view("check", str(path), "--print")

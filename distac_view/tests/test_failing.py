@@ -1,7 +1,7 @@
 """`what-if --fails`: starts that fail, as they were seen with OTP 25."""
 
 from random import Random
-from typing import Any, Dict, Tuple
+from typing import Any
 
 from support import IS_STAND_IN, InRoom, Said, view
 from test_what_if import random_config
@@ -12,12 +12,10 @@ TUPLE = "[{kernel,[{distributed,[{a,300,[cp1@h,{cp2@h,cp3@h}]}]},%s]}].\n" % SYN
 COUNT = 6 if IS_STAND_IN else 60
 
 # The places of an application: now, then, and once nodes are back.
-Places = Dict[str, Tuple[Any, ...]]
+Places = dict[str, tuple[Any, ...]]
 
 
 class Failing(InRoom):
-    """Starts that fail after a loss or a return."""
-
     def setUp(self) -> None:
         super().setUp()
         self.config = self.write("cluster.config", TEXT)

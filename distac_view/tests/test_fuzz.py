@@ -8,7 +8,6 @@ import os
 import subprocess
 import sys
 from random import Random
-from typing import List, Tuple
 
 from json_schema import documented
 from support import EXAMPLES, IS_STAND_IN, MISTAKES, PROGRAM, TOP, Elements, InRoom, Said, view
@@ -33,7 +32,7 @@ PIECES = (
     *(b"\nstate ", b"\nbytes 1\n", b"\nhand ", b"\nphase\n", b"<b>", b"]]>", b"&amp;", b"<!--"),
 )
 FILE = "FILE"
-LINES: Tuple[Tuple[str, ...], ...] = (
+LINES: tuple[tuple[str, ...], ...] = (
     ("check", FILE),
     ("check", "--strict", FILE),
     ("play", FILE),
@@ -84,7 +83,7 @@ def with_other_names(random: Random, source: bytes) -> bytes:
     return source.replace(name, random.choice(NAMES))
 
 
-def foreign(page: str) -> List[str]:
+def foreign(page: str) -> list[str]:
     """The elements and attributes of a page that the program didn't make."""
     elements = Elements(page).found
     names = [name for _, its in elements for name in its if name.startswith("on") or name in ("src", "href")]
@@ -110,11 +109,11 @@ class Fuzz(InRoom):
                 self.check_answer(words, said)
                 self.assertEqual(self.path.read_bytes(), source)
 
-    def named(self, words: Tuple[str, ...]) -> List[str]:
+    def named(self, words: tuple[str, ...]) -> list[str]:
         """A command line with the input's name."""
         return [word.replace(FILE, str(self.path)) for word in words]
 
-    def check_answer(self, words: Tuple[str, ...], said: Said) -> None:
+    def check_answer(self, words: tuple[str, ...], said: Said) -> None:
         self.assertIn(said.status, (0, 1, 2))
         self.assertTrue(said.status == 0 or said.output + said.errors)
         if "--plain" not in words:

@@ -84,8 +84,6 @@ def canonical(text: bytes) -> str:
 
 
 class FilesOfNodes(InRoom):
-    """Files as clusters have them."""
-
     def test_equal_to_what_is_written_by_hand(self) -> None:
         for name, words, warning in BY_HAND:
             for reader in READERS:
@@ -312,8 +310,6 @@ class Differences(InRoom):
 
 
 class Use(InRoom):
-    """The command line, and hostile files."""
-
     def test_wrong_use(self) -> None:
         for words in ((), ("x",), ("x=",), ("=x",), ("x=,",), ("x=/no/such/file",), ("x=/",), ("x=\0",)):
             said = view("gather", *words)

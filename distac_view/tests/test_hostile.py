@@ -31,8 +31,6 @@ WORDS = (
 
 
 class Hostile(InRoom):
-    """No input causes a traceback."""
-
     def setUp(self) -> None:
         super().setUp()
         self.path = str(self.room / "input")

@@ -3,7 +3,6 @@
 import unittest
 from pathlib import Path
 from random import Random
-from typing import Tuple
 
 from support import EXAMPLES, MISTAKES, InRoom, view
 from json_schema import SCHEMA, described, documented, text_of
@@ -14,8 +13,6 @@ QUOTED = "[{kernel,[{distributed,[{'Shop',5000,['shop1@10.0.0.11',{'shop-2@h','a
 
 
 class Schema(InRoom):
-    """Answers that fit the described schema."""
-
     def path(self, text: str) -> str:
         return str(self.write("cluster.config", text))
 
@@ -47,7 +44,7 @@ class Answers(Schema):
         self.assertIn("\udcffé@h", answer["nodes"])
 
     def test_ids_of_notes(self) -> None:
-        def ids_of(*words: str) -> Tuple[str, ...]:
+        def ids_of(*words: str) -> tuple[str, ...]:
             return tuple(note["id"] for note in self.answer(0, "what-if", *words)["notes"])
 
         self.assertEqual(ids_of(MANUAL), ("Outage", "FirstTick", "TupleLoad", "StartedAgain"))

@@ -23,8 +23,6 @@ def said_of_all() -> str:
 
 
 class Mistakes(unittest.TestCase):
-    """Each mistake is reported with its line and column, the rule and its remedy."""
-
     maxDiff = None
 
     def test_what_is_said(self) -> None:

@@ -32,8 +32,6 @@ def names_bound(tree: ast.Module) -> "Iterator[str]":
 
 
 class Modules(unittest.TestCase):
-    """All modules except the tests."""
-
     def test_each_part_is_there(self) -> None:
         self.assertEqual({path.parent.name for path in PACKAGE.glob("*/__init__.py")}, set(PARTS))
         self.assertEqual(len(MODULES), sum(len(list((PACKAGE / part).glob("*.py"))) for part in ("", *PARTS)) - len(PARTS) - 1)

@@ -24,8 +24,6 @@ MOST_SECONDS = 60
 
 
 class Nightly(InRoom):
-    """A repository of four crates."""
-
     def setUp(self) -> None:
         super().setUp()
         self.room = self.top = self.room.resolve() / "top"

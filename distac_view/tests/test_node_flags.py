@@ -133,8 +133,6 @@ class Folders(InRoom):
 
 
 class Faults(InRoom):
-    """Unreadable inputs."""
-
     def setUp(self) -> None:
         super().setUp()
         self.write("sys.config", PLACED)
@@ -197,8 +195,6 @@ class Faults(InRoom):
 
 @unittest.skipUnless(has_erlang() and shutil.which("erl"), "Erlang isn't in PATH")
 class RealErlang(InRoom):
-    """Argument files as Erlang reads them."""
-
     def setUp(self) -> None:
         super().setUp()
         self.environment = {name: value for name, value in os.environ.items() if not name.startswith("ERL_")}

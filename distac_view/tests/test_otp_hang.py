@@ -13,8 +13,6 @@ FRAME = re.compile(r"dist_ac:(\w+/\d+) \(dist_ac\.erl:(\d+)\)")
 
 
 class Report(unittest.TestCase):
-    """The first of its cases."""
-
     def test_lines_are_those_of_the_stored_run(self) -> None:
         frames = dict(FRAME.findall((REPORT / "hang.txt").read_text()))
         cited = dict(re.findall(r"`(\w+/\d+)` \((\d+)\)", (REPORT / "README.md").read_text()))

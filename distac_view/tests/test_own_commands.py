@@ -108,8 +108,6 @@ class OldPythons(unittest.TestCase):
 
 
 class OwnCommands(unittest.TestCase):
-    """Refused words, and help."""
-
     def test_unknown_words_are_refused_before_anything_is_done(self) -> None:
         for words, said in REFUSED:
             status, output, errors = say(*words)

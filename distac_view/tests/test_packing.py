@@ -7,7 +7,7 @@ import shutil
 import subprocess
 import sys
 import unittest
-from typing import Iterator, List
+from typing import Iterator
 
 from support import EXAMPLES, PROGRAM, TOP, InRoom, view
 from distac_view.cli.command_line import SUBCOMMANDS, parser_of_words
@@ -124,7 +124,7 @@ class Helps(unittest.TestCase):
 class Completion(unittest.TestCase):
     """Bash completes the words of the parser."""
 
-    def offered(self, *words: str) -> List[str]:
+    def offered(self, *words: str) -> list[str]:
         """The completions of the last of some words."""
         script = view("--print-completion", "bash").output
         line = " ".join(shlex.quote(word) for word in ("distac-view", *words))

@@ -8,7 +8,7 @@ import re
 from html import unescape
 from html.parser import HTMLParser
 from pathlib import Path
-from typing import Any, Dict, List, Tuple
+from typing import Any
 from unittest import mock
 
 from support import EXAMPLES, PROGRAM, InRoom, Said, run_view, view
@@ -22,7 +22,7 @@ FLEET = """[{kernel,[{distributed,[{billing,8000,['shop-1@10.0.0.11',{'shop-2@10
 {reports,5000,[c@h,'shop-1@10.0.0.11']},{audit,5000,['shop-1@10.0.0.11']},{ledger,8000,['shop-1@10.0.0.11',{c@h,'shop-2@10.0.0.12'}]}]},
 {sync_nodes_mandatory,[c@h]},{sync_nodes_optional,['shop-1@10.0.0.11','shop-2@10.0.0.12']},{sync_nodes_timeout,3000}]}].
 """
-QUESTIONS: Tuple[Tuple[str, ...], ...] = (
+QUESTIONS: tuple[tuple[str, ...], ...] = (
     ("what-if", "FLEET"),
     ("what-if", "FLEET", "--all", "--down", "c", "shop-2", "--back", "shop-2"),
     ("what-if", "FLEET", "--then", "OTHER"),
@@ -40,12 +40,12 @@ class Text(HTMLParser):
 
     def __init__(self, page: str) -> None:
         super().__init__()
-        self.tags: List[str] = []
-        self.found: Dict[str, List[str]] = {}
-        self.rows: List[List[str]] = []
+        self.tags: list[str] = []
+        self.found: dict[str, list[str]] = {}
+        self.rows: list[list[str]] = []
         self.feed(page.replace("<wbr>", "").replace("\u00a0", " ").replace("\u2192", "->"))
 
-    def handle_starttag(self, tag: str, attrs: List[Tuple[str, "str | None"]]) -> None:
+    def handle_starttag(self, tag: str, attrs: list[tuple[str, "str | None"]]) -> None:
         """Notes an element."""
         if tag not in ("meta", "br"):
             self.tags.append(tag)
@@ -65,20 +65,18 @@ class Text(HTMLParser):
         if self.tags and self.tags[-1] in ("th", "td"):
             self.rows[-1][-1] += data
 
-    def texts(self, *tags: str) -> List[str]:
+    def texts(self, *tags: str) -> list[str]:
         """The texts of the elements of some kinds."""
         return [text for tag in tags for text in self.found.get(tag, [])]
 
 
 class Pages(InRoom):
-    """The contents of each page."""
-
     def setUp(self) -> None:
         super().setUp()
         self.write("fleet.config", FLEET)
         self.write("other.config", FLEET.replace("8000", "9000").replace("audit", "mirror").replace("c@h,'shop-1", "'shop-1"))
 
-    def words(self, words: Tuple[str, ...]) -> List[str]:
+    def words(self, words: tuple[str, ...]) -> list[str]:
         """A command line with file names."""
         names = {"FLEET": str(self.room / "fleet.config"), "OTHER": str(self.room / "other.config")}
         return [names.get(word, word) for word in words]
@@ -88,8 +86,8 @@ class Pages(InRoom):
         with mock.patch.dict(os.environ, {EPOCH: NOON}):
             return view(*self.words(words), "-o", "-")
 
-    def asked(self, *words: str) -> Dict[str, Any]:
-        found: Dict[str, Any] = json.loads(view(*self.words(words), "--json").output)
+    def asked(self, *words: str) -> dict[str, Any]:
+        found: dict[str, Any] = json.loads(view(*self.words(words), "--json").output)
         return found
 
     def test_it_stands_beside_the_answer(self) -> None:

@@ -3,7 +3,7 @@
 import json
 import re
 import unittest
-from typing import List, Sequence, Tuple
+from typing import Sequence
 from itertools import combinations, permutations
 from pathlib import Path
 from random import Random
@@ -50,8 +50,6 @@ def random_side(random: Random) -> Side:
 
 
 class Files(InRoom):
-    """Tests with files of configurations."""
-
     def setUp(self) -> None:
         super().setUp()
         self.shop = self.path("shop.config", SHOP)
@@ -269,8 +267,6 @@ def cost_of(side: Side, order: "tuple[str, ...]") -> "tuple[int, ...]":
 
 
 class Changed(Files):
-    """The changes by a new configuration."""
-
     def test_against_two_replies(self) -> None:
         for number in range(COUNT):
             random = Random(f"changes {number}")
@@ -322,7 +318,7 @@ class Changed(Files):
 
     def test_what_a_rollout_fails_on(self) -> None:
         old = self.path("old.config", FULL_SHOP)
-        rows: Sequence[Tuple[str, str, List[str]]] = (
+        rows: Sequence[tuple[str, str, list[str]]] = (
             ("billing,8000", "billing,8001", []),
             ("shop2@h,shop3@h]},{reports", "shop2@h]},{reports", ["rollout"]),
             (",{audit,0,[shop1@h,shop2@h]}", "", ["rollout"]),
@@ -378,8 +374,6 @@ def now_of(fates: "dict[tuple[str, ...], Fate]", app: str) -> "str | None":
 
 
 class Json(Files):
-    """Answers as JSON have the form described in docs/FORMATS.md."""
-
     def test_answers(self) -> None:
         gate = self.path("gate.config", GATED_SHOP)
         now = self.path("now", "shop1@h billing audit\nshop2@h mail\n")

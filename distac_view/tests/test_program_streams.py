@@ -18,8 +18,6 @@ INPUTS = {"check": "manual.config", "sim": "failover.distac", "live": "live-thre
 
 @unittest.skipIf(IS_STAND_IN, "the models aren't the program")
 class Program(unittest.TestCase):
-    """Each command, on an example."""
-
     def ended(self, line: str, command: str) -> "tuple[int, str]":
         """The status of a shell's line, in which $0 is the program, and its standard error."""
         with Path(EXAMPLES, INPUTS[command]).open("rb") as source:

@@ -86,8 +86,6 @@ class OwnReader(unittest.TestCase):
 
 @unittest.skipUnless(has_erlang(), "Erlang isn't installed")
 class Agreement(unittest.TestCase):
-    """Both readers agree."""
-
     def compare(self, texts: list[str]) -> None:
         """Each text is read by both, or by none, as one term."""
         for text, own, erlang in zip(texts, read_by_own(texts), read_by_erlang(texts)):

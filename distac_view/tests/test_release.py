@@ -9,7 +9,6 @@ import subprocess
 import sys
 import unittest
 from pathlib import Path
-from typing import Dict, List
 
 from support import TOP, InRoom, view
 from distac_view.common.version import CHANGED, UNKNOWN, VERSION, commit_of
@@ -81,7 +80,7 @@ class Release(Room):
         path = f"{self.programs}{os.pathsep}{os.environ['PATH']}" if has_rt else f"{self.room}{os.pathsep}/usr/bin{os.pathsep}/bin"
         return said(sys.executable, str(self.top / "distac_view" / "release.py"), *words, str(self.folder), cwd=self.room, path=path)
 
-    def facts(self) -> Dict[str, str]:
+    def facts(self) -> dict[str, str]:
         return dict(line.split(": ", 1) for line in (self.folder / "RELEASE").read_text().splitlines())
 
     def refused(self, sentence: str, *words: str, has_rt: bool = True) -> None:
@@ -112,7 +111,7 @@ class Release(Room):
         self.assertEqual(version.stdout, f"{VERSION}, commit {self.commit}\n", version.stderr)
 
     def test_the_same_bytes_each_time(self) -> None:
-        found: List[Dict[str, bytes]] = []
+        found: list[dict[str, bytes]] = []
         for _ in range(2):
             self.assertEqual(self.made().returncode, 0)
             found.append({path.name: path.read_bytes() for path in self.folder.iterdir()})
@@ -207,7 +206,7 @@ class InCI(Room):
         self.assertIsNotNone(shell)
         return said(str(shell), *runs[0].split()[1:], cwd=self.folder, path=str(self.programs))
 
-    def pages(self) -> List[str]:
+    def pages(self) -> list[str]:
         return sorted(path.name for path in self.folder.glob("*.html"))
 
     def test_a_change(self) -> None:
@@ -251,7 +250,5 @@ class InCI(Room):
 
 
 class Version(unittest.TestCase):
-    """The output of --version for this checkout, or for an unpacked one."""
-
     def test_version(self) -> None:
         self.assertEqual(view("--version").output, f"{VERSION}, commit {commit_of(TOP) or UNKNOWN}\n")

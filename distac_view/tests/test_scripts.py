@@ -32,8 +32,6 @@ def random_source(number: int) -> bytes:
 
 
 class Scripts(unittest.TestCase):
-    """The answers shown are those of `distac`, each with its line."""
-
     def test_each_answer_stands_beside_its_line(self) -> None:
         for number in range(COUNT):
             source = random_source(number)

@@ -21,8 +21,6 @@ FIRST = (
 
 
 class Splits(InRoom):
-    """Splits of a cluster of four nodes, and of random ones."""
-
     def setUp(self) -> None:
         super().setUp()
         self.config = self.write("cluster.config", FOUR)

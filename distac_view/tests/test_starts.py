@@ -54,8 +54,6 @@ def checked_of(text: str) -> Checked:
 
 
 class Asked(InRoom):
-    """Questions after scripts."""
-
     def setUp(self) -> None:
         super().setUp()
         self.path = self.room / "script"
@@ -220,8 +218,6 @@ class Forbidden(Asked):
 
 
 class Courses(Asked):
-    """Random starts and losses."""
-
     def test_the_start_holds_what_now_says(self) -> None:
         for number in range(COUNT):
             random = Random(f"now {number}")
@@ -334,8 +330,6 @@ def counted(done: int) -> tuple[int, int]:
 
 
 class Progressing(unittest.TestCase):
-    """The output of the progress."""
-
     def test_it_counts_cases(self) -> None:
         progress = Progress()
         progress.ask()

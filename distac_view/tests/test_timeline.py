@@ -3,7 +3,6 @@
 import re
 import unittest
 from pathlib import Path
-from typing import List
 from xml.etree import ElementTree
 
 from support import EXAMPLES, Elements, InRoom, view
@@ -26,7 +25,7 @@ def page_of(path: Path, *words: str) -> str:
     return said.output
 
 
-def pictures(page: str) -> List[ElementTree.Element]:
+def pictures(page: str) -> list[ElementTree.Element]:
     """The pictures of a page's rows, each read as XML."""
     found = [ElementTree.fromstring(text) for text in PICTURE.findall(page)]
     return [one for one in found if (one.get("aria-label") or "").startswith("lines ")]
@@ -46,8 +45,6 @@ def place_in(page: Elements, tag: str, **attributes: str) -> int:
 
 
 class Pages(InRoom):
-    """The contents of each page."""
-
     def written(self, text: str) -> Path:
         return self.write("script", text)
 
@@ -148,8 +145,6 @@ def brightness(color: str) -> float:
 
 
 class Paper(unittest.TestCase):
-    """A printed page."""
-
     def test_the_first_picture_leaves_room_for_the_claims(self) -> None:
         configuration = Configuration(["a"], [Application("x", 0, [["a"]], True)], [], [], None)
         counts = []
@@ -167,8 +162,6 @@ class Paper(unittest.TestCase):
 
 
 class Words(unittest.TestCase):
-    """Refusals with a sentence."""
-
     def test_counts(self) -> None:
         for option in ("--lines", "--from"):
             for word in ("-5", "0", "x", "1_0", "", "9" * 5_000):

@@ -1,7 +1,6 @@
 """States with more lives than their format can count are reported."""
 
 import unittest
-from typing import List
 
 from support import IS_STAND_IN, InRoom, view
 from distac_view.asking.sim_output import Answered
@@ -11,7 +10,7 @@ from distac_view.reading.script_file import Line
 HEAD = "[{kernel,[{distributed,[{a,[x,y]}]}]}].\n--\n"
 
 
-def booted(count: int) -> List[Answered]:
+def booted(count: int) -> list[Answered]:
     """Repeated boots of a node."""
     return [Answered(Line(number, "boot x 0"), [f"booted {number} op {number}"]) for number in range(1, count + 1)]
 
