@@ -68,7 +68,11 @@ def highest_of(threads: List[Thread], priorities: Dict[Thread, float], chance: r
     return max(threads, key=priorities.__getitem__)
 
 
-KINDS: Dict[str, Callable[[random.Random, int], Choose]] = {"uniform": lambda chance, _: chance.choice, "PCT": by_thread, "POS": by_step}
+KINDS: Dict[str, Callable[[random.Random, int], Choose]] = {
+    "uniform": lambda chance, _: chance.choice,
+    "PCT": by_thread,
+    "POS": by_step,
+}
 
 
 def kind_of(number: int) -> str:

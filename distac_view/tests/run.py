@@ -1,5 +1,5 @@
 #!/usr/bin/env python3
-"""Runs all tests of `distac-view`, or those named, such as test_fuzz or test_ends.Answers. The last line is `N passed, M failed`.
+"""Runs all tests of `distac-view`, or those named, as test_fuzz or test_ends.Ends. The last line is `N passed, M failed`.
 
 They run the program that the environment variable DISTAC names, or else the models. SIGTERM and SIGHUP end them like
 Ctrl-C, so that their temporary folders are removed.

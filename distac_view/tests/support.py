@@ -8,8 +8,9 @@ import signal
 import subprocess
 import sys
 import tempfile
+import time
 import unittest
-from collections.abc import Iterator
+from collections.abc import Callable, Iterator
 from dataclasses import dataclass
 from html.parser import HTMLParser
 from pathlib import Path
@@ -67,6 +68,13 @@ class InRoom(unittest.TestCase):
     def names(self) -> list[str]:
         """The contents of the folder."""
         return sorted(path.name for path in self.room.iterdir())
+
+    def until(self, holds: Callable[[], bool]) -> None:
+        """Waits until something holds."""
+        last = time.monotonic() + 60
+        while not holds():
+            self.assertLess(time.monotonic(), last)
+            time.sleep(0.05)
 
     def answer(self, status: int, *words: str) -> Any:
         """An answer as JSON, which fits its schema."""

@@ -43,9 +43,7 @@ FAULTS = (
 
 class Room(InRoom):
     def path(self, text: str) -> str:
-        path = self.room / "some.live"
-        path.write_bytes(text.encode("utf-8", "surrogateescape"))
-        return str(path)
+        return str(self.write("some.live", text))
 
 
 class Ends(Room):

@@ -4,7 +4,6 @@ import os
 import shutil
 import signal
 import subprocess
-import time
 from pathlib import Path
 
 from support import TOP, InRoom, hear_signals
@@ -175,10 +174,7 @@ class Nightly(InRoom):
     def ended_by(self, number: int, begun: Path) -> int:
         """The status of a run that a signal ends after its part has begun."""
         with self.start("--only", "stacks", "examples") as started:
-            until = time.monotonic() + MOST_SECONDS
-            while not (begun.exists() and begun.read_text().endswith("\n")):
-                self.assertLess(time.monotonic(), until)
-                time.sleep(0.05)
+            self.until(lambda: begun.exists() and begun.read_text().endswith("\n"))
             started.send_signal(number)
             started.communicate(timeout=MOST_SECONDS)
         return started.returncode
