@@ -1,5 +1,7 @@
 """The models instead of the program `distac`: Python, and no proof."""
 
+from __future__ import annotations
+
 import sys
 from importlib import import_module
 from pathlib import Path
