@@ -6,8 +6,6 @@ It includes the models, for `--models`. The same sources yield the same bytes, o
 contains no commit; distac_view/release.py packs one that does.
 """
 
-from __future__ import annotations
-
 import argparse
 import io
 import os

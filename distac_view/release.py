@@ -6,8 +6,6 @@ versions and the commit, and SHA256SUMS. It is made from a commit, from which no
 proved, no release is made, unless --without-program leaves it out.
 """
 
-from __future__ import annotations
-
 import argparse
 import hashlib
 import os
@@ -108,7 +106,6 @@ def fill(folder: Path, files: Dict[str, bytes]) -> None:
 
 
 def main() -> int:
-    """Makes a release."""
     parser = argparse.ArgumentParser(description="Makes the folder of a release: distac-view, the proved program, and what they are.")
     parser.add_argument("folder", metavar="FOLDER", type=Path, help="a folder that isn't there yet, or is empty")
     parser.add_argument("--without-program", action="store_true", help="leave the program distac out, and say so in RELEASE")

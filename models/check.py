@@ -100,7 +100,6 @@ def skip_blanks(text: bytes, at: int) -> int:
 
 
 def quoted_atom(text: bytes, at: int) -> Token:
-    """The quoted atom at a place."""
     here = at + 1
     while here < len(text) and text[here] != ord("'"):
         if text[here] == ord("\\") or text[here] < 0x20 or text[here] == 0x7F:
@@ -129,7 +128,6 @@ def string_token(text: bytes, at: int) -> Token:
 
 
 def bare_atom(text: bytes, at: int) -> Token:
-    """The bare atom at a place."""
     past = run_end(text, at, ATOM_BYTES)
     if text[at:past] == b"fun":
         raise ConfigFault("Unsupported", at)
@@ -413,7 +411,6 @@ class App:
         return next((number for number, group in enumerate(self.groups) if node in group), None)
 
     def nodes(self) -> list[int]:
-        """The nodes of its list, by group and name."""
         return [node for group in self.groups for node in group]
 
 
@@ -462,7 +459,6 @@ class Config:
 
 
 def spelled(name: bytes) -> bytes:
-    """A name as printed."""
     return name if is_bare_atom(name) else b"'%s'" % name
 
 
@@ -506,7 +502,6 @@ def check(text: bytes) -> tuple[bytes, int]:
 
 
 def main() -> int:
-    """Checks standard input."""
     return run_model("check.py", check)
 
 

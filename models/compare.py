@@ -156,7 +156,6 @@ def counted_in(word: str, source: bytes) -> int:
 
 
 def compare_batch(program: list[str], word: str, seed: int, numbers: range) -> Compared:
-    """The result for the inputs of some numbers."""
     kind = KINDS[word]
     found = Compared([], Counter())
     for number in numbers:
@@ -188,7 +187,6 @@ def compare_all(program: list[str], seed: int, counts: dict[str, int], jobs: int
 
 
 def show(difference: Difference) -> None:
-    """Prints a whole difference."""
     print(f"{difference.word} {difference.number}, the input as bytes and as it is:")
     print(repr(difference.source))
     print(difference.source.decode(errors="backslashreplace"))
@@ -197,7 +195,6 @@ def show(difference: Difference) -> None:
 
 
 def arguments() -> argparse.Namespace:
-    """The command line's arguments."""
     parser = argparse.ArgumentParser(description="Compares the program with the models on random inputs.")
     parser.add_argument("--seed", type=int, default=1)
     for kind, (count, what) in COUNTS.items():

@@ -1,7 +1,5 @@
 """Folders for the output of scripts."""
 
-from __future__ import annotations
-
 import sys
 import tempfile
 from pathlib import Path

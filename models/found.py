@@ -49,7 +49,6 @@ def source(command: str, _seed: int, number: int) -> bytes:
 
 
 def keep(command: str, inputs: list[bytes]) -> None:
-    """Adds some inputs to those kept."""
     all_kept = sorted({*kept(command), *inputs}, key=lambda data: (len(data), data))
     FOLDER.mkdir(exist_ok=True)
     (FOLDER / f"{command}.txt").write_text("".join(f"{data.hex()}\n" for data in all_kept))

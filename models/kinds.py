@@ -36,7 +36,6 @@ def index_of(node: ast.Subscript) -> ast.AST:
 
 
 def kind_of_annotation(node: Optional[ast.AST]) -> Optional[Kind]:
-    """The kind that an annotation names."""
     if isinstance(node, ast.Name):
         return Kind(node.id)
     if isinstance(node, ast.BinOp):
@@ -150,7 +149,6 @@ class Reading:
         return next((kind for kind in found if kind not in (None, Kind("NoneType"))), None)
 
     def of_call(self, node: ast.Call) -> Optional[Kind]:
-        """The kind of a call's result."""
         if isinstance(node.func, ast.Name):
             name = node.func.id
             if name in self.kinds.classes:

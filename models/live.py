@@ -137,7 +137,6 @@ class Run:
         self.links = [Link(node, to) for node in nodes for to in nodes if to != node]
 
     def play(self, phases: list[Phase]) -> bytes:
-        """The output of all phases and of the end."""
         lines = [line for number, phase in enumerate(phases, 1) for line in self.printed(number, phase)]
         for node in range(len(self.world.nodes)):
             lines += self.text.page(node)
@@ -196,7 +195,6 @@ class Run:
         return Thread(lambda: bool(link.letters), lambda: self.hear(link))
 
     def shipper(self, link: Link) -> Thread:
-        """The thread that ships into a link."""
         return Thread(lambda: link.ships > 0, lambda: self.ship(link))
 
     def answer(self, asked: Asked) -> bytes:
@@ -235,7 +233,6 @@ def run_live(source: bytes, choose: Choose = first) -> tuple[bytes, int]:
 
 
 def main() -> int:
-    """Runs standard input."""
     return run_model("live.py", run_live)
 
 

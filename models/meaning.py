@@ -120,14 +120,11 @@ Act = Union[Up, Down, Permit, Start, Stop, ClaimAct, Drain]
 
 @dataclass(frozen=True)
 class Operation:
-    """An operation: its dot and its effect."""
-
     dot: Dot
     act: Act
 
     @property
     def over(self) -> tuple[Dot, ...]:
-        """The dots that it replaces."""
         return self.act.over if isinstance(self.act, (Permit, Start, Stop, Drain)) else ()
 
 
@@ -144,7 +141,6 @@ class Meaning:
     drains: dict[Origin, dict[Dot, bool]] = field(default_factory=dict)
 
     def live(self, node: int) -> int | None:
-        """The incarnation at which a node is live."""
         life = self.lives.get(node)
         return None if life is None or life.is_down else life.inc
 
@@ -185,7 +181,6 @@ def add_standing(found: Meaning, operation: Operation) -> None:
 
 
 def add_life(found: Meaning, operation: Operation) -> None:
-    """Adds an operation's effect on a node's life."""
     if isinstance(operation.act, Up):
         node, life = operation.dot.node, Life(operation.dot.inc, False)
     elif isinstance(operation.act, Down):

@@ -92,8 +92,7 @@ def all_mutations() -> list[Mutation]:
 
 @contextmanager
 def loaded(mutation: Mutation) -> Iterator[None]:
-    """The models with a change. In its context the changed module and those that depend on it replace the original
-    ones."""
+    """The changed models. In this context the changed module and its users replace the original ones."""
     first = [f"{name}.py" for name in MODULES].index(mutation.file)
     kept = {name: importlib.import_module(name) for name in MODULES}
     try:
@@ -227,7 +226,6 @@ def report(mutations: list[Mutation], survivors: list[Mutation], reasons: dict[s
 
 
 def arguments() -> argparse.Namespace:
-    """The command line's arguments."""
     parser = argparse.ArgumentParser(description="Lists the changes of the models of `distac sim` and `distac live` that no row sees.")
     parser.add_argument("--rows", type=Path, default=TOP, help="the clone whose rows and examples are played, this one if not given")
     parser.add_argument("--jobs", type=at_least(1), default=2)
@@ -236,7 +234,6 @@ def arguments() -> argparse.Namespace:
 
 
 def main() -> int:
-    """Lists or tries the mutants."""
     words = arguments()
     mutations = all_mutations()
     if words.list:

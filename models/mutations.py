@@ -63,8 +63,7 @@ MOST_SHOWN = 120
 
 @dataclass(frozen=True)
 class Edit:
-    """A part of a text with its replacement, and the surrounding part that is shown, or a pair of texts in its
-    place."""
+    """A part of a text with its replacement, and the part that is shown around it, or a pair of texts instead."""
 
     start: int
     end: int
@@ -88,7 +87,6 @@ class Mutation:
         return f"{self.file} {self.function}: {self.old} -> {self.new}"
 
     def applied(self, text: str) -> str:
-        """The text with this change."""
         return text[: self.edit.start] + self.edit.put + text[self.edit.end :]
 
 
@@ -332,8 +330,7 @@ class Walk:
         return isinstance(node, ast.Name) and self.scopes.reading.of(node) == INT
 
     def of_container(self, node: ast.AST, around: Optional[ast.expr]) -> Iterator[Edit]:
-        """The first item instead of an indexed one, an interval without a bound, a table without a row, an order
-        reversed."""
+        """The first item for an indexed one, an interval without a bound, a table without a row, a reversed order."""
         if isinstance(node, ast.Subscript):
             index = index_of(node)
             if isinstance(index, (ast.Name, ast.Attribute)) and isinstance(node.ctx, ast.Load):
@@ -348,7 +345,6 @@ class Walk:
             yield self.other(node.body, f"({', '.join(items)})", node)
 
     def without_rows(self, node: ast.Dict) -> Iterator[Edit]:
-        """A table without one of its rows."""
         for key, value in zip(node.keys, node.values):
             if key is not None:
                 start, end = self.span(key)[0], self.span(value)[1]

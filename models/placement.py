@@ -41,7 +41,6 @@ def is_wished(meaning: Meaning, key: Key) -> bool:
 
 
 def is_eligible(config: Config, meaning: Meaning, app: int, node: int) -> bool:
-    """Whether a node is eligible for an application."""
     inc = meaning.live(node)
     if inc is None or config.apps[app].group_of(node) is None:
         return False
@@ -56,7 +55,6 @@ def holder(meaning: Meaning, app: int) -> Origin | None:
 
 
 def running_node(config: Config, meaning: Meaning, app: int) -> int | None:
-    """The node that runs an application."""
     origin = holder(meaning, app)
     if origin is None or meaning.live(origin.node) != origin.inc:
         return None

@@ -57,7 +57,6 @@ def demand(holds: bool, why: str) -> None:
 
 
 def refusal(name: str) -> bytes:
-    """The answer with this cause of refusal."""
     return f"refused {REFUSALS.index(name) + 1} {name}".encode()
 
 
@@ -77,8 +76,7 @@ def sure_refusal(config: Config, asked: Asked) -> str | None:
 
 
 def is_by_hearsay(asked: Asked, answer: bytes) -> bool:
-    """Whether what a node has heard can explain the answer to a line. A node that isn't declared down has heard of
-    itself."""
+    """Whether what a node has heard can explain an answer. One not declared down has heard of itself."""
     names = HEARSAY.get(asked.word, ())
     if asked.values[ABOUT[asked.word]] != asked.node:
         names += ("NotLive",)
@@ -134,8 +132,7 @@ def steps(config: Config, rows: list[Row], places: Places, moments: set[Moment])
 
 
 def after_all(config: Config, rows: list[Row], moments: set[Moment]) -> set[Moment]:
-    """The possible states of a node after its callers' lines, in any order that explains the answers and preserves each
-    caller's."""
+    """The possible states of a node after its callers' lines, in orders that explain answers and keep each caller's."""
     level: dict[Places, set[Moment]] = {(0,) * len(rows): moments}
     for _ in range(sum(map(len, rows))):
         following: defaultdict[Places, set[Moment]] = defaultdict(set)
@@ -196,7 +193,6 @@ class Checked:
     has_loss: bool = False
 
     def take(self, pattern: bytes, what: str) -> re.Match[bytes]:
-        """Consumes a match of a pattern from the output."""
         match = re.match(pattern, self.rest)
         if match is None:
             raise Broken(f"{what} was to be printed at {self.rest[:80]!r}")
@@ -247,7 +243,6 @@ class Checked:
             self.compare(pages)
 
     def compare(self, pages: list[Page]) -> None:
-        """Compares the pages."""
         running = [page for page in pages if page.inc is not None]
         demand(len({page.shared for page in running}) <= 1, "running nodes have different pages")
         for page in running[:1]:

@@ -124,7 +124,6 @@ class OpenPhase:
         return self.may_issue(who) and self.issuers <= {who}
 
     def has_issued(self, node: int) -> bool:
-        """Whether a node issued something."""
         return any(issuer == node for issuer, _ in self.issuers)
 
     def may_go(self, node: int) -> bool:
@@ -182,14 +181,12 @@ class LiveMaker(PlayingMaker):
         return self.touch_of_boot(node) if asked.word == b"boot" else self.touch_of_command(asked)
 
     def touch_of_boot(self, node: int) -> Touch | None:
-        """The things that a boot touches."""
         is_second_restart = node in self.open.crashed and self.open.crashed & self.open.young
         if is_second_restart or not self.open.may_come():
             return None
         return Touch(set(), {Thing("on", node), Thing("life", node), Thing("moment", node)})
 
     def touch_of_command(self, asked: Asked) -> Touch | None:
-        """The things that a command at a running node touches."""
         node = asked.node
         if asked.word == b"takeover":
             found = self.touch_of_takeover(int(asked.values[1]))
@@ -314,7 +311,6 @@ class LiveMaker(PlayingMaker):
         return node, self.random.choice((1, 1, 1, 2, 2, 3, 4))
 
     def usual(self) -> Who:
-        """A caller of a usual node."""
         return self.who(self.usual_node())
 
     def line(self, who: Who, verb: str) -> None:
@@ -397,8 +393,7 @@ class LiveMaker(PlayingMaker):
         self.end()
 
     def loss(self) -> None:
-        """A node goes down, usually one that runs an application. The others learn of it and tick, or it comes back, or
-        both."""
+        """A node goes down, usually a holder. The others learn of it and tick, or it comes back, or both."""
         node = self.some_holder()
         self.line(self.who(node), "crash")
         self.few(0, 0, 3, 6)
@@ -477,13 +472,11 @@ def odd_line(random: Random, config: Config) -> bytes:
 
 
 def with_odd_line(random: Random, lines: list[bytes], config: Config) -> list[bytes]:
-    """The lines with one more of this kind."""
     at = random.randint(0, len(lines))
     return [*lines[:at], odd_line(random, config), *lines[at:]]
 
 
 def is_faulty(config: Config, lines: list[bytes]) -> bool:
-    """Whether some line has a fault."""
     try:
         read_lines(LiveReader(config), b"\n".join(lines))
     except ScriptFault:
@@ -518,7 +511,6 @@ class Paces:
         self.paces: dict[Thread, float] = {}
 
     def __call__(self, threads: list[Thread]) -> Thread:
-        """The next thread to run."""
         weights = [self.paces.setdefault(thread, self.random.choice((0.001, 0.1, 1.0, 30.0))) for thread in threads]
         return self.random.choices(threads, weights)[0]
 

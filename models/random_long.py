@@ -36,7 +36,6 @@ GATES = (b"", b"", WAITING % b"optional", WAITING % b"mandatory")
 
 
 def names(letter: bytes, count: int, end: bytes = b"") -> list[bytes]:
-    """This many names, in order."""
     return [b"%s%02d%s" % (letter, number, end) for number in range(count)]
 
 
@@ -80,7 +79,6 @@ class LongMaker:
         self.off.discard(node)
 
     def crash(self, node: bytes) -> None:
-        """A node goes off."""
         self.add(b"crash", node)
         self.off.add(node)
 
@@ -148,8 +146,7 @@ class LongMaker:
 def still(random: Random) -> bytes:
     """An event, and then many ticks that change nothing. Waits end among them, some of several applications at once."""
     maker = LongMaker(random, random.randint(2, 5), random.randint(2, 12))
-    waits = random.choice(WAITS)
-    text = maker.config([maker.some_list(waits, 2) for _ in maker.apps], random.choice(GATES))
+    text = maker.config([maker.some_list(random.choice(WAITS), 2) for _ in maker.apps], random.choice(GATES))
     maker.open()
     for _ in range(random.choice((2, 4, 8))):
         maker.happen()

@@ -135,7 +135,6 @@ def forged_parts(random: Random, world: World, writer: Writer) -> bytes:
 
 
 def forged_chains(random: Random, world: World, writer: Writer, state: Meaning) -> bytes:
-    """The bytes of lives and claims."""
     lives = shuffled(random, [writer.life(node, state.lives[node]) for node in sorted(state.lives)])
     apps = sorted(random.choices(range(len(world.config.apps)), k=random.randint(0, 3)))
     claims = [Claim(1, random.randrange(len(world.nodes)), 1, *random.choice(((1, -1), (2, 0), (3, 0)))) for _ in apps]

@@ -11,8 +11,6 @@ Usage: python3 random_racing.py SEED NUMBER
 Prints the input of a number.
 """
 
-from __future__ import annotations
-
 import sys
 from random import Random
 

@@ -79,7 +79,6 @@ class Maker:
         self.now = 0
 
     def name_of(self, node: int) -> bytes:
-        """A node's name as a word."""
         return spelled(self.config.nodes[node])
 
     def usual_node(self) -> int:
@@ -151,7 +150,6 @@ class PlayingMaker(Maker):
         return [node for node in self.nodes if self.world.is_on(node)]
 
     def off(self) -> list[int]:
-        """The nodes that are off."""
         return [node for node in self.nodes if not self.world.is_on(node)]
 
     def usual_node(self) -> int:
@@ -233,7 +231,6 @@ class ScriptMaker(PlayingMaker):
             self.add(b"share")
 
     def start_all(self, node: int, rate: float) -> None:
-        """Start wishes for all that a node may run."""
         for app in self.starts(node, rate):
             self.add(b"start", self.name_of(node) if self.world.is_on(node) else self.node(), app, self.name_of(node))
 
@@ -560,8 +557,7 @@ def random_packets(seed: int, number: int) -> bytes:
     maker = ScriptMaker(random, read_config(text))
     maker.open()
     maker.some(random.choice((CALM, LETTERS, HANDS, DRAINS)), random.choice((5, 20, 40)))
-    feeds = [maker.feed_line(maker.world) for _ in range(PACKETS)]
-    return text + b"--\n" + b"\n".join(maker.lines + feeds)
+    return text + b"--\n" + b"\n".join(maker.lines + [maker.feed_line(maker.world) for _ in range(PACKETS)])
 
 
 if __name__ == "__main__":

@@ -24,7 +24,6 @@ MOST_BYTES = 4_000
 
 
 def is_state(config: Config, data: bytes) -> bool:
-    """Whether some bytes are a state."""
     try:
         read_state(config, data)
     except Fault:

@@ -35,7 +35,6 @@ ANY_TOKEN = NODES + APPS + NUMBERS + BAD_NUMBERS + STRINGS + BAD_STRINGS + BAD_A
 
 
 def parted(items: list[Tokens]) -> Tokens:
-    """Items separated by commas."""
     tokens: Tokens = []
     for item in items:
         tokens += ([b","] if tokens else []) + item
@@ -57,8 +56,7 @@ def named(random: Random, kind: str, most: int) -> list[bytes]:
         pool.remove(b"'b'")
     if random.random() < 0.15:
         pool += [b"%s%d@x" % (kind.encode(), number) for number in range(most)]
-    count = min(len(pool), random.choice((1, 1, 2, 3, 3, 4, 6, most)))
-    return random.sample(pool, count)
+    return random.sample(pool, min(len(pool), random.choice((1, 1, 2, 3, 3, 4, 6, most))))
 
 
 def term(random: Random, depth: int = 0) -> Tokens:
@@ -159,7 +157,6 @@ def group_at(tokens: Tokens, at: int) -> int:
 
 
 def perhaps_string(random: Random) -> Tokens:
-    """A string, or nothing."""
     found: list[Tokens] = [[], [random.choice(STRINGS + BAD_STRINGS)]]
     return random.choice(found)
 
@@ -277,7 +274,6 @@ def long_number(random: Random) -> bytes:
 
 
 def no_applications(random: Random) -> bytes:
-    """A file without applications."""
     found = [one for one in parameters(random) if b"distributed" not in one]
     if random.random() < 0.5:
         found.append(tuple_of([[b"distributed"], listed([])]))
@@ -294,8 +290,7 @@ def near(random: Random) -> bytes:
     """A valid text with one token or group changed, or a few."""
     tokens = valid_tokens(random)
     for _ in range(random.choice((1, 1, 1, 2, 4))):
-        change = random.choice((changed_token, changed_group, changed_like))
-        tokens = change(random, tokens)
+        tokens = random.choice((changed_token, changed_group, changed_like))(random, tokens)
     return with_blanks(random, tokens)
 
 

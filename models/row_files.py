@@ -24,7 +24,6 @@ class Row:
 
 
 def inputs_in(folder: Path, command: str) -> list[Path]:
-    """The inputs for a command in a folder."""
     return sorted(folder.glob("*.config" if command == CHECK else "*.distac"))
 
 

@@ -33,11 +33,6 @@ Pages = Tuple[Tuple[bytes, ...], ...]
 # Choosing
 
 
-def by_chance(chance: random.Random, _: int) -> Choose:
-    """Chooses any thread that can go on."""
-    return chance.choice
-
-
 def by_thread(chance: random.Random, steps: int) -> Choose:
     """Chooses the thread of the highest priority. At random ones of so many steps it falls below all others."""
     priorities: Dict[Thread, float] = {}
@@ -74,7 +69,11 @@ def highest_of(threads: List[Thread], priorities: Dict[Thread, float], chance: r
     return max(threads, key=priorities.__getitem__)
 
 
-KINDS: Dict[str, Callable[[random.Random, int], Choose]] = {"uniform": by_chance, "PCT": by_thread, "POS": by_step}
+KINDS: Dict[str, Callable[[random.Random, int], Choose]] = {
+    "uniform": lambda chance, _: chance.choice,
+    "PCT": by_thread,
+    "POS": by_step,
+}
 
 
 def kind_of(number: int) -> str:
@@ -123,7 +122,6 @@ class Kept(Run):
         self.phases[-1].events.append(event)
 
     def chosen(self, threads: List[Thread]) -> Thread:
-        """The thread of the next step."""
         self.steps += 1
         return self.chooser(threads)
 
@@ -157,8 +155,7 @@ def runs(config: Config, phases: List[Phase], seed: int) -> Iterator[Kept]:
     """The runs of all schedules, in the order of their numbers from 1."""
     steps = 1
     for number in count(1):
-        chance = random.Random(f"{seed} {number}")
-        run = Kept(config, KINDS[kind_of(number)](chance, steps))
+        run = Kept(config, KINDS[kind_of(number)](random.Random(f"{seed} {number}"), steps))
         for phase in phases:
             run.keep(phase)
         steps = run.steps if number == 1 else steps
@@ -184,7 +181,6 @@ class Replay:
 
 
 def replayed(config: Config, events: Iterable[Event]) -> Replay:
-    """Plays events anew."""
     player, found = Player(config), Replay(config)
     numbers: Dict[Event, int] = {}
     for event in events:

@@ -1,7 +1,5 @@
 """The names of a Python text: where each one can be used, of which kind it is, and which others can stand for it."""
 
-from __future__ import annotations
-
 import ast
 from dataclasses import dataclass
 from typing import List, Optional, Tuple, Union
@@ -47,8 +45,7 @@ class Scopes:
     # Binding
 
     def bind(self, node: ast.AST, end: Optional[int], of: Optional[str]) -> None:
-        """Binds the names in a part of a function, which ends there, or of a class. Those outside of functions aren't
-        bound."""
+        """Binds the names in a part of a function, which ends there, or of a class, but none outside of functions."""
         inner = end
         if isinstance(node, ast.FunctionDef):
             extent = self.places.span(node)
@@ -97,11 +94,9 @@ class Scopes:
 
     def bound_at(self, at: int) -> List[Binding]:
         """The names that are bound at a place, each as it was bound last."""
-        latest = {one.name: one for one in self.bindings if one.start <= at < one.end}
-        return list(latest.values())
+        return list({one.name: one for one in self.bindings if one.start <= at < one.end}.values())
 
     def kind_at(self, name: str, at: int) -> Optional[Kind]:
-        """The kind of a name at a place."""
         return next((one.kind for one in self.bound_at(at) if one.name == name), None)
 
     def others(self, node: Union[ast.Name, ast.Attribute]) -> List[str]:

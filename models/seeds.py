@@ -29,7 +29,6 @@ MARK = read_config(PACKETS_UNDER).mark.to_bytes(8, "big")
 
 
 def played(command: str) -> Iterator[bytes]:
-    """The examples and rows of a command."""
     return (row.source for read in (examples, rows) for row in read(TOP, command))
 
 
@@ -145,9 +144,5 @@ def words(command: str) -> list[bytes]:
 
 def dictionary(command: str) -> str:
     """The words in AFL++'s format, one per line."""
-    return "".join(f'"{"".join(map(escaped, word))}"\n' for word in words(command))
-
-
-def escaped(byte: int) -> str:
-    """A byte as hexadecimal digits."""
-    return f"\\x{byte:02x}"
+    spelled = ("".join(f"\\x{byte:02x}" for byte in word) for word in words(command))
+    return "".join(f'"{word}"\n' for word in spelled)

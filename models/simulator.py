@@ -38,8 +38,6 @@ COMMANDS = (b"down", b"permit", b"start", b"stop", b"drain", b"takeover")
 
 
 class InputFault(Exception):
-    """A fault of a whole input."""
-
     def __init__(self, kind: str) -> None:
         super().__init__(kind)
         self.kind = kind
@@ -50,8 +48,6 @@ class InputFault(Exception):
 
 
 class ScriptFault(Exception):
-    """The first fault of a script."""
-
     def __init__(self, line: int, kind: str) -> None:
         super().__init__(line, kind)
         self.number = line
@@ -143,7 +139,6 @@ class LineReader:
         return word == b"true" if kind == TRUTH else bytes_of(word) or b""
 
     def read(self, line: bytes, number: int) -> Line:
-        """A line, or its fault."""
         words = [word for word in line.split(b" ") if word] or [b""]
         fault = self.fault_of(words)
         if fault is not None:
@@ -232,7 +227,6 @@ class Printer:
         return lines
 
     def off(self, node: int) -> bytes:
-        """The header of a node that is off."""
         return b"node %s off" % self.node(node)
 
     def life(self, state: Meaning, node: int) -> bytes:
@@ -257,7 +251,6 @@ class Printer:
         return b"app %s holder %s verdict %s%s" % (self.app(app), holder, found.what.encode(), at)
 
     def list_line(self, state: Meaning, app: int) -> bytes:
-        """The line of an application's list."""
         listed = self.config.apps[app].nodes()
         return b"list" + b"".join(b" %s=%s" % (self.node(node), self.mark(state, app, node)) for node in listed)
 
@@ -361,5 +354,4 @@ def simulate(source: bytes) -> tuple[bytes, int]:
 
 
 def main() -> int:
-    """Plays standard input."""
     return run_model("sim.py", simulate)

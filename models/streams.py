@@ -37,7 +37,6 @@ def print_input(name: str, make: Callable[..., bytes], kinds: Collection[str] = 
 
 
 def written(name: str, output: bytes, status: int) -> int:
-    """Prints an output, and returns this status if it can be written."""
     try:
         with open(1, "wb", closefd=False) as opened:
             opened.write(output)

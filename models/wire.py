@@ -38,7 +38,6 @@ Rows = Dict[Origin, Tuple[int, List[int]]]
 
 
 def rows_of(dots: set[Dot]) -> Rows:
-    """The written form of a set of dots."""
     counters: dict[Origin, list[int]] = {}
     for dot in sorted(dots):
         counters.setdefault(dot.origin, []).append(dot.n)
@@ -67,7 +66,6 @@ class SpelledState:
 
     @classmethod
     def of(cls, state: Meaning) -> SpelledState:
-        """The written form of a state."""
         heard, known = rows_of(state.heard), rows_of(state.known)
         return cls(heard, known, state.permits, state.starts, state.lives, state.claims, state.drains)
 
@@ -330,7 +328,6 @@ def read_standing(fields: Fields, known: Rows, has_value: bool) -> dict[Dot, boo
 
 
 def read_claims(fields: Fields) -> dict[int, Claim]:
-    """The greatest claims of all applications."""
     claims: dict[int, Claim] = {}
     for _ in range(fields.count(2)):
         at = fields.at
@@ -368,7 +365,6 @@ def read_state(config: Config, data: bytes, version: int = SECOND) -> SpelledSta
 
 
 def read_over(fields: Fields) -> tuple[Dot, ...]:
-    """The dots replaced by an operation."""
     return tuple(fields.ascending(fields.count(2), fields.dot))
 
 

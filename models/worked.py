@@ -54,7 +54,6 @@ def faults_agree(of: str, read: Callable[[bytes], object], faulty: Iterable[Faul
 
 
 def with_byte(data: bytes, at: int, byte: int) -> bytes:
-    """The bytes with one of them changed."""
     return data[:at] + bytes((byte,)) + data[at + 1 :]
 
 
@@ -339,7 +338,6 @@ def verdicts_of(config: Config, state: Meaning) -> tuple[str, str, int]:
 
 
 def placement_checks() -> Iterator[Check]:
-    """The placement of two applications."""
     config = read_config(TWO_APPLICATIONS)
     ups = [Operation(Dot(node, 1, 1), Up()) for node in range(3)]
     starts = [Operation(Dot(node, 1, 2), Start(Key(0, node, 1), ())) for node in range(3)]
@@ -388,8 +386,7 @@ def two_fault_checks() -> Iterator[Check]:
         expected = (b"script fault 1 %s\n" % fault, 1)
         yield f"{line}, with two faults", simulate(script_under(TWO_APPLICATIONS, line)) == expected
     claims = [Writer().claim(1, Claim(1, node, 1, NORMAL, -1)) for node in (1, 0)]
-    state = bytes(13) + b"\0\2" + b"".join(claims)
-    read = partial(read_state, read_config(TWO_APPLICATIONS), state)
+    read = partial(read_state, read_config(TWO_APPLICATIONS), bytes(13) + b"\0\2" + b"".join(claims))
     yield "a claim with two faults", fault_of(read) == ("NotInList", 36)
 
 

@@ -142,7 +142,6 @@ class World:
         return running
 
     def is_on(self, node: int) -> bool:
-        """Whether a node runs."""
         return self.nodes[node].running is not None
 
     def message(self, number: int) -> Message:
@@ -187,7 +186,6 @@ class World:
         return running
 
     def down(self, node: int, about: int) -> int:
-        """A node reports another one as down."""
         self.active(node)
         refuse("UnknownNode", about >= len(self.nodes))
         refuse("OnSelf", about == node)
@@ -254,7 +252,6 @@ class World:
         return self.issue(node, ClaimAct(app, self.next_term(state, app), TAKEOVER, source))
 
     def next_term(self, state: Meaning, app: int) -> int:
-        """The term of the next claim of an application."""
         return state.claims[app].term + 1 if app in state.claims else 1
 
     # Ticks
@@ -370,8 +367,7 @@ class World:
         return self.running(node).add(1 << number - 1)
 
     def share(self) -> int:
-        """Each running node ships to every other one, and all is delivered at once. Returns the number of messages
-        shipped."""
+        """Each running node ships to every other, all is delivered at once, and the number of messages is returned."""
         on = [node for node in range(len(self.nodes)) if self.is_on(node)]
         shipped = 0
         for node in on:

@@ -4,7 +4,7 @@ import itertools
 import textwrap
 from typing import Dict, Iterator, List, NamedTuple, Sequence, Set, Tuple
 
-from checks.library.code_types import CodeTypes, Declared
+from checks.library.code_types import CodeTypes
 from checks.library.definition_sources import DefinitionSources
 from checks.library.modules import Definition, Modules, Word
 from checks.library.resting import Rest, Resting
@@ -30,7 +30,6 @@ class Asked(NamedTuple):
 
 
 def wrapped(text: str, before: str) -> List[str]:
-    """A text wrapped into lines with a prefix."""
     return textwrap.wrap(text, WIDTH, initial_indent=before, subsequent_indent=before, break_on_hyphens=False)
 
 
@@ -40,8 +39,6 @@ def lines_in(texts: Sequence[Tuple[str, ...]]) -> int:
 
 
 class BelievedPage:
-    """The page of one subject."""
-
     def __init__(self, asked: Asked, resting: Resting) -> None:
         """Finds the definitions that the subject rests on."""
         self.asked = asked
@@ -79,12 +76,11 @@ class BelievedPage:
         yield self.counts()
 
     def _code(self, crate: str) -> Iterator[str]:
-        """The types and constants of a crate."""
         of_crate = sorted((one for one in self.types if one.crate == crate), key=lambda one: (str(one.file), one.line))
         for file, group in itertools.groupby(of_crate, lambda one: one.file):
             yield f"==== {crate}, {file.relative_to(self.modules.root / 'crates' / crate)}"
             for one in group:
-                yield from (*dedented(one), "")
+                yield from (*textwrap.dedent("\n".join(one.text)).split("\n"), "")
 
     def _modules(self, definitions: Sequence[Definition]) -> Iterator[str]:
         """Definitions by modules, in reading order."""
@@ -143,8 +139,3 @@ class BelievedPage:
         if named:
             more = f" and {len(named) - MOST} more" if len(named) > MOST else ""
             yield from (*wrapped(f"Public functions whose clauses rest on it: {', '.join(named[:MOST])}{more}.", ""), "")
-
-
-def dedented(one: Declared) -> List[str]:
-    """A declaration without indentation."""
-    return textwrap.dedent("\n".join(one.text)).split("\n")

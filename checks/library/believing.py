@@ -90,7 +90,6 @@ def asked_about(name: str, clause: str, sources: Sources, resting: Resting) -> L
 
 
 def near_names(name: str, sources: Sources, modules: Modules) -> List[str]:
-    """Names with a similar spelling."""
     functions = ["::".join(one.shown()[1:]) for one in sources.public()]
     definitions = [one.name for crate in modules.crates.order() for one in modules.definitions_of(crate)]
     return [f"there is {one}" for one in difflib.get_close_matches(name, functions + definitions, 3)]
@@ -117,15 +116,13 @@ def believe(arguments: argparse.Namespace) -> int:
 
 
 def listed(title: str, items: Sequence[str]) -> None:
-    """Prints a title with a count, and the items counted."""
     print(f"{len(items)} {title}{':' if items else ''}")
     if items:
         print("\n".join(wrapped("; ".join(items), "    ")))
 
 
 def check() -> int:
-    """Compares docs/PROMISES.md and docs/sources.txt with the contracts and definitions. The status is 1 if a name is
-    missing."""
+    """Compares docs/PROMISES.md and docs/sources.txt with contracts and definitions. A missing name is status 1."""
     modules, sources = Modules(), Sources()
     promises = Promises(modules.root, sources)
     faults = [*DefinitionSources(modules.root).faults(modules), *promises.faults()]
@@ -156,7 +153,6 @@ def print_all() -> int:
 
 
 def ran(asked: argparse.Namespace) -> int:
-    """Runs the command asked for."""
     if asked.promises:
         return print_promises(asked.name)
     if asked.all:

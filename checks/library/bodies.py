@@ -31,8 +31,6 @@ class Edit(NamedTuple):
 
 
 class Body(NamedTuple):
-    """A function with a body."""
-
     file: str
     modules: Tuple[str, ...]
     # its type or trait, if any; in an impl of a trait, that trait

@@ -64,7 +64,6 @@ def crate_list() -> List[Check]:
 
 
 def script_list(types: bool) -> List[Check]:
-    """The checks of edits and scripts with the tools available."""
     files = document_checks.files_of(HERE)
     no_types = script_checks.why_no_types() if types else "--no-types was given"
     no_shellcheck = script_checks.why_not("shellcheck")
@@ -88,7 +87,6 @@ def passes(check: Check) -> bool:
 
 
 def main(arguments: Sequence[str]) -> int:
-    """Runs the command."""
     return printed("check-documents", lambda: ran(arguments))
 
 
@@ -98,8 +96,7 @@ def ran(arguments: Sequence[str]) -> int:
         prog="check-documents", description=WHAT, formatter_class=argparse.RawDescriptionHelpFormatter
     )
     parser.add_argument("--no-types", action="store_true", help="leave out mypy, which takes longer than all the others")
-    asked = parser.parse_args(arguments)
-    checks = document_list() + crate_list() + script_list(not asked.no_types)
+    checks = document_list() + crate_list() + script_list(not parser.parse_args(arguments).no_types)
     skipped = [check for check in checks if check.lacks]
     passed = [passes(check) for check in checks if not check.lacks]
     for check in skipped:

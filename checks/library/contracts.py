@@ -16,8 +16,6 @@ SUBMODULE = re.compile(r"^(?P<public>pub )?mod (?P<name>\w+);", re.MULTILINE)
 
 
 class Clause(NamedTuple):
-    """A clause of a contract."""
-
     # `requires`, `ensures`, or `ghost` for a member of a trait or its impl
     kind: str
     name: str
@@ -25,8 +23,6 @@ class Clause(NamedTuple):
 
 
 class Function(NamedTuple):
-    """A function with its contract."""
-
     crate: str
     # the modules of its file, lowest last
     modules: Tuple[str, ...]
@@ -105,8 +101,6 @@ def name_of_block(rest: str) -> str:
 
 
 class Block(NamedTuple):
-    """A block with functions."""
-
     depth: int
     of: str
     # whether it is a trait or an impl of one
@@ -155,7 +149,6 @@ class SourceFile:
                 yield self._function(place, function, blocks)
 
     def _block(self, place: int, match: "re.Match[str]") -> Block:
-        """The block that begins at a line."""
         is_of_trait = match["kind"] == "trait" or " for " in match["rest"]
         ghosts = tuple(ghosts_in(self.lines, place)) if is_of_trait else ()
         return Block(depth_of(self.lines[place]), name_of_block(match["rest"]), is_of_trait, ghosts)

@@ -7,8 +7,6 @@ HERE = pathlib.Path(__file__).resolve().parent.parent.parent
 
 
 class Crates(NamedTuple):
-    """The contents of crates.txt."""
-
     # the crates of each layer, lowest first, by the layer's first word
     layers: Dict[str, Tuple[str, ...]]
     # the crates of the repository and libraries of the toolchain that each crate lists
@@ -33,11 +31,6 @@ class Crates(NamedTuple):
         return frozenset(found)
 
 
-def layer_named(line: str) -> str:
-    """The layer named by a comment line: its first word, before any sign."""
-    return line[1:].replace(",", ":").split(":")[0].strip()
-
-
 def lines_of(root: pathlib.Path) -> Iterator[str]:
     """The nonempty lines of crates.txt, without the sentence at its top."""
     for place, line in enumerate((root / "crates.txt").read_text(encoding="utf-8").split("\n")):
@@ -51,7 +44,7 @@ def read_crates(root: pathlib.Path = HERE) -> Crates:
     layer = ""
     for line in lines_of(root):
         if line.startswith("#"):
-            layer = layer_named(line)
+            layer = line[1:].replace(",", ":").split(":")[0].strip()
             continue
         crate, _, names = line.partition(":")
         layers.setdefault(layer, []).append(crate.strip())

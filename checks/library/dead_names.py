@@ -154,7 +154,6 @@ def texts_of(module: Module) -> Iterator[Tuple[Definition, str]]:
 
 
 def place_of(one: Definition) -> str:
-    """The place and name of a declaration."""
     return f"{one.file.relative_to(HERE)}:{one.line}: {name_of(one)}"
 
 
@@ -169,7 +168,6 @@ def lines_of(one: Definition) -> int:
 
 
 def main(arguments: Sequence[str]) -> int:
-    """Runs the command."""
     return printed("dead-names", lambda: ran(arguments))
 
 

@@ -77,8 +77,7 @@ def equations_of(one: Definition) -> str:
 
 
 def goes_with(one: Definition, group: List[Definition]) -> bool:
-    """Whether a definition shares the row of those before it: its comment adds little, or neither they nor it have a
-    text here."""
+    """Whether a definition shares the row of those before it: it adds little, or none of them has a text here."""
     is_silent = not one.comment and not equations_of(one)
     return says_little(one) or is_silent and bool(group) and not group[-1].comment and not equations_of(group[-1])
 
@@ -134,7 +133,6 @@ class Page:
     """The page of definitions, by layers, crates and modules."""
 
     def __init__(self, modules: Modules, sources: Sources, resting: Resting) -> None:
-        """Reads the sources of the lists."""
         self.modules = modules
         self.tags = DefinitionSources(modules.root)
         self.chosen = chosen_of(modules, sources, resting)
@@ -149,9 +147,7 @@ class Page:
             yield from ("", f"## {layer}", *parts) if parts else ()
 
     def counts(self) -> str:
-        """The sentence with the counts."""
-        crates = self.modules.crates.order()
-        every = sum(len(self.modules.definitions_of(crate)) for crate in crates)
+        every = sum(len(self.modules.definitions_of(crate)) for crate in self.modules.crates.order())
         few = f"{len(self.chosen.definitions):,} of the {every:,} definitions"
         return f"The lists have {few}. In bold are the {len(self.chosen.marked)} that the headline rests on."
 

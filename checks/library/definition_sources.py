@@ -30,8 +30,6 @@ def tags_of(text: str) -> Iterator[Tag]:
 
 
 class DefinitionSources:
-    """The sources of definitions."""
-
     def __init__(self, root: pathlib.Path) -> None:
         """Reads the list."""
         self.file = root / "docs" / "sources.txt"

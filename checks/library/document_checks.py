@@ -126,10 +126,8 @@ def path_faults(documents: Documents) -> Iterator[str]:
     """Paths that don't exist."""
     tops = {one.name for one in documents.root.iterdir()} | {"src", "specs", "proofs", "must-fail"}
     for line in documents.lines:
-        text = re.sub(r"https?://\S+|www\.\S+", " ", line.text)
-        for path in PATH.findall(text):
-            first = path.split("/")[0]
-            is_path = first in tops if "/" in path else True
+        for path in PATH.findall(re.sub(r"https?://\S+|www\.\S+", " ", line.text)):
+            is_path = path.split("/")[0] in tops if "/" in path else True
             if is_path and not is_there(documents, line, path.rstrip(".")):
                 yield f"{line.place(documents.root)}: there is no {path}"
 

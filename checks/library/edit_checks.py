@@ -29,7 +29,6 @@ def faults_of_edit(edit: str, crate: pathlib.Path) -> Iterator[str]:
 
 
 def mutant_faults(crate: pathlib.Path) -> Iterator[str]:
-    """The faults of a crate's mutants, by their lines."""
     sections = sections_of(crate)
     yield from faults_of_form(sections)
     for one in sections:

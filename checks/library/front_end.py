@@ -65,7 +65,6 @@ def reading_of(root: pathlib.Path, codes: Mapping[str, Code], rounds: Dict[str, 
 
 
 def write(root: pathlib.Path, crate: str, texts: Mapping[str, str]) -> None:
-    """Writes texts of a crate's files."""
     for name, text in texts.items():
         (root / "crates" / crate / name).write_text(text, encoding="utf-8")
 
@@ -83,5 +82,4 @@ def faults_in(one: Round, crate: str, said: List[str]) -> Dict[str, str]:
 
 
 def without(code: Code, one: Round, faults: Mapping[str, str]) -> Round:
-    """A round without these mutants."""
     return round_of(code, {body: edit for body, edit in one.edits.items() if edit.name not in faults})

@@ -43,8 +43,7 @@ class JointChecks:
         self.kept = root.parent / "kept"
 
     def begins(self) -> bool:
-        """Whether the crate is proved as it is, over the libraries at home or, if these are unusable, over those of the
-        copy."""
+        """Whether the crate is proved as it is, over the libraries at home or else over those of the copy."""
         if not (self.folder / "src" / "lib.rt").is_file():
             return False
         return (self.serves() or self.is_made()) and self.is_sound()
@@ -81,8 +80,7 @@ class JointChecks:
         return status == 0 and bool(said) and said[-1].startswith(PROVED)
 
     def check(self, texts: Mapping[str, str], is_from_nothing: bool = False) -> Tuple[int, List[str]]:
-        """The status and output of a check of the crate with these texts, with the results of earlier checks or from
-        nothing."""
+        """The status and output of a check of the crate with these texts, with earlier results or from nothing."""
         shutil.rmtree(self.room, ignore_errors=True)
         for part in PARTS:
             if (self.folder / part).is_dir():
@@ -95,8 +93,7 @@ class JointChecks:
         return status, whole(said)
 
     def words(self, crates: Crates) -> List[str]:
-        """The command that checks the crate, with the toolchain's libraries that it lists, its own, and those of all
-        crates below."""
+        """The command that checks the crate: with libraries of the toolchain, its own, and those of crates below."""
         kit = self.tools.kit
         own = [one for one in crates.listed[self.crate] if one in crates.listed]
         of_kit = ["std"] + [one for one in crates.listed[self.crate] if one not in crates.listed]

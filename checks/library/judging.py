@@ -33,8 +33,7 @@ class BadEdit(Exception):
 
 
 def verdict_on(edit: str, checks: JointChecks, is_from_nothing: bool) -> str:
-    """The verdict on an edit of a crate. One that isn't refused with the results of earlier checks is also tried from
-    nothing."""
+    """The verdict on an edit of a crate, from nothing too if it isn't refused with earlier results."""
     try:
         texts = texts_with(edit, checks.folder)
     except (BadEdit, OSError, UnicodeDecodeError) as fault:

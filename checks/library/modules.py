@@ -20,8 +20,6 @@ GENERATED = ("declared", "contracts", "sources", "impls", "model", "models")
 
 
 class Import(NamedTuple):
-    """One import."""
-
     path: Tuple[str, ...]
     # each name by its local name; None if the whole module is imported
     names: Optional[Dict[str, str]]
@@ -85,7 +83,6 @@ def declared_in(line: str) -> Optional[str]:
 
 
 def constructors_of(text: Tuple[str, ...]) -> Iterator[str]:
-    """The constructors of a declaration of data."""
     if not re.match(r"^\s*(?:pub )?data ", text[0]):
         return
     depth = min((depth_of(line) for line in text[1:] if line.strip()), default=0)
@@ -129,7 +126,7 @@ class Module:
         while self._blocks and depth_of(line) <= self._blocks[-1][0]:
             self._end()
             self._blocks.pop()
-        if self._name and depth_of(line) > self._depth():
+        if self._name and depth_of(line) > depth_of(self._text[0]):
             self._text.append(line)
         elif bare.startswith("-- ----"):
             self._comment = []
@@ -165,12 +162,7 @@ class Module:
         if self._text:
             self._text.append("")
 
-    def _depth(self) -> int:
-        """The indentation of the current declaration."""
-        return depth_of(self._text[0])
-
     def _end(self) -> None:
-        """Ends the current declaration."""
         if not self._name:
             return
         while self._text and not self._text[-1].strip():
@@ -184,8 +176,6 @@ class Module:
 
 
 class Modules:
-    """The modules of all crates."""
-
     def __init__(self, root: pathlib.Path = HERE) -> None:
         """Reads nothing until asked."""
         self.root = root
@@ -222,7 +212,6 @@ class Modules:
         return self._read[file]
 
     def all_of(self, crate: str) -> List[Module]:
-        """All modules of a crate's specs/."""
         folder = self.root / "crates" / crate / "specs"
         found = []
         for file in sorted(folder.glob("**/*.antt")):

@@ -30,7 +30,6 @@ class Section(NamedTuple):
 
 
 def sections_in(text: str) -> Iterator[Section]:
-    """The sections of a file, in order."""
     section = Section(1, "", [])
     for number, line in enumerate(text.split("\n"), 1):
         if line.startswith(BEGINS):

@@ -82,7 +82,6 @@ def items_of(text: str) -> Iterator[Item]:
 
 
 def promises_of(text: str) -> Iterator[Promise]:
-    """The promises of the section by crates."""
     above: Tuple[Cited, ...] = ()
     for one in items_of(text):
         says, _, carriers = one.text.rpartition(CARRIED)
@@ -109,7 +108,6 @@ def place_of(one: Function) -> Tuple[str, int]:
 
 
 def faults_of_cited(one: Cited, crate: str, sources: Sources) -> Iterator[str]:
-    """The faults of a name and its clauses."""
     found = functions_of(one, crate, sources)
     is_function = not one.name.split("::")[-1][0].isupper() and not re.fullmatch(r"dac_\w+", one.name)
     if not found and is_function:
@@ -129,8 +127,6 @@ def faults_of_clauses(text: str, sources: Sources) -> Iterator[str]:
 
 
 class Promises:
-    """The promises of the document."""
-
     def __init__(self, root: pathlib.Path, sources: Sources) -> None:
         """Reads the document."""
         self.text = (root / "docs" / "PROMISES.md").read_text(encoding="utf-8")

@@ -120,7 +120,6 @@ class Resting:
         self._cited: Dict[Definition, Tuple[Word, ...]] = {}
 
     def cited_by(self, one: Definition) -> Tuple[Word, ...]:
-        """The definitions that a definition cites."""
         if one not in self._cited:
             module = self.modules.of_file(one.crate, one.module, one.file)
             assert module is not None
@@ -139,7 +138,6 @@ class Resting:
         yield from Scope(self.modules, module.imports, module).library_words(text, bound_in(text) | patterns_in(one.name, text))
 
     def cited_by_function(self, function: Function, clause: str = "") -> List[Word]:
-        """The definitions cited by a function's clauses, or by the clause of this name."""
         found: Dict[Word, None] = {}
         scope = Scope(self.modules, function.imports, None)
         for one in function.clauses:

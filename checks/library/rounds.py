@@ -57,8 +57,7 @@ def round_of(code: Code, edits: Mapping[Body, Edit]) -> Round:
 
 
 def is_added(one: Round, code: Code, body: Body, edit: Edit) -> bool:
-    """Adds an edit to a round without one of its function, if with the others it still applies and changes only this
-    function."""
+    """Adds an edit to a round without one of its function, if it still applies and changes only this function."""
     before = one.texts.get(body.file, code.texts[body.file])
     after = applied(edit, before)
     if body in one.edits or after is None or after.count("\n") != before.count("\n"):
@@ -107,7 +106,6 @@ def refused_in(one: Round, crate: str, lines: Sequence[str]) -> Optional[Dict[st
 
 
 def is_refusal(match: "re.Match[str]") -> bool:
-    """Whether a line is a refusal."""
     return match["said"].startswith(GOAL if match["note"] else "error")
 
 

@@ -101,7 +101,6 @@ def faults_of_types(status: int, said: str) -> Iterator[str]:
 
 
 def is_here(tool: str) -> bool:
-    """Whether this machine has a tool."""
     return shutil.which(tool) is not None
 
 

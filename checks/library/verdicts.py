@@ -44,7 +44,6 @@ class Record:
         self.root, self.toolchain = root, toolchain
 
     def mutants(self, crate: str) -> Dict[str, str]:
-        """The texts of a crate's mutants, by name."""
         return mutants_in(self.root / "crates" / crate)
 
     def file(self, crate: str) -> pathlib.Path:
@@ -52,7 +51,6 @@ class Record:
         return self.root / FOLDER / f"{crate}.tsv"
 
     def rows(self, crate: str) -> Dict[str, Row]:
-        """The rows of a crate, by mutant."""
         file = self.file(crate)
         lines = file.read_text(encoding="utf-8").splitlines() if file.exists() else []
         cells = [line.split("\t") for line in lines]
@@ -70,8 +68,7 @@ class Record:
         return min((rows[name].at if name in rows else "" for name in self.mutants(crate) if name not in known), default="")
 
     def add(self, crate: str, copy: pathlib.Path, mutants: Mapping[str, str], found: Mapping[str, str]) -> None:
-        """Adds verdicts on mutants tried as these texts in a copy of the repository. Rows of missing mutants are
-        removed."""
+        """Adds verdicts on mutants tried as these texts in a copy, and removes rows of missing mutants."""
         of_copy = checksums(copy, crate, self.toolchain, {name: mutants[name] for name in found})
         now = f"{datetime.datetime.now():%Y-%m-%dT%H:%M:%S}"
         rows = {**self.rows(crate), **{name: Row(of_copy[name], verdict.strip(), now) for name, verdict in found.items()}}

@@ -48,8 +48,6 @@ def parts_of(block: List[str]) -> Iterator[str]:
 
 
 class Views:
-    """The views of all crates."""
-
     def __init__(self, resting: Resting) -> None:
         """Reads the sources."""
         self.resting = resting

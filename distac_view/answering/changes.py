@@ -16,7 +16,7 @@ from distac_view.asking.running_now import Placed, placed_by
 from distac_view.common.names import Short, node_meant, short_names
 from distac_view.common.problems import Problem
 from distac_view.reading.configuration import Checked, Configuration
-from distac_view.reading.sums import Sum, changed_since
+from distac_view.reading.sums import Sum, mark_now
 
 
 @dataclass(frozen=True)
@@ -37,8 +37,7 @@ class Answer:
 
 @dataclass(frozen=True)
 class Change:
-    """An answer that another configuration changes: its application, and the nodes that are down. Without any it is
-    about now."""
+    """An answer that another configuration changes: its application and the nodes that are down, if any."""
 
     app: str
     down: list[str]
@@ -64,7 +63,7 @@ class Changes:
     @cached_property
     def stale(self) -> list[Sum]:
         """The files that changed since the new configuration was gathered from them."""
-        return changed_since(self.new.configuration.sums)
+        return [each for each in self.new.configuration.sums if mark_now(each.file) not in (None, each.mark)]
 
     @property
     def apps(self) -> tuple[list[str], list[str]]:
@@ -105,7 +104,6 @@ def differences(old: list[str], new: list[str]) -> tuple[list[str], list[str]]:
 
 
 def changes_by(distac: Distac, question: Question, path: str) -> Changes:
-    """The changes by a new configuration."""
     if question.after:
         raise Problem("--then can't stand beside --after: a script has one configuration; --now says where applications run")
     old, new = load_config(distac, question.config), load_config(distac, path)
@@ -135,8 +133,7 @@ def fitting(question: Question, old: Configuration, new: Configuration) -> Quest
 
 
 def placed_in_both(placed: Placed, old: Configuration, new: Configuration) -> Placed:
-    """The present places, as far as the new configuration allows them. Applications that it must place again are
-    started everywhere."""
+    """The present places that the new configuration allows. Other applications are started everywhere."""
     lists = {each.name: each.nodes for each in new.applications}
     places = {app: node for app, node in placed.places.items() if node in lists.get(app, [])}
     fresh = [name for name in new.names if name not in places and (name not in old.names or name in placed.places)]

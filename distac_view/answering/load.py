@@ -68,8 +68,7 @@ class Load:
 
 def load_of(distac: Distac, question: Question, has_pairs: bool) -> Load:
     """The answer for a configuration, by default with all nodes up and everything started."""
-    checked = load_config(distac, question.config)
-    side = sides_of(distac, checked, question, [])[0]
+    side = sides_of(distac, load_config(distac, question.config), question, [])[0]
     return load_on(distac, side, has_pairs)
 
 
@@ -95,7 +94,6 @@ def hanging(side: Side, *courses: Course) -> list[str]:
 
 
 def row_by(down: list[str], side: Side, held: dict[str, Held], may_hang: list[str]) -> Row:
-    """The row of applications with these holders."""
     places = {name: each.runs_at for name, each in held.items() if each.runs_at is not None}
     counts = {node: list(places.values()).count(node) for node in side.nodes if node not in down}
     ran = [name for name, each in side.page.held.items() if each.runs_at is not None]

@@ -1,7 +1,5 @@
 """Notes below an answer, and reasons for its failure."""
 
-from __future__ import annotations
-
 from dataclasses import dataclass
 
 

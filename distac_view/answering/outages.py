@@ -26,8 +26,7 @@ def notice_range(tick_time: int) -> tuple[int, int]:
 
 
 def longest_outage(wait: int, tick_time: int, takes: int | None = None) -> int:
-    """An application's longest outage in milliseconds: its wait, after a dead host is noticed. Once its node is back
-    with all started, it is over."""
+    """An application's longest outage: its wait after a dead host is noticed, or until its node is back."""
     noticed = wait + notice_range(tick_time)[1]
     return noticed if takes is None else min(noticed, takes)
 
@@ -38,5 +37,4 @@ def outage_of(wait: int, tick_time: int, takes: int | None = None) -> str:
 
 
 def seconds_of(milliseconds: int) -> str:
-    """Milliseconds as seconds."""
     return f"{milliseconds / 1000:.3f}".rstrip("0").rstrip(".")

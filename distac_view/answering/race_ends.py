@@ -144,7 +144,6 @@ class Reply:
         return {place for own in lines for place, _ in own - common}
 
     def differing(self, end: End) -> List[PageLine]:
-        """The lines of an end that differ between ends."""
         return self.lines_at(end, self.places)
 
     def common(self) -> List[PageLine]:
@@ -163,13 +162,11 @@ class Reply:
 
 
 def placed(pages: Pages) -> "Dict[LinePlace, str]":
-    """Each line of some pages, by its place."""
     return {(page, at): line for page, lines in enumerate(pages) for at, line in enumerate(lines)}
 
 
 def reply_of(distac: Distac, search: Search) -> Reply:
-    """Plays the schedules until Ctrl-C, shrinks the shortest run of each end until another one, and has the program play the
-    scripts."""
+    """Plays schedules until Ctrl-C, shrinks the shortest run of each end until another, and plays the scripts."""
     with Stop() as stop:
         found, played = searched(distac, search, stop)
     with Stop() as shrinking:

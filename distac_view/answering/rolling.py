@@ -62,7 +62,6 @@ class Step:
 
     @property
     def moves(self) -> int:
-        """The number of its moves."""
         return len(self.drained) + len(self.down) + len(self.back)
 
     @property
@@ -265,8 +264,7 @@ def drain(distac: Distac, cluster: Cluster, node: str) -> list[Claimed]:
 
 
 def moves_of(page: Page, claims: list[Claimed], earlier: Page | None = None) -> list[Move]:
-    """Claims as moves from each application's node, on the page before them, or on an earlier one if it ran nowhere
-    then."""
+    """Claims as moves from each application's node on the page before, or on an earlier one if it ran nowhere."""
     found = []
     for claim in claims:
         source = runs_at(page, claim.app) or (runs_at(earlier, claim.app) if earlier else None)
@@ -275,6 +273,5 @@ def moves_of(page: Page, claims: list[Claimed], earlier: Page | None = None) -> 
 
 
 def runs_at(page: Page, app: str) -> str | None:
-    """The node that runs an application, on a page."""
     held = page.held.get(app)
     return held.runs_at if held else None

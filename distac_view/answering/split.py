@@ -35,8 +35,7 @@ class Part:
 
 @dataclass(frozen=True)
 class Healed:
-    """An application after a split: the places of its copies, the greatest claim, and its place once all nodes have
-    booted."""
+    """An application after a split: where its copies are, the greatest claim, and its place after all boots."""
 
     app: str
     copies: list[str]
@@ -63,7 +62,6 @@ class SplitReply:
 
 
 def split_reply(distac: Distac, question: Question) -> SplitReply:
-    """The answer to a question on a split."""
     checked = load_config(distac, question.config)
     groups = groups_of(question.split, checked.configuration)
     side = sides_of(distac, checked, question, known_nodes(question.not_started, checked.configuration))[0]
@@ -73,8 +71,7 @@ def split_reply(distac: Distac, question: Question) -> SplitReply:
         up = [node for node in group if node in side.nodes]
         if up:
             parts.append(Part(up, case_of(side, course_of_part(distac, whole, up))))
-    held = held_when_healed(distac, whole)
-    healed = healed_by(distac, checked, side, parts, held)
+    healed = healed_by(distac, checked, side, parts, held_when_healed(distac, whole))
     return SplitReply(checked.configuration, question, side, [with_back(part, healed) for part in parts], healed, tick_time_of(checked.text))
 
 
@@ -109,8 +106,7 @@ def course_of_part(distac: Distac, whole: Cluster, group: list[str]) -> Course:
 
 
 def held_when_healed(distac: Distac, whole: Cluster) -> dict[str, Held]:
-    """The holder of each application once all nodes hear each other again. A second share spreads the news of the first
-    one."""
+    """The holder of each application once all hear each other. A second share spreads the news of the first."""
     whole.story.add_uncounted("share", "share")
     page = page_of(whole.story.play(distac, f"page {whole.hub}")[0].answer) if whole.nodes else Page()
     return held_on(page, whole.configuration)

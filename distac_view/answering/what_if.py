@@ -74,7 +74,6 @@ class Fate:
 
     @property
     def stays(self) -> bool:
-        """Whether it stays in one place."""
         return self.how in ("stays", "nobody") and self.now == self.then == self.back
 
     @property
@@ -137,12 +136,10 @@ class Reply:
 
     @property
     def cases(self) -> list[Case]:
-        """The cases of all sides."""
         return [case for answers in self.sides for case in answers.cases]
 
 
 def reply_to(distac: Distac, question: Question) -> Reply:
-    """The answer to a question."""
     return reply_on(distac, load_config(distac, question.config), question)
 
 
@@ -162,12 +159,11 @@ def reply_on(distac: Distac, checked: Checked, question: Question) -> Reply:
         groups = [[node for node in down if node in side.members]] if down else [[node] for node in side.members]
         returns = [(group, [node for node in group if node in back or not back]) for group in groups if group]
         losses = [Loss(group, returning, not_started, question.takes) for group, returning in returns]
-        found.append(Answers(side, cases_of(distac, side, losses, failing)))
+        found.append(Answers(side, [case_of(side, course) for course in courses_of(distac, side, losses, failing)]))
     return Reply(checked.configuration, question, found, tick_time_of(checked.text), failing)
 
 
 def sides_of(distac: Distac, checked: Checked, question: Question, not_started: list[str]) -> list[Side]:
-    """The sides at the beginning of the question."""
     if question.now:
         if question.after or not_started:
             raise Problem("--now can't stand beside --after or --not-started: it says itself what runs where")
@@ -196,7 +192,6 @@ def courses_of(distac: Distac, side: Side, losses: list[Loss], failing: Sequence
     distac.cases += len(losses)
 
     def played(number: int) -> Course:
-        """The course of a case."""
         if failing:
             return failing_course(distac, side.cluster, losses[number], list(failing))
         return course_of(distac, side.cluster, losses[number], pages[number])
@@ -207,13 +202,7 @@ def courses_of(distac: Distac, side: Side, losses: list[Loss], failing: Sequence
             yield course
 
 
-def cases_of(distac: Distac, side: Side, losses: list[Loss], failing: Sequence[Failing] = ()) -> list[Case]:
-    """The course of each application in some cases."""
-    return [case_of(side, course) for course in courses_of(distac, side, losses, failing)]
-
-
 def case_of(side: Side, course: Course) -> Case:
-    """The course of each application in a case."""
     now, at_once, then, back = (held_on(page, side.cluster.configuration) for page in (side.page, course.at_once, course.then, course.back))
     claims = {each.app: each.milliseconds for each in course.claims}
     fates = [fate_of(now[name], at_once[name], then[name], back[name], claims.get(name), name in course.waiting) for name in now]
@@ -225,8 +214,7 @@ def case_of(side: Side, course: Course) -> Case:
 
 
 def with_failure(fate: Fate, failed: list[Failed]) -> Fate:
-    """The course of an application with its first start that failed, if one did, or with the end of its node by
-    another one."""
+    """The course of an application with its first start that failed, or with the end of its node by another."""
     own = next((each for each in failed if each.failing.app == fate.app), None)
     if own is not None:
         return replace(fate, failed=own, milliseconds=fate.milliseconds if own.is_back else own.milliseconds)

@@ -141,8 +141,7 @@ def quick_course(distac: Distac, settled: Cluster, loss: Loss, at_once: Page, is
     cluster.story.play(distac)
     then, back = (page_of(cluster.story.answers[place].answer) for place in (then_at, back_at))
     held_up = any(one.first in (GAVE_UP, HELD_BACK) for one in cluster.story.answers[start:])
-    timeouts = cluster.configuration.timeouts
-    is_left = all(loss.leaves(held, timeouts) for held in then.held.values())
+    is_left = all(loss.leaves(held, cluster.configuration.timeouts) for held in then.held.values())
     if held_up or not draft.is_whole() or not is_left or not back.is_at_rest:
         return None
     claims = claims_in(cluster, start, then_at)
@@ -169,8 +168,7 @@ def careful_course(distac: Distac, settled: Cluster, loss: Loss) -> Course:
 
 
 def wait_out(distac: Distac, cluster: Cluster, at_once: Page, loss: Loss) -> None:
-    """The remaining nodes tick at once, and at each moment at which an application's wait ends before nodes are
-    back."""
+    """The remaining nodes tick at once, and whenever a wait ends before nodes are back."""
     begin, waits = cluster.story.now, [wait for wait in waits_of(cluster, at_once) if loss.outlasts(wait)]
     for moment in [begin, *(begin + wait for wait in sorted(waits))]:
         cluster.story.now = moment
@@ -213,6 +211,5 @@ def is_claim(one: Answered, line: str) -> bool:
 
 
 def claimed(one: Answered, line: str, milliseconds: int) -> Claimed:
-    """The claim in a line."""
     found = CLAIM.match(line)
     return Claimed(found["app"], one.actor, found["how"].split(" ")[0], milliseconds) if found else Claimed("", one.actor, "", milliseconds)

@@ -55,12 +55,10 @@ class Cluster:
 
     @property
     def configuration(self) -> Configuration:
-        """The configuration of all nodes."""
         return self.story.configuration
 
     def boot(self, nodes: list[str], not_started: Iterable[str]) -> None:
-        """Nodes come up, start everything that they may run, except at some nodes, and tell the hub, which was up
-        before."""
+        """Nodes come up, start all that they may run, except at some nodes, and tell the hub, which was up before."""
         first = self.nodes[0] if self.nodes else nodes[0]
         for node in nodes:
             self.story.command(f"boot {node} {self.story.now}")
@@ -103,7 +101,6 @@ class Cluster:
         self.is_untold = False
 
     def tick(self, nodes: Iterable[str]) -> None:
-        """Nodes tick."""
         self.story.add(*(f"tick {node} {self.story.now}" for node in nodes))
 
     def page(self, distac: Distac) -> Page:
@@ -128,8 +125,7 @@ def longest_wait(configuration: Configuration) -> int:
 
 
 def take_round(distac: Distac, cluster: Cluster) -> bool:
-    """All nodes hear the news and tick. The hub hears of all claims, and of nodes that gave up. Returns whether there
-    were any of either."""
+    """All nodes hear the news and tick. Returns whether there were claims, or nodes that gave up."""
     cluster.tell_all()
     story, start = cluster.story, len(cluster.story.lines)
     cluster.tick(cluster.nodes)

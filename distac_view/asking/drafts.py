@@ -38,8 +38,7 @@ class Draft:
             self.write_round(nodes, True, len(self.cluster.configuration.applications))
 
     def write_round(self, nodes: list[str], is_new: bool, most: int) -> None:
-        """Some nodes hear the news, if there are any, and tick. The hub is handed each operation that may have been
-        issued."""
+        """Some nodes hear any news and tick. The hub is handed each operation that may have been issued."""
         story = self.cluster.story
         if is_new:
             self.cluster.tell(nodes)
@@ -69,8 +68,7 @@ def named_on(cluster: Cluster, page: Page) -> list[str]:
 
 
 def takers_of(cluster: Cluster, page: Page, *returning: str) -> list[str]:
-    """The nodes that may claim anything: by the marks of pending applications, and if nodes come back, by their
-    lists."""
+    """The nodes that may claim something, by marks of pending applications and by the lists of nodes that return."""
     found = set(returning)
     for held in page.held.values():
         if held.is_pending:

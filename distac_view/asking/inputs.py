@@ -46,7 +46,6 @@ def load_config(distac: Distac, path: str) -> Checked:
 
 
 def check_config(distac: Distac, path: str, text: bytes) -> Checked:
-    """The configuration in a text."""
     answer = distac.check(text)
     if answer.is_fault:
         raise Faulty(path, remark_on_answer(answer, text))
@@ -63,7 +62,6 @@ def remark_on_answer(answer: Answer, source: bytes) -> Remark:
 
 
 def load_script(distac: Distac, path: str) -> Loaded:
-    """The script in a file."""
     source = read_bytes(path, MOST_INPUT)
     script = script_of(source) if len(source) <= MOST_INPUT else None
     if script is None:
@@ -77,7 +75,6 @@ def checked_lines(distac: Distac, path: str, script: Script, configuration: Conf
     """The lines of a script with each `tell` written out, or the first fault of any line."""
 
     def first_answers(lines: list[Line]) -> list[str]:
-        """The first output line of each line's answer."""
         return [each.first for each in play_lines(distac, path, script, lines, configuration)]
 
     if not script.has_tells:
@@ -92,7 +89,6 @@ def checked_lines(distac: Distac, path: str, script: Script, configuration: Conf
 
 
 def play_lines(distac: Distac, path: str, script: Script, lines: list[Line], configuration: Configuration) -> list[Answered]:
-    """Some lines of a script with their answers, or the first fault of any."""
     source = plain_of(script, lines)
     if len(source) > MOST_INPUT and source is not script.source:
         raise Problem("with what is added to its lines the script has more than 2,097,152 bytes: play it in parts")
@@ -103,7 +99,6 @@ def play_lines(distac: Distac, path: str, script: Script, lines: list[Line], con
 
 
 def remark_on_fault(answer: Answer, source: bytes, lines: list[Line], configuration: Configuration) -> Remark:
-    """The remark on a fault of an input with script lines."""
     fault = fault_of(answer.lines[0])
     if fault.part is not Part.SCRIPT:
         return remark_on_answer(answer, source)

@@ -33,7 +33,6 @@ def seen_lines(distac: Distac, loaded: Loaded, first: int, last: int) -> Iterato
 
 
 def asked_after(line: Line, nodes: list[str]) -> list[str]:
-    """The nodes whose pages are printed after a line."""
     if not line.is_event:
         return []
     if line.verb == "share":
@@ -72,6 +71,5 @@ def seen_part(distac: Distac, loaded: Loaded, first: int, end: int) -> Iterator[
     each = play_lines(distac, loaded.path, loaded.script, lines, loaded.configuration)
     place = first
     for count in counts:
-        pages = {one.actor: page_of(one.answer) for one in each[place + 1 : place + 1 + count]}
-        yield Seen(each[place], pages)
+        yield Seen(each[place], {one.actor: page_of(one.answer) for one in each[place + 1 : place + 1 + count]})
         place += 1 + count

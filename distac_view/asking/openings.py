@@ -57,12 +57,7 @@ def new_story(checked: Checked) -> Story:
     for name in (*configuration.nodes, *configuration.names):
         if " " in name:
             raise Problem(f"the name {shown(name)} has a space, and no script can name it: it can't be played")
-    return Story(playable(checked), configuration)
-
-
-def playable(checked: Checked) -> bytes:
-    """The configuration at the beginning of a script: its own text, unless one of its lines would end it."""
-    return checked.text if separator_in(checked.text) is None else bytes_of(checked.canonical + "\n")
+    return Story(checked.text if separator_in(checked.text) is None else bytes_of(checked.canonical + "\n"), configuration)
 
 
 def opened(distac: Distac, checked: Checked, not_started: list[str]) -> Side:
@@ -82,8 +77,7 @@ def opened(distac: Distac, checked: Checked, not_started: list[str]) -> Side:
 
 
 def batches_of(applications: list[Application]) -> list[list[Application]]:
-    """Applications in the order of the file, each that chooses a node by its load behind those that are started
-    before."""
+    """Applications in file order, each that chooses a node by load after those that are started before."""
     batches: list[list[Application]] = []
     for each in applications:
         if not batches or any(len(group) > 1 for group in each.groups):
@@ -93,8 +87,7 @@ def batches_of(applications: list[Application]) -> list[list[Application]]:
 
 
 def started_unseen(distac: Distac, booted: Cluster, batches: list[list[Application]], not_started: list[str]) -> Cluster | None:
-    """Batches are started one after another in one play, if each is claimed as predicted: at once, by nodes that are
-    told of it."""
+    """Batches are started in one play, if each is claimed as predicted: at once, by nodes that are told of it."""
     cluster, start = booted.copy(), len(booted.story.lines)
     story = cluster.story
     handed: set[int] = set()
@@ -156,8 +149,7 @@ def opened_after(distac: Distac, checked: Checked, path: str) -> list[Side]:
 
 
 def side_of(distac: Distac, cluster: Cluster, group: list[str], others: list[str], pages: dict[str, Page], unsaid: list[str]) -> Side:
-    """A side, from its cluster, the nodes that it began with, those of no side, and the applications without a
-    holder."""
+    """A side: its cluster, the nodes that it began with, those of no side, and applications without a holder."""
     members = [node for node in cluster.configuration.nodes if node in group or node in others]
     said_down = [node for node in others if pages[node].inc is not None]
     return Side(cluster, cluster.page(distac), members, said_down, unsaid)

@@ -49,11 +49,9 @@ class Distac:
         self.unit = "case"
 
     def check(self, config: bytes) -> Answer:
-        """The answer of `distac check` on a configuration."""
         return self.answer("check", config)
 
     def sim(self, source: bytes) -> Answer:
-        """The answer of `distac sim` on a configuration and a script."""
         return self.answer("sim", source)
 
     def play(self, config: bytes, script: list[str]) -> list[str]:
@@ -69,7 +67,6 @@ class Distac:
         return self.asked("sim", source) == (output, 0)
 
     def answer(self, word: str, source: bytes) -> Answer:
-        """The answer of a subcommand."""
         self.is_asked()
         printed, status = self.asked(word, source)
         lines = lines_of(text_of(printed))

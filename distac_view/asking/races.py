@@ -62,7 +62,6 @@ class Race:
 
     @property
     def nodes(self) -> List[str]:
-        """The names of all nodes."""
         return self.checked.configuration.nodes
 
     def runs(self, seed: int) -> Iterator[Kept]:
@@ -92,7 +91,6 @@ class Race:
         return Record(self.config, canonical, self.phases, played).last_within(MOST_INPUT) if len(canonical) <= MOST_CONFIG else 0
 
     def written(self, events: List[Event], comment: str) -> Written:
-        """The script of some events, with a comment at its top."""
         from schedules import replayed
 
         replay = replayed(self.config, events)

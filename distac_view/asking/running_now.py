@@ -48,7 +48,6 @@ def placed_by(words: list[str], configuration: Configuration) -> Placed:
 
 
 def names_a_file(words: list[str]) -> bool:
-    """Whether `--now` names a file."""
     return len(words) == 1 and ("=" not in words[0] or os.path.exists(words[0]))
 
 
@@ -86,7 +85,6 @@ def put(places: dict[str, str], where: str, app_word: str, node_word: str, confi
 
 
 def application_of(name: str, configuration: Configuration) -> Application:
-    """An application by its name."""
     return next(each for each in configuration.applications if each.name == name)
 
 
@@ -104,8 +102,7 @@ def named(what: str, word: str, names: list[str], where: str) -> str:
 
 
 def opened_now(distac: Distac, checked: Checked, placed: Placed) -> Side:
-    """A cluster with applications at their present places. Those that would move at the next ticks haven't moved
-    yet."""
+    """A cluster with applications at their places. Those that would move at the next ticks haven't moved yet."""
     configuration = checked.configuration
     forbidden = forbidden_in(checked)
     idle = [each for each in configuration.applications if each.name not in placed.places and each.name not in placed.fresh]

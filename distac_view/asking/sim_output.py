@@ -19,7 +19,6 @@ class Answered:
 
     @property
     def first(self) -> str:
-        """The first line of the answer."""
         return self.answer[0] if self.answer else ""
 
     @property
@@ -29,7 +28,6 @@ class Answered:
 
 
 def answered(lines: list[Line], output: list[str], configuration: Configuration) -> list[Answered]:
-    """Each line of a script with its answer."""
     page_length = 2 + len(configuration.nodes) + 2 * len(configuration.applications)
     found, place = [], 0
     for line in lines:

@@ -44,7 +44,6 @@ class Held:
 
     @property
     def is_pending(self) -> bool:
-        """Whether an action is pending for it."""
         return self.verdict in PENDING
 
     @property
@@ -53,7 +52,6 @@ class Held:
         return self.runs_at is not None and set(self.nodes_marked("ok")) <= {self.runs_at}
 
     def nodes_marked(self, *marks: str) -> list[str]:
-        """The nodes of its list with one of some marks."""
         return [node for node, mark in marks_in(self.marks) if mark in marks]
 
 
@@ -76,7 +74,6 @@ class Page:
 
 
 def page_of(answer: list[str]) -> Page:
-    """The page in some lines."""
     head = HEAD.match(answer[0])
     if not head:
         return Page()

@@ -28,8 +28,7 @@ class Looked:
 
 
 def check(distac: Distac, words: argparse.Namespace, output: Output) -> Status:
-    """Prints ok, or the canonical text, for each configuration, with warnings on standard error. The worst status is
-    returned."""
+    """Prints ok or the canonical text of each configuration, warns on standard error, and returns the worst status."""
     found, statuses = [], []
     for path in words.files:
         looked = look_at(distac, path)
@@ -52,8 +51,7 @@ def look_at(distac: Distac, path: str) -> Looked:
 
 
 def told(looked: Looked, words: argparse.Namespace, output: Output) -> Status:
-    """Prints the result for a file: its numbers or its canonical text, after its name if there are several files.
-    Returns its status."""
+    """Prints the result for a file, after its name if there are several, and returns its status."""
     if looked.fault is not None:
         say_fault(looked.fault, output, words.json)
         return Status.TROUBLE
@@ -65,6 +63,5 @@ def told(looked: Looked, words: argparse.Namespace, output: Output) -> Status:
 
 
 def file_fields(looked: Looked, words: argparse.Namespace) -> Fields:
-    """The fields of a file."""
     faults = [remark_fields("fault", looked.fault)] if looked.fault is not None else []
     return {"file": looked.path, "configuration": looked.canonical, "remarks": [*faults, *warnings_fields(words, looked.warnings)]}

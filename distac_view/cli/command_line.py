@@ -39,7 +39,7 @@ def play(distac: Distac, words: argparse.Namespace, output: Output) -> Status:
         output.raw(loaded.plain)
         return Status.FINE
     each = answers_in(distac, loaded, words.page)
-    for row in rows_of(each, words.explain or output.is_terminal):
+    for row in rows_of(each, words.explain or output.stream.isatty()):
         output.line(row)
     output.flush()
     remarks = [*unknown_names(each, loaded.configuration), *too_wide(each)]
@@ -79,7 +79,6 @@ Subcommand = Callable[[Distac, argparse.Namespace, Output], Status]
 
 
 def parser_of_words() -> Parser:
-    """The parser of the command line."""
     description = "For people around distac: where a fault is, what a script did, and what happens if a node goes down."
     parser = Parser("distac-view", description=description, epilog=epilog_of(""), formatter_class=Formatter)
     nowhere = argparse.SUPPRESS
@@ -108,7 +107,6 @@ def add_program(parser: Parser, default: str | None) -> None:
 
 
 def check_words(parser: argparse.ArgumentParser) -> None:
-    """The words of `check`."""
     parser.add_argument("files", metavar="FILE", nargs="+", help="a configuration, as erl -config takes it")
     add_strict(parser)
     add_json(parser)
@@ -116,7 +114,6 @@ def check_words(parser: argparse.ArgumentParser) -> None:
 
 
 def play_words(parser: argparse.ArgumentParser) -> None:
-    """The words of `play`."""
     parser.add_argument("script", metavar="SCRIPT", help="a configuration, a line --, and the lines of a script")
     parser.add_argument("--page", action="store_true", help="show what the nodes know behind each share and each tell")
     parser.add_argument("--explain", action="store_true", help="say why a line is refused, as is done on a terminal")
@@ -125,7 +122,6 @@ def play_words(parser: argparse.ArgumentParser) -> None:
 
 
 def timeline_words(parser: argparse.ArgumentParser) -> None:
-    """The words of `timeline`."""
     parser.add_argument("script", metavar="SCRIPT", help="a configuration, a line --, and the lines of a script")
     parser.add_argument("-o", "--output", metavar="FILE.html", required=True, help="the page that is written")
     parser.add_argument("--from", dest="first", metavar="LINE", type=count_from_one, default=1, help="the first line that is drawn")
@@ -133,7 +129,6 @@ def timeline_words(parser: argparse.ArgumentParser) -> None:
 
 
 def gather_words(parser: argparse.ArgumentParser) -> None:
-    """The words of `gather`."""
     parser.set_defaults(version=VERSION)
     about_files = "a node and its files, in the order of erl -config: configurations, vm.args, and NAME.env with variables; - is standard input"
     parser.add_argument("nodes", metavar="NODE=FILE[,FILE..]", nargs="*", help=about_files)

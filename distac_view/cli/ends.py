@@ -1,7 +1,5 @@
 """`ends`: the final pages that a live script can have, with a script that leads to each."""
 
-from __future__ import annotations
-
 import argparse
 import os
 
@@ -69,14 +67,12 @@ def keep(reply: Reply, folder: str) -> None:
 
 
 def seed(word: str) -> int:
-    """A seed from the command line."""
     if not fits(Role.NUMBER, word):
         raise argparse.ArgumentTypeError(f"a seed is a number in decimal digits, and not {shown(word)}")
     return int(word)
 
 
 def add_ends(parser: argparse.ArgumentParser) -> None:
-    """The words of `ends`."""
     parser.add_argument("file", metavar="FILE.live", help="a configuration, a line --, and the lines of a live script")
     about = f"how many schedules are played, {SCHEDULES} if absent"
     parser.add_argument("--schedules", metavar="N", type=count_from_one, default=SCHEDULES, help=about)

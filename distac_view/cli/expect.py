@@ -4,8 +4,6 @@ NAME.question contains a command line in shell syntax, and NAME.answer its resul
 paths don't depend on the folder's place.
 """
 
-from __future__ import annotations
-
 import argparse
 import io
 import os
@@ -35,8 +33,7 @@ ERRORS = "standard error:"
 
 @dataclass(frozen=True)
 class Stored:
-    """A question by its name: its words, the stored answer, and the present answer with its status. Either answer can
-    be missing."""
+    """A question: its name, words, stored answer, and present answer with its status. An answer can be missing."""
 
     name: str
     words: "list[str]"
@@ -57,7 +54,6 @@ class Stored:
         return self.status == Status.TROUBLE and self.verdict != "same"
 
     def lines(self) -> Iterator[str]:
-        """The differences, as lines."""
         if self.verdict == "same":
             return
         yield f"{shown(self.name)}: {shown(' '.join(self.words)) or 'no question has this answer any more'}"
@@ -98,7 +94,6 @@ def status_of(found: "list[Stored]") -> Status:
 
 
 def path_of(folder: str, name: str, ending: str) -> str:
-    """The path of a question or of an answer."""
     return os.path.join(folder, name + ending)
 
 
@@ -125,8 +120,7 @@ def held_against(distac: Distac, words: argparse.Namespace, name: str) -> Stored
     commands = commands_in(question)
     with within(words.folder):
         text, status = asked_in_turn(distac, words.parser_of_words(), question, commands)
-    words_asked = [word for command in commands for word in (PIPE, *command)][1:]
-    return Stored(name, words_asked, stored, text, status)
+    return Stored(name, [word for command in commands for word in (PIPE, *command)][1:], stored, text, status)
 
 
 def commands_in(path: str) -> "list[list[str]]":
@@ -151,8 +145,7 @@ def asked_in_turn(distac: Distac, parser: argparse.ArgumentParser, path: str, co
     data, errors, status = b"", io.BytesIO(), int(Status.FINE)
     for command in commands:
         with standard_input(data), standard_error(errors):
-            words = parsed(parser, path, command, errors)
-            data, status = answer_to(distac, words)
+            data, status = answer_to(distac, parsed(parser, path, command, errors))
         if status == Status.TROUBLE:
             break
     said = errors.getvalue()
@@ -221,7 +214,6 @@ def standard_input(data: bytes) -> Iterator[None]:
 
 @contextmanager
 def standard_error(errors: io.BytesIO) -> Iterator[None]:
-    """Captures a question's standard error."""
     before, sys.stderr = sys.stderr, io.TextIOWrapper(errors, "utf-8", "surrogateescape", write_through=True)
     try:
         yield
@@ -231,20 +223,13 @@ def standard_error(errors: io.BytesIO) -> Iterator[None]:
 
 
 def fields_of(each: Stored, is_written: bool) -> Fields:
-    """The fields of a question."""
     return {
-        "name": each.name,
-        "words": each.words,
-        "status": each.status,
-        "verdict": each.verdict,
-        "stored": each.stored,
-        "answer": each.answer,
+        **{name: getattr(each, name) for name in ("name", "words", "status", "verdict", "stored", "answer")},
         "written": is_written,
     }
 
 
 def add_expect(parser: argparse.ArgumentParser) -> None:
-    """The words of `expect`."""
     parser.add_argument("folder", metavar="FOLDER", help="a folder with NAME.question, the words of a command line, and NAME.answer")
     parser.add_argument("names", metavar="NAME", nargs="*", help="the questions that are asked: all, if none is named")
     parser.add_argument("--write", action="store_true", help="write the answers that differ anew")

@@ -1,7 +1,5 @@
 """The examples in the help of each subcommand."""
 
-from __future__ import annotations
-
 from distac_view.asking.program import TOP
 
 COMPILED = """: the

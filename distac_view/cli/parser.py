@@ -24,12 +24,10 @@ class Parser(argparse.ArgumentParser):
         super().__init__(*words, **settings)
 
     def add_argument(self, *names: Any, **settings: Any) -> argparse.Action:
-        """Adds an option or a word."""
         self.actions.append(super().add_argument(*names, **settings))
         return self.actions[-1]
 
     def add_one_of(self, *options: "tuple[str, dict[str, Any]]") -> None:
-        """Adds mutually exclusive options."""
         group = self.add_mutually_exclusive_group()
         self.actions += [group.add_argument(name, **settings) for name, settings in options]
 
@@ -57,7 +55,6 @@ class Formatter(argparse.RawDescriptionHelpFormatter):
 
 
 def count_from_one(word: str) -> int:
-    """A count from the command line."""
     if not fits(Role.NUMBER, word) or word == "0":
         raise argparse.ArgumentTypeError(f"a count from 1 on is wanted, in decimal digits, and not {shown(word)}")
     return int(word)

@@ -164,7 +164,6 @@ def add_what_if(parser: argparse.ArgumentParser) -> None:
 
 
 def add_load(parser: argparse.ArgumentParser) -> None:
-    """The words of `load`."""
     parser.add_argument("config", metavar="CONFIG", help="a configuration, as erl -config takes it")
     add_now(parser)
     parser.add_argument("--pairs", action="store_true", help="ask about each two nodes that go down together too")
@@ -175,7 +174,6 @@ def add_load(parser: argparse.ArgumentParser) -> None:
 
 
 def add_rolling(parser: argparse.ArgumentParser) -> None:
-    """The words of `rolling`."""
     parser.add_argument("config", metavar="CONFIG", help="a configuration, as erl -config takes it")
     add_now(parser)
     order = "restart these nodes in this order; if absent, the best order of all nodes is looked for"
@@ -207,13 +205,11 @@ def milliseconds(word: str) -> int:
 
 
 def add_page(parser: argparse.ArgumentParser) -> None:
-    """The word that requests a page."""
     more = "write the answer as a page too, to be printed or kept with a change; a dash is standard output, with the page alone"
     parser.add_argument("-o", "--output", metavar="FILE.html", help=more)
 
 
 def add_json(parser: argparse.ArgumentParser) -> None:
-    """The word that requests JSON."""
     parser.add_argument("--json", action="store_true", help="print the answer as JSON")
 
 

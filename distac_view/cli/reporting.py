@@ -60,7 +60,6 @@ def warned(words: argparse.Namespace, warnings: list[Told]) -> Status:
 
 
 def remark_fields(kind: str, told: Told, is_allowed: bool = False) -> Fields:
-    """The fields of a fault or a warning."""
     place = told.place
     return {
         "kind": kind,
@@ -75,7 +74,6 @@ def remark_fields(kind: str, told: Told, is_allowed: bool = False) -> Fields:
 
 
 def warnings_fields(words: argparse.Namespace, warnings: list[Told]) -> list[Fields]:
-    """The fields of warnings."""
     allowed = Allowed(words.allow)
     return [remark_fields("warning", told, allowed.has(told)) for told in warnings]
 

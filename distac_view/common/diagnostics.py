@@ -38,7 +38,6 @@ class Remark:
         return "\n".join((head, *quoted(self.place)))
 
     def told(self, path: str) -> Told:
-        """The remark with its file."""
         return Told(self.name, self.sentence, path, self.place, self.apps)
 
 
@@ -96,14 +95,8 @@ def without_return(line: bytes) -> bytes:
     return line[:-1] if line.endswith(b"\r") else line
 
 
-def last_offset(source: bytes, end: int) -> int:
-    """The byte after the last nonblank one, up to an end."""
-    return len(source[:end].rstrip())
-
-
 def one_sign_each(text: str) -> str:
-    """A text as an editor counts it: a tab is kept, and each other character of `CONTROLS` and each invalid byte is one
-    character."""
+    """A text as an editor counts it: each of `CONTROLS` but a tab, and each invalid byte, is one character."""
     return "".join(sign_of(character) for character in text)
 
 

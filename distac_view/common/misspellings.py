@@ -1,14 +1,11 @@
 """Similar names, such as a misspelt name and the intended one."""
 
-from __future__ import annotations
-
 from os.path import commonprefix
 from typing import Iterable
 
 
 def is_near(one: str, other: str) -> bool:
-    """Whether one change turns a name into the other: a character changed, added or removed, or two neighbours
-    swapped."""
+    """Whether one change turns a name into the other: a character changed, added or removed, or two swapped."""
     if one == other or abs(len(one) - len(other)) > 1:
         return False
     start = len(commonprefix([one, other]))

@@ -1,7 +1,5 @@
 """Standard output and standard error of any kind."""
 
-from __future__ import annotations
-
 import errno
 import os
 import sys
@@ -19,11 +17,6 @@ class Output:
 
     def __init__(self) -> None:
         self.stream = sys.stdout.buffer
-
-    @property
-    def is_terminal(self) -> bool:
-        """Whether it is a terminal."""
-        return self.stream.isatty()
 
     def line(self, text: str) -> None:
         """A line of text."""

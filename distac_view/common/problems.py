@@ -1,7 +1,5 @@
 """What ends the program early, and its exit statuses."""
 
-from __future__ import annotations
-
 from enum import IntEnum
 
 

@@ -20,8 +20,7 @@ def bytes_of(text: str) -> bytes:
 
 
 def shown(text: str) -> str:
-    """A text without cursor moves and changes of direction: each such character, and each invalid byte, becomes one
-    character."""
+    """A text in which each cursor move, change of direction and invalid byte is one replaced character."""
     whole = text.encode("utf-8", "surrogateescape").decode("utf-8", "replace")
     return CONTROLS.sub("\N{REPLACEMENT CHARACTER}", whole.replace("\t", " "))
 
@@ -39,7 +38,6 @@ def width_of(character: str) -> int:
 
 
 def padded(text: str, columns: int) -> str:
-    """A text padded with spaces to so many columns."""
     return text + " " * (columns - columns_of(text))
 
 

@@ -18,7 +18,6 @@ MOST_SECONDS = 10
 
 
 def version_line() -> str:
-    """The output of `--version`."""
     return f"{VERSION}, commit {commit()}"
 
 

@@ -1,7 +1,5 @@
 """Files that are written whole or not at all, and never over an input."""
 
-from __future__ import annotations
-
 import os
 import shutil
 from typing import Iterable

@@ -56,7 +56,6 @@ def wrong_terms(section: Term) -> Iterator[Way]:
 
 
 def zero_sync_time(checked: Checked, file: SourceFile, sections: Sections) -> Iterator[Remark]:
-    """A sync time of 0."""
     if checked.configuration.sync_timeout == "0":
         sentence = "with {sync_nodes_timeout,0} no node boots in OTP: write 1 or more, or take it out"
         yield file.remark(sections.of_parameter("sync_nodes_timeout"), "ZeroSyncTime", sentence)

@@ -80,7 +80,6 @@ def expanded(file: SourceFile, surroundings: Surroundings, library: Library, see
 
 
 def config_named(word: Word, surroundings: Surroundings, library: Library) -> SourceFile:
-    """The configuration named by a flag `-config`."""
     return library.file(surroundings.config_of(word.text, os.path.dirname(word.path)), surroundings.variables)
 
 

@@ -7,7 +7,7 @@ import re
 from dataclasses import dataclass
 from typing import Callable
 
-from distac_view.common.diagnostics import Remark, last_offset, line_from, place_of
+from distac_view.common.diagnostics import Remark, line_from, place_of
 from distac_view.common.misspellings import near_to
 from distac_view.common.names import name_of
 from distac_view.common.texts import cut, shown, text_of
@@ -36,7 +36,6 @@ class Scene:
 
     @property
     def here(self) -> Token | None:
-        """The token at the fault, if there is one."""
         token = next(byte_tokens(self.text[self.at :]), None)
         return token if token is not None and token.start == 0 else None
 
@@ -87,9 +86,7 @@ class Scene:
 
 
 def remark_on(fault: Fault, text: bytes) -> Remark:
-    """The remark on a fault of a configuration."""
-    before = list(byte_tokens(text[: fault.place]))
-    scene = Scene(text, fault.place, before)
+    scene = Scene(text, fault.place, list(byte_tokens(text[: fault.place])))
     sentence = SENTENCES[fault.name](scene) if fault.name in SENTENCES else "see docs/FORMATS.md"
     return Remark(place_of(text, shown_offset(scene)), fault.name, sentence)
 
@@ -101,7 +98,7 @@ def shown_offset(scene: Scene) -> int:
     meant = meant_for_distributed(scene)
     if meant and not scene.open_brackets():
         return meant.start
-    return scene.before[-1].end if scene.before else last_offset(scene.text, scene.at)
+    return scene.before[-1].end if scene.before else len(scene.text[: scene.at].rstrip())
 
 
 def quotes_for(scene: Scene) -> str:
@@ -284,8 +281,7 @@ def missing_comma(scene: Scene) -> str | None:
     if not is_term_before or scene.sign in "]},.":
         return None
     line = scene.line_of(scene.before[-1])
-    here = place_of(scene.text, scene.at).line
-    where = "before this" if line == here else f"at the end of line {line}"
+    where = "before this" if line == place_of(scene.text, scene.at).line else f"at the end of line {line}"
     return f"a comma is missing {where}, behind {cut(shown(scene.last), 40)}"
 
 
@@ -329,11 +325,6 @@ def twice(scene: Scene) -> str:
     return f"{cut(shown(name), 80)} stands twice in this list{where}: take one of them out"
 
 
-def twice_app(scene: Scene) -> str:
-    """An application repeated in `distributed`."""
-    return twice(scene).replace("in this list", "in distributed", 1)
-
-
 def named(sign: str) -> str:
     """A character in words."""
     return "this" if not sign or shown(sign) != sign else sign
@@ -350,7 +341,7 @@ SENTENCES: dict[str, Callable[[Scene], str]] = {
     "Unsupported": unsupported,
     "BadShape": bad_shape,
     "NoDistributed": no_distributed,
-    "TwiceApp": twice_app,
+    "TwiceApp": lambda scene: twice(scene).replace("in this list", "in distributed", 1),
     "TwiceInList": twice,
     "EmptyList": constant("an application needs a node that may run it: name one in this list"),
     "EmptyTuple": constant("a tuple of nodes needs one: name a node in it, or take the tuple out"),

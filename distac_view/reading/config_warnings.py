@@ -140,7 +140,6 @@ def templates_left(checked: Checked, source: Source) -> Iterator[Remark]:
 
 
 def first_token(source: Source, name: str) -> Token:
-    """The first token of a name in any parameter that is read."""
     for parameter in ("distributed", *SYNC):
         token = source.token_of(parameter, name)
         if token is not source.tokens[0]:

@@ -24,7 +24,6 @@ class Application:
 
     @property
     def nodes(self) -> list[str]:
-        """All nodes of its list."""
         return [node for group in self.groups for node in group]
 
 
@@ -42,7 +41,6 @@ class Configuration:
 
     @property
     def names(self) -> list[str]:
-        """The names of the applications."""
         return [application.name for application in self.applications]
 
     @property
@@ -73,7 +71,6 @@ class TermReader:
         self.place = 0
 
     def take(self) -> Token:
-        """The next token."""
         self.place += 1
         return self.tokens[self.place - 1]
 
@@ -92,7 +89,6 @@ class TermReader:
 
 
 def configuration_of(canonical: str) -> Configuration:
-    """The configuration in a canonical text."""
     try:
         return configuration_in(TermReader(canonical).term())
     except (IndexError, KeyError, TypeError, ValueError) as error:
@@ -111,7 +107,6 @@ def configuration_in(sections: Any) -> Configuration:
 
 
 def application_of(entry: list[Any], barred: set[str]) -> Application:
-    """The application of an entry of `distributed`."""
     name, timeout, items = entry
     groups = [item if isinstance(item, list) else [item] for item in items]
     return Application(name, int(timeout), groups, name not in barred)

@@ -1,7 +1,5 @@
 """A node's surroundings from the command line: its variables, and the root of absolute file names."""
 
-from __future__ import annotations
-
 import os
 from dataclasses import dataclass
 from typing import Iterable

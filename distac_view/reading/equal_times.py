@@ -54,15 +54,13 @@ def before(application: Application, node: str) -> set[str]:
 
 
 def pairs_among(lost: Iterable[Application], left: Iterable[str]) -> list[tuple[Application, Application]]:
-    """Of the applications that fail over because nodes went down together, the pairs that may hang with these nodes
-    left."""
+    """Of the applications that fail over because nodes went down together, the pairs that may hang."""
     nodes = list(left)
     return [(one, other) for one, other in combinations(lost, 2) if hang_together(one, other, nodes)]
 
 
 def hang_together(one: Application, other: Application, left: Iterable[str]) -> bool:
-    """Whether two applications that fail over at one moment may hang, restarted in either order. Waits of weeks don't
-    count."""
+    """Whether two applications that fail over at once may hang in either order. Waits of weeks don't count."""
     if one.timeout != other.timeout or one.timeout == FOREVER:
         return False
     return hang_in_turn(one, other, set(left)) or hang_in_turn(other, one, set(left))
@@ -75,8 +73,7 @@ def hang_in_turn(first: Application, second: Application, left: set[str]) -> boo
 
 
 def waited_for(application: Application, node: str, left: set[str]) -> set[str]:
-    """The nodes that a node waits for before an application is restarted: all of a list with a tuple first, else the
-    first one."""
+    """The nodes waited for before a restart: all of a list with a tuple first, else the first one."""
     group = first_group(application, left)
     is_asking = len(group) > 1 and node in application.nodes
     return left.intersection(application.nodes if is_asking else group).difference([node])

@@ -83,7 +83,6 @@ class TermReader:
         self.frames = [Frame("", 0, wants_term=True)]
 
     def take(self) -> Token:
-        """The next token."""
         if self.held is not None:
             held, self.held = self.held, None
             return held
@@ -267,7 +266,6 @@ def spot_of_frame(frame: Frame) -> Spot:
 
 
 def atom_of(token: Token) -> Atom:
-    """The atom of a token."""
     name = token.written
     if token.kind is Kind.QUOTED:
         name = unescaped(name[1:-1], token.start + 1)
@@ -291,7 +289,6 @@ def number_of(token: Token) -> Term:
 
 
 def based_number(token: Token, base: str, digits: str) -> Term:
-    """A number with its base."""
     if len(base) > 2 or not 2 <= int(base) <= 36:
         raise Misread(token.start, "a base is a number from 2 to 36")
     if len(digits) > MOST_DIGITS:
@@ -303,7 +300,6 @@ def based_number(token: Token, base: str, digits: str) -> Term:
 
 
 def text_in(token: Token) -> str:
-    """The contents of a string."""
     if token.kind is Kind.STRING:
         return unescaped(token.written[1:-1], token.start + 1)
     lines = token.written.split("\n")

@@ -87,8 +87,7 @@ READ_MARKS = frozenset("[]{},")
 
 
 def byte_tokens(source: bytes) -> Iterator[Token]:
-    """The tokens of a text with bytes as places, up to the first that `distac` doesn't read. An invalid byte is a
-    character."""
+    """The tokens of a text by bytes, up to one that `distac` doesn't read. An invalid byte is a character."""
     text, place, offset = text_of(source), 0, 0
     for token in read_tokens(text):
         offset += len(bytes_of(text[place : token.start]))

@@ -1,7 +1,5 @@
 """The faults that `distac` prints."""
 
-from __future__ import annotations
-
 import re
 from dataclasses import dataclass
 from enum import Enum
@@ -34,7 +32,6 @@ FORMS = {
 
 
 def fault_of(line: str) -> Fault:
-    """The fault in a printed line."""
     for part, form in FORMS.items():
         found = form.match(line)
         if found:

@@ -26,7 +26,6 @@ class Entry:
 
     @property
     def nodes(self) -> list[str]:
-        """All nodes of its list."""
         return [node for group in self.groups for node in group]
 
     @property
@@ -37,14 +36,12 @@ class Entry:
 
     @property
     def text(self) -> str:
-        """The entry as written."""
         return "{%s,%d,%s}" % (self.app, self.timeout, self.list_text)
 
 
 @dataclass
 class Placement:
-    """The contents of one node's files. A sync time is a number of milliseconds, or infinity; without one it is
-    absent."""
+    """The contents of one node's files. A sync time is in milliseconds, infinity, or absent."""
 
     node: str
     settings: NodeSettings
@@ -55,7 +52,6 @@ class Placement:
     tick_time: int | None = None
 
     def entry_of(self, app: str) -> Entry | None:
-        """The entry of an application."""
         return next((entry for entry in self.entries if entry.app == app), None)
 
     def waits_for(self) -> list[str]:
@@ -77,7 +73,6 @@ def placement_of(settings: NodeSettings) -> Placement:
 
 
 def take_distributed(placement: Placement, setting: Setting) -> None:
-    """The parameter `distributed`."""
     for number, item in enumerate(listed_in(setting, "distributed")):
         entry = entry_of(placement, setting, number, item)
         if placement.entry_of(entry.app) is not None:
@@ -86,7 +81,6 @@ def take_distributed(placement: Placement, setting: Setting) -> None:
 
 
 def entry_of(placement: Placement, setting: Setting, number: int, item: Term) -> Entry:
-    """An entry of `distributed`, by its number there."""
     if not isinstance(item, tuple) or len(item) not in (2, 3) or not isinstance(item[0], Atom) or not isinstance(item[-1], list):
         raise setting.fault_in((number,), "BadEntry", "this is no entry of distributed, which is {APP,[NODES]} or {APP,MILLISECONDS,[NODES]}")
     app, last = spelled(setting, (number, 0), item[0]), len(item) - 1
@@ -127,7 +121,6 @@ def names_of(setting: Setting) -> list[str]:
 
 
 def spelled(setting: Setting, way: Way, item: Term) -> str:
-    """A name at a way, as `distac` spells it."""
     if not isinstance(item, Atom):
         raise setting.fault_in(way, "BadName", "a name is wanted here: an atom, without double quotes around it")
     if TEMPLATE.search(item.name):

@@ -15,7 +15,6 @@ FORM = f"a live line is CALLER and then {listed(list(CALLED))} with what follows
 
 
 def remark_on_live_line(name: str, line: Line, nodes: list[str]) -> Remark:
-    """The remark on a fault of a live line, with the names of the known nodes."""
     first = (words_of(line.text) or [""])[0]
     start = line.text.index(first) + len(first)
     if not first.isdigit():

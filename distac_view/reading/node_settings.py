@@ -38,8 +38,7 @@ class Written:
     characters: tuple[int, ...] = ()
 
     def place_of(self, way: Way, other: int) -> int:
-        """The file's character at which a term of the text begins, or another one if our own reader can't read the
-        text."""
+        """The file's character at which a term begins, or another one if our own reader can't read the text."""
         try:
             place = spot_of(self.text).at(way)
         except Misread:
@@ -49,8 +48,7 @@ class Written:
 
 @dataclass(frozen=True)
 class Origin:
-    """The origin of a parameter: its file, its first character there, and the text of its value with the way to
-    that."""
+    """The origin of a parameter: its file, its first character there, its value's text and the way to that."""
 
     file: SourceFile
     place: int
@@ -71,7 +69,6 @@ class Setting:
     origin: Origin
 
     def fault(self, name: str, sentence: str) -> Faulty:
-        """The fault of the parameter."""
         return self.origin.file.fault(self.origin.place, name, sentence)
 
     def remark_in(self, way: Way, name: str, sentence: str) -> Remark:
@@ -115,12 +112,10 @@ class Library:
             self.terms.update(zip(new, self.reader(new)))
 
     def term(self, text: str) -> Read:
-        """The term of a text, or its fault."""
         self.read([text])
         return self.terms[text]
 
     def sections(self, file: SourceFile) -> list[Term]:
-        """The outer list of a file."""
         term = self.term(file.text)
         if isinstance(term, Misread):
             raise fault_of_syntax(file, term)
@@ -141,8 +136,7 @@ def fault_of_syntax(file: SourceFile, misread: Misread) -> Faulty:
 
 
 def settings_of(node: str, files: list[SourceFile], surroundings: Surroundings, library: Library) -> NodeSettings:
-    """The settings in a node's files, in the order of `-config`. Names of other files in their outer lists are
-    followed."""
+    """The settings in a node's files, in the order of `-config`, and in files that their outer lists name."""
     settings = NodeSettings(node)
     library.read(inner.text for file in files for inner in named_in(file, surroundings, library))
     for file in files:
@@ -151,7 +145,6 @@ def settings_of(node: str, files: list[SourceFile], surroundings: Surroundings, 
 
 
 def named_in(file: SourceFile, surroundings: Surroundings, library: Library) -> list[SourceFile]:
-    """The files named in a file's outer list."""
     names = map(file_name, library.sections(file))
     paths = [surroundings.config_of(name, os.path.dirname(file.path)) for name in names if name]
     return [library.file(path, surroundings.variables) for path in paths]

@@ -17,7 +17,6 @@ RETURN = "a carriage return stands at the line's end, and counts as a part of it
 
 
 def remark_on_input(fault: Fault, source: bytes) -> Remark:
-    """The remark on a fault of a whole input."""
     if fault.name == "TooLong":
         offset, sentence = MOST_INPUT, "an input has at most 2,097,152 bytes, configuration and script together: play it in parts"
     elif fault.name == "NoScript":
@@ -42,14 +41,13 @@ def missing_separator(source: bytes) -> tuple[int, str]:
 
 def remark_on_line(name: str, line: Line, nodes: list[str]) -> Remark:
     """The remark on a fault of a script's line, with the names of the known nodes."""
-    offset, sentence = SENTENCES.get(name, unknown_fault)(line, nodes)
+    offset, sentence = SENTENCES.get(name, lambda *_: (0, "see docs/FORMATS.md"))(line, nodes)
     return remark_in_line(line, offset, name, sentence)
 
 
 def remark_in_line(line: Line, offset: int, name: str, sentence: str) -> Remark:
     """A remark on a place in a line, given by the number of characters before it."""
-    before = len(bytes_of(line.text[:offset]))
-    return Remark(place_in(bytes_of(line.text), line.number, before), name, sentence)
+    return Remark(place_in(bytes_of(line.text), line.number, len(bytes_of(line.text[:offset]))), name, sentence)
 
 
 def offset_of(line: Line, place: int) -> int:
@@ -168,15 +166,9 @@ def bad_hex(line: Line, _: list[str]) -> tuple[int, str]:
     return offset_of(line, place) + wrong.start(), "bytes are written in digits 0 to 9 and a to f, in small letters"
 
 
-def unknown_fault(_: Line, __: list[str]) -> tuple[int, str]:
-    """A fault that only docs/FORMATS.md describes."""
-    return 0, "see docs/FORMATS.md"
-
-
 def first_unfit(line: Line, roles: tuple[Role, ...]) -> tuple[int, Role, str]:
     """The first word of some roles that doesn't fit, with its number."""
-    words = roles_in(line.words)
-    for place, (role, word) in enumerate(words, 1):
+    for place, (role, word) in enumerate(roles_in(line.words), 1):
         if role in roles and not fits(role, word):
             return place, role, word
     return 0, roles[0], line.verb

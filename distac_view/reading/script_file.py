@@ -25,7 +25,6 @@ class Line(NamedTuple):
 
     @property
     def words(self) -> list[str]:
-        """Its words."""
         return words_of(self.text)
 
     @property
@@ -69,8 +68,7 @@ def script_of(source: bytes) -> Script | None:
     if place is None:
         return None
     first = source.count(b"\n", 0, place) + 2
-    texts = text_of(source[place + 3 :]).split("\n")
-    lines = [Line(number, text) for number, text in enumerate(texts, first)]
+    lines = [Line(number, text) for number, text in enumerate(text_of(source[place + 3 :]).split("\n"), first)]
     return Script(source, source[:place], lines)
 
 

@@ -8,7 +8,7 @@ from typing import Iterable, Iterator, TypeVar
 from distac_view.common.diagnostics import Remark
 from distac_view.common.texts import cut, shown
 from distac_view.reading.erlang_terms import Atom, Term, Way
-from distac_view.reading.erlang_tokens import Kind, Misread, Token, tokens_of, unescaped
+from distac_view.reading.erlang_tokens import Kind, Misread, tokens_of, unescaped
 from distac_view.reading.source_file import SourceFile
 
 Name = TypeVar("Name")
@@ -20,8 +20,7 @@ SYS_CONFIG = ("sys.config", "sys.config.src")
 
 
 class Sections:
-    """The names of sections and parameters with their places, up to the first token that our own reader doesn't
-    know."""
+    """The names of sections and parameters with their places, up to a token that our reader doesn't know."""
 
     def __init__(self, text: str) -> None:
         self.sections: list[tuple[str, int]] = []
@@ -39,7 +38,8 @@ class Sections:
             if token.kind is Kind.MARK:
                 depth += 1 if token.written in OPENING else -1 if token.written in CLOSED else 0
             elif before == "{" and token.is_name and depth in (2, 4):
-                self.add(depth, name_in(token), token.start)
+                name = token.written if token.kind is Kind.ATOM else unescaped(token.written[1:-1], token.start + 1)
+                self.add(depth, name, token.start)
             elif depth == 1 and token.kind is Kind.STRING:
                 self.first_string = self.first_string or token.start
             before = token.written
@@ -52,17 +52,12 @@ class Sections:
             self.parameters.append((len(self.sections) - 1, name, place))
 
     def of_section(self, name: str) -> int:
-        """The last section of a name."""
         return max((place for section, place in self.sections if section == name), default=0)
 
     def of_parameter(self, name: str) -> int:
         """The last parameter of kernel of a name."""
         found = (place for number, parameter, place in self.parameters if (self.sections[number][0], parameter) == ("kernel", name))
         return max(found, default=0)
-
-    def twice_sections(self) -> Iterator[tuple[str, int]]:
-        """Repeated sections."""
-        return again(self.sections)
 
     def twice_parameters(self) -> Iterator[tuple[str, int]]:
         """Parameters repeated in their section."""
@@ -77,11 +72,6 @@ def wrong_part(item: Term) -> Way:
     return (1,) if isinstance(item[0], Atom) else (0,)
 
 
-def name_in(token: Token) -> str:
-    """The name of an atom, without quotes and escapes."""
-    return token.written if token.kind is Kind.ATOM else unescaped(token.written[1:-1], token.start + 1)
-
-
 def again(named: Iterable[tuple[Name, int]]) -> Iterator[tuple[Name, int]]:
     """Of some names with their places, the repeated ones."""
     seen: set[Name] = set()
@@ -92,9 +82,8 @@ def again(named: Iterable[tuple[Name, int]]) -> Iterator[tuple[Name, int]]:
 
 
 def twice_in(file: SourceFile, sections: Sections, about_parameter: str) -> Iterator[Remark]:
-    """Sections and parameters repeated in one file, with a sentence on a parameter: OTP doesn't boot with such a
-    file."""
-    for name, place in sections.twice_sections():
+    """Sections and parameters repeated in a file, each with a sentence: OTP doesn't boot with such a file."""
+    for name, place in again(sections.sections):
         if os.path.basename(file.path) not in SYS_CONFIG:
             sentence = f"the section {cut(shown(name), 60)} stands twice: OTP boots with that in sys.config alone; put both into one"
             yield file.remark(place, "TwiceSection", sentence)

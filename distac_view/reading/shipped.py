@@ -1,7 +1,5 @@
 """The files of a node in the folder of its release: `sys.config` and `vm.args` of the version that starts."""
 
-from __future__ import annotations
-
 import os
 
 from distac_view.common.problems import Problem

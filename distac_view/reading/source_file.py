@@ -1,7 +1,5 @@
 """A file of a node with its text: variables are filled in, and everything around a remote shell's answer is blank."""
 
-from __future__ import annotations
-
 import hashlib
 import os
 import re
@@ -33,7 +31,6 @@ class SourceFile:
 
     @property
     def text(self) -> str:
-        """Its text for reading."""
         return self.filled.text
 
     @property
@@ -59,7 +56,6 @@ class SourceFile:
         return Remark(place_of(self.source, offset), name, sentence)
 
     def fault(self, place: int, name: str, sentence: str) -> Faulty:
-        """The fault at a character."""
         return Faulty(self.path, self.remark(place, name, sentence))
 
 

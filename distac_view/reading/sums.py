@@ -23,7 +23,6 @@ class Sum:
 
     @property
     def comment(self) -> str:
-        """The comment about it."""
         return f"%% {self.node} {self.file} sha256 {self.mark}"
 
 
@@ -47,8 +46,3 @@ def mark_now(path: str) -> str | None:
             return hashlib.sha256(file.read()).hexdigest()
     except OSError:
         return None
-
-
-def changed_since(sums: list[Sum]) -> list[Sum]:
-    """The files that are there now with other bytes."""
-    return [each for each in sums if mark_now(each.file) not in (None, each.mark)]

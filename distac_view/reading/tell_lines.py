@@ -127,14 +127,9 @@ def written_out(lines: list[Line], run: Run) -> list[Line]:
     """A script with each `tell` written out after a comment that contains it. All its lines must be correct."""
     writing = Writing(run)
     for line in lines:
-        writing.turns += turns_of(line) if line.is_tell else [Turn(line, guess_of(line))]
+        writing.turns += turns_of(line) if line.is_tell else [Turn(line, 1 if line.is_event and line.verb == "ship" else 0)]
     writing.settle()
     return writing.lines(lambda turn, number: turn.written(number))
-
-
-def guess_of(line: Line) -> int:
-    """The first guess of how many messages a line ships."""
-    return 1 if line.is_event and line.verb == "ship" else 0
 
 
 def turns_of(line: Line) -> list[Turn]:
@@ -142,12 +137,10 @@ def turns_of(line: Line) -> list[Turn]:
     names = sorted((name_of(word) for word in line.words[1:]), key=name_order)
     pairs = [(one, other) for one in names for other in names if one != other]
     comment = Turn(Line(line.number, f"% {line.text.strip()}"), 0)
-    ships = [Told(Line(line.number, f"ship {one} {other}"), 1, other) for one, other in pairs]
-    return [comment, *ships]
+    return [comment, *[Told(Line(line.number, f"ship {one} {other}"), 1, other) for one, other in pairs]]
 
 
 def fault_in(line: Line, nodes: list[str]) -> Remark | None:
-    """The fault of a `tell`."""
     if has_return(line):
         return remark_in_line(line, offset_of(line, len(line.words) - 1), "BadName", RETURN)
     if len(line.words) < 3:

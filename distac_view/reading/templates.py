@@ -28,8 +28,7 @@ def template_in(text: str, comment: str = COMMENT) -> int | None:
 
 @dataclass(frozen=True)
 class Piece:
-    """A part of a text with its variables filled in: its beginning there and in the template, and whether it is a
-    value."""
+    """A part of a text with variables filled in: its beginning there and in the template, and if it is a value."""
 
     start: int
     source: int

@@ -54,7 +54,6 @@ HEX = re.compile(r"(?:[0-9a-f]{2})+\Z")
 
 
 def usage(verb: str) -> str:
-    """The usage of this verb."""
     if verb == TELL:
         return "tell NODE NODE .."
     return " ".join((verb, *(role.value for role in VERBS[verb])))
@@ -71,7 +70,6 @@ def is_name(word: str) -> bool:
 
 
 def fits(role: Role, word: str) -> bool:
-    """Whether a word fits its role."""
     if role in NAMES:
         return is_name(word)
     if role in NUMBERS:

@@ -15,8 +15,7 @@ BLANK = " \t\n\r\v\f"
 
 
 class Word(NamedTuple):
-    """A word of an argument file: its unquoted text, the file's path, its first character there, and the place of each
-    character."""
+    """A word of an argument file: unquoted, with the file's path, its first character and each one's place."""
 
     text: str
     path: str
@@ -81,8 +80,7 @@ def line_end(text: str, place: int) -> int:
 
 
 def flags_of(words: Iterable[Word]) -> Flags:
-    """The flags of some words, as a node reads them: a flag has all words up to the next one. No flags follow
-    `-extra`."""
+    """The flags of some words, as a node reads them: each has all words up to the next, and `-extra` is the last."""
     flags = Flags()
     for flag, values in grouped(words):
         if flag == "-config":

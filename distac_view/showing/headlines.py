@@ -1,7 +1,5 @@
 """The first sentences of an answer: what runs nowhere or twice, the longest outage, and where OTP may hang."""
 
-from __future__ import annotations
-
 from typing import Iterator, List
 
 from distac_view.answering.caveats import few_of
@@ -30,7 +28,6 @@ def is_lost(fate: Fate) -> bool:
 
 
 def rolling_headlines(rolling: Rolling) -> Iterator[str]:
-    """The sentences of `rolling`."""
     steps = rolling.steps
     for step in steps:
         if step.waiters:
@@ -48,7 +45,6 @@ def outages_of(step: Step, takes: int) -> Iterator[int]:
 
 
 def split_headlines(reply: SplitReply) -> Iterator[str]:
-    """The sentences of `what-if --split`."""
     twice, count = [each.app for each in reply.twice], len(reply.healed)
     if twice:
         yield shown(f"{len(twice)} of {count} applications {'runs' if len(twice) == 1 else 'run'} more than once while the split lasts: {few_of(twice)}.")

@@ -1,7 +1,5 @@
 """Elements of pages, as text."""
 
-from __future__ import annotations
-
 import re
 from dataclasses import dataclass
 from html import escape
@@ -17,7 +15,6 @@ UNIT = re.compile(r"(?<=\d) (?=(?:ms|s|to)\b)|(?<=\bto) (?=\d)")
 
 
 def text_in(text: str) -> str:
-    """A text in an element."""
     return escape(shown(text), quote=True)
 
 
@@ -40,7 +37,6 @@ def pieces_of(word: str) -> Iterator[str]:
 
 
 def paragraphs(sentences: Iterable[str]) -> str:
-    """A paragraph for each sentence."""
     return "".join(f"<p>{text_in(sentence)}</p>" for sentence in sentences)
 
 

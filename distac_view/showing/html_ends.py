@@ -1,7 +1,5 @@
 """The answer of `ends` as a page."""
 
-from __future__ import annotations
-
 from typing import Iterator, List, Union
 
 from distac_view.answering.race_ends import End, Reply, notes_on
@@ -14,9 +12,8 @@ from distac_view.showing.provenance import Asked
 
 
 def ends_page(reply: Reply, asked: Asked) -> str:
-    """The page of `ends`."""
     glance = section("At a glance", table_of(reply).text if reply.ends else "")
-    ends = "".join(end_section(reply, number, end) for number, end in enumerate(reply.ends, 1))
+    ends = "".join(section(f"End {number}", "".join(parts_of(reply, number, end))) for number, end in enumerate(reply.ends, 1))
     common = section("In each end" if len(reply.ends) > 1 else "Final pages", bullets(map(line_text, reply.common())))
     return page_of(f"Ends of a race: {asked.files[0].name}", asked, "".join([glance, ends, common, notes_section(notes_on(reply))]), head_of(reply))
 
@@ -31,13 +28,7 @@ def table_of(reply: Reply) -> Table:
     return Table("Each end", ("end", "schedules", "last pages"), rows, range(1, 2), True)
 
 
-def end_section(reply: Reply, number: int, end: End) -> str:
-    """An end: how often it came, the lines in which it differs, and its script with the answers."""
-    return section(f"End {number}", "".join(parts_of(reply, number, end)))
-
-
 def parts_of(reply: Reply, number: int, end: End) -> Iterator[str]:
-    """The parts of an end."""
     yield paragraphs([f"{counted(end.found.counts)}, {verdict_of(reply, end)}"])
     yield "".join(f'<p class="no">not as expected: {text_in(text)}</p>' for text in end.unmet)
     yield bullets(map(line_text, reply.differing(end)))

@@ -1,7 +1,5 @@
 """The frame of all pages: one file without a script, colors for light and dark, a style, and the answer's origin."""
 
-from __future__ import annotations
-
 from typing import Iterable
 
 from distac_view.common.output import Output

@@ -3,8 +3,6 @@
 A square says everything in words too: its pattern and color repeat them, on paper without colors as well.
 """
 
-from __future__ import annotations
-
 from typing import Iterable, List, Tuple, Union
 
 from distac_view.answering.outages import seconds_of
@@ -13,7 +11,7 @@ from distac_view.answering.split import SplitReply
 from distac_view.answering.what_if import Answers, Fate, Reply
 from distac_view.common.names import Short, bare_name
 from distac_view.common.texts import listed
-from distac_view.showing.headlines import is_lost, rolling_headlines, split_headlines, what_if_headlines
+from distac_view.showing.headlines import is_lost
 from distac_view.showing.html_elements import Cells, Square, Table, paragraphs, section, text_in
 
 MOST_COLUMNS, MOST_ROWS = 24, 32
@@ -45,21 +43,6 @@ STYLE = """
   .glance .wide tbody td { min-width: 0; }
 }
 """
-
-
-def what_if_glance(reply: Reply) -> str:
-    """The answer of `what-if`: a row for each loss."""
-    return glance(what_if_headlines(reply), [losses_of(answers, reply) for answers in reply.sides], reply.configuration.short)
-
-
-def rolling_glance(rolling: Rolling) -> str:
-    """The answer of `rolling`: a row for each application."""
-    return glance(rolling_headlines(rolling), [steps_of(rolling)], rolling.configuration.short)
-
-
-def split_glance(reply: SplitReply) -> str:
-    """The answer of `what-if --split`: a row for each side, and one for the end."""
-    return glance(split_headlines(reply), [sides_of(reply)], reply.configuration.short)
 
 
 def glance(sentences: Iterable[str], tables: List[Table], short: Short) -> str:

@@ -13,9 +13,10 @@ from distac_view.answering.split import SplitReply
 from distac_view.answering.what_if import Answers, Reply
 from distac_view.common.names import bare_names
 from distac_view.common.texts import listed
+from distac_view.showing.headlines import rolling_headlines, split_headlines, what_if_headlines
 from distac_view.showing.html_elements import Cells, Table, bullets, paragraphs, section, text_in, wrapped
 from distac_view.showing.html_frame import page_of
-from distac_view.showing.html_matrix import STYLE, rolling_glance, split_glance, what_if_glance
+from distac_view.showing.html_matrix import STYLE, glance, losses_of, sides_of, steps_of
 from distac_view.showing.print_changes import alone_lines, change_rows, count_line, setting_row
 from distac_view.showing.print_load import is_wide, last_lines, left_lines, narrow_rows, shown_rows, wide_rows
 from distac_view.showing.print_rolling import barred_by, cost_of, order_of, parts_of
@@ -40,30 +41,27 @@ class Verdict:
         """The part of a page about it, if there were requirements."""
         failed = "".join(f'<p class="no">{text_in(failure.what)}: {text_in(failure.text)}</p>' for failure in self.failures)
         passed = [word for word in self.words if word not in [failure.what for failure in self.failures]]
-        fine = paragraphs([f"{listed(passed)}: nothing found"] if passed else [])
-        return section("Budget", failed + fine)
+        return section("Budget", failed + paragraphs([f"{listed(passed)}: nothing found"] if passed else []))
 
 
 def notes_section(notes: Iterable[Note]) -> str:
-    """All notes, in words."""
     return section("Notes", bullets(note.text for note in notes))
 
 
 def what_if_page(reply: Reply, notes: Iterable[Note], shows_all: bool, asked: Asked) -> str:
-    """The page of `what-if`."""
     tables = [side_section(reply, answers, shows_all) for answers in reply.sides]
     nobody = section("Lost", bullets(nobody_lines(reply)))
     lasts = f"Each loss lasts {lasting(reply.question.takes, reply.configuration)}."
-    parts = [what_if_glance(reply), *tables, nobody, notes_section(notes)]
+    squares = glance(what_if_headlines(reply), [losses_of(answers, reply) for answers in reply.sides], reply.configuration.short)
+    parts = [squares, *tables, nobody, notes_section(notes)]
     return page_of(f"Losses of nodes: {asked.files[0].name}", asked, "".join(parts), lasts, STYLE)
 
 
 def split_page(reply: SplitReply, notes: Iterable[Note], shows_all: bool, asked: Asked) -> str:
-    """The page of `what-if --split`."""
     sides: List[Cells] = list(side_rows(reply, shows_all))
     healed: List[Cells] = list(healed_rows(reply, shows_all))
     parts = [
-        split_glance(reply),
+        glance(split_headlines(reply), [sides_of(reply)], reply.configuration.short),
         section("Each side", Table("Each side", SPLIT_HEADS, sides).text),
         section("Healed", Table("Healed", HEALED_HEADS, healed).text),
         notes_section(notes),
@@ -80,7 +78,6 @@ def side_section(reply: Reply, answers: Answers, shows_all: bool) -> str:
 
 
 def changes_page(changes: Changes, verdict: Verdict, notes: Iterable[Note], asked: Asked) -> str:
-    """The page of `what-if --then`."""
     parts = [
         verdict.section,
         differing("What the files say", ("of", "setting", "old -> new"), map(setting_row, changes.settings)),
@@ -99,7 +96,6 @@ def differing(heading: str, heads: tuple[str, ...], rows: Iterable[tuple[str, ..
 
 
 def load_page(load: Load, most: int | None, verdict: Verdict, notes: Iterable[Note], asked: Asked) -> str:
-    """The page of `load`."""
     rows = shown_rows(load, most)
     heads, *rest = wide_rows(load, rows) if is_wide(load) else narrow_rows(load, rows)
     cells: List[Cells] = list(rest)
@@ -114,10 +110,9 @@ def load_page(load: Load, most: int | None, verdict: Verdict, notes: Iterable[No
 
 
 def rolling_page(rolling: Rolling, verdict: Verdict, notes: Iterable[Note], asked: Asked) -> str:
-    """The page of `rolling`."""
     steps = "\n".join(step_part(number, step, rolling) for number, step in enumerate(rolling.steps, 1))
     parts = [
-        rolling_glance(rolling),
+        glance(rolling_headlines(rolling), [steps_of(rolling)], rolling.configuration.short),
         section("Order", paragraphs([order_of(rolling), cost_of(rolling)])),
         verdict.section,
         section("Steps", steps),

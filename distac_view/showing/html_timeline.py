@@ -1,7 +1,5 @@
 """The page of a timeline: everything in one file."""
 
-from __future__ import annotations
-
 from distac_view.asking.sim_output import Answered
 from distac_view.common.names import bare_name
 from distac_view.common.texts import cut
@@ -105,7 +103,6 @@ MARKERS = (
 
 
 def page_text(timeline: Timeline, left_out: str, asked: Asked) -> str:
-    """The whole page."""
     drawing = Drawing(timeline)
     head = f'<div class="head">{drawing.head()}</div>'
     drawn = "\n".join(f'<div class="part" style="--width:{drawing.width:.0f}px">{head}{part}</div>' for part in drawing.parts(first_rows(timeline)))
@@ -155,7 +152,6 @@ def sample(kind: str, words: str, style: str = "") -> str:
 
 
 def arrow_sample(kind: str, marker: str) -> str:
-    """An arrow of the legend."""
     path = f'<g class="message {kind}"><path d="M2 7H28" marker-end="url(#{marker})"/></g>'
     return f'<span><svg width="36" height="14" aria-hidden="true">{path}</svg> {kind}</span>'
 
@@ -170,7 +166,6 @@ def claims_table(timeline: Timeline) -> str:
 
 
 def claim_row(timeline: Timeline, claim: Claimed) -> Cells:
-    """A row of the table of claims."""
     number = timeline.rows[claim.row].line.number
     return (str(number), f"{claim.moment} ms", bare_name(claim.app), bare_name(claim.node), str(claim.term), how_in(claim.how))
 
@@ -190,7 +185,6 @@ def lines_table(timeline: Timeline) -> str:
 
 
 def line_row(one: Answered) -> str:
-    """The row of a line, or of a comment."""
     number, text = f'<td class="end">{one.line.number}</td>', text_in(cut(one.line.text.strip(), MOST_SIGNS))
     if not one.line.is_event:
         return f'<tr>{number}<td colspan="4" class="note">{text}</td></tr>'

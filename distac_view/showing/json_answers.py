@@ -26,7 +26,6 @@ def json_of(question: str, fields: Fields, notes: Iterable[Note]) -> str:
 
 
 def notes_fields(notes: Iterable[Note]) -> List[Fields]:
-    """The fields of notes."""
     return [{"id": note.id, "text": note.text} for note in notes]
 
 
@@ -46,7 +45,6 @@ def sums_of(configuration: Configuration) -> List[Fields]:
 
 
 def what_if_answer(reply: Reply, notes: Iterable[Note]) -> str:
-    """The answer of `what-if`."""
     fields: Fields = {
         "nodes": names_of(reply.configuration.nodes),
         "net_ticktime": reply.tick_time,
@@ -59,7 +57,6 @@ def what_if_answer(reply: Reply, notes: Iterable[Note]) -> str:
 
 
 def case_fields(case: Case, reply: Reply) -> Fields:
-    """The fields of a case."""
     nodes = {"down": names_of(case.down), "returning": names_of(case.back)}
     return {**nodes, "applications": [fate_fields(fate, reply.tick_time, reply.question.takes) for fate in case.fates], "may_hang": names_of(case.may_hang), "ended": names_of(case.ended)}
 

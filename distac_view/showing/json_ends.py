@@ -1,7 +1,5 @@
 """The answer of `ends` as JSON, in the form described in docs/FORMATS.md."""
 
-from __future__ import annotations
-
 from typing import Iterable
 
 from distac_view.answering.race_ends import End, PageLine, Reply, notes_on
@@ -10,7 +8,6 @@ from distac_view.showing.json_answers import Fields, json_of, names_of
 
 
 def ends_answer(reply: Reply) -> str:
-    """The answer of `ends`."""
     fields: Fields = {
         "nodes": names_of(reply.search.race.nodes),
         "schedules": reply.played,
@@ -24,7 +21,6 @@ def ends_answer(reply: Reply) -> str:
 
 
 def end_fields(reply: Reply, end: End) -> Fields:
-    """The fields of an end."""
     return {
         "schedules": end.count,
         "kinds": [{"kind": kind, "schedules": count} for kind, count in end.found.counts.items()],
@@ -40,5 +36,4 @@ def end_fields(reply: Reply, end: End) -> Fields:
 
 
 def page_lines(lines: Iterable[PageLine]) -> "list[Fields]":
-    """The fields of lines of pages."""
     return [{"line": line.text, "pages": names_of(line.nodes)} for line in lines]

@@ -15,15 +15,9 @@ from distac_view.showing.json_answers import Fields, json_of, name_or_none, name
 
 
 def rolling_answer(rolling: Rolling, failures: Iterable[Failure], notes: Iterable[Note]) -> str:
-    """The answer of `rolling`."""
     fields: Fields = {
         "order": names_of(rolling.order),
-        "moves": rolling.moves,
-        "waits": rolling.waits,
-        "restarts": rolling.restarts,
-        "compared": rolling.compared,
-        "worst": rolling.worst,
-        "takes": rolling.takes,
+        **{name: getattr(rolling, name) for name in ("moves", "waits", "restarts", "compared", "worst", "takes")},
         "gathered": sums_of(rolling.configuration),
         "steps": [step_fields(step) for step in rolling.steps],
         "failed": failed_fields(failures),
@@ -32,7 +26,6 @@ def rolling_answer(rolling: Rolling, failures: Iterable[Failure], notes: Iterabl
 
 
 def failed_fields(failures: Iterable[Failure]) -> list[Fields]:
-    """The fields of an answer's failures."""
     return [{"what": failure.what, "text": failure.text} for failure in failures]
 
 
@@ -45,7 +38,6 @@ def step_fields(step: Step) -> Fields:
 
 
 def move_fields(move: Move) -> Fields:
-    """The fields of a move."""
     places: Fields = {"application": bare_name(move.app), "from": name_or_none(move.source), "to": bare_name(move.node)}
     return {**places, "how": move.how, "milliseconds": move.milliseconds}
 
@@ -56,7 +48,6 @@ def waiter_fields(waiter: Waiter) -> Fields:
 
 
 def load_answer(load: Load, failures: Iterable[Failure], notes: Iterable[Note]) -> str:
-    """The answer of `load`."""
     rows = [row_fields(row) for row in (load.start, *load.rows)]
     fields: Fields = {"nodes": names_of(load.configuration.nodes), "nowhere": names_of(load.nowhere), "losses": rows}
     return json_of("load", {**fields, "gathered": sums_of(load.configuration), "failed": failed_fields(failures)}, notes)
@@ -70,7 +61,6 @@ def row_fields(row: Row) -> Fields:
 
 
 def changes_answer(changes: Changes, failures: Iterable[Failure], notes: Iterable[Note]) -> str:
-    """The answer of `what-if --then`."""
     fields: Fields = {"compared": changes.compared, "changes": [change_fields(change) for change in changes.changes]}
     fields["applications_added"], fields["applications_gone"] = map(names_of, changes.apps)
     fields["nodes_added"], fields["nodes_gone"] = map(names_of, changes.nodes)
@@ -82,13 +72,11 @@ def changes_answer(changes: Changes, failures: Iterable[Failure], notes: Iterabl
 
 
 def change_fields(change: Change) -> Fields:
-    """The fields of a change."""
     answers: Fields = {"old": place_fields(change.old), "new": place_fields(change.new)}
     return {"application": bare_name(change.app), "down": names_of(change.down), **answers}
 
 
 def place_fields(answer: Answer) -> Fields:
-    """The fields of an application's place."""
     return {
         "node": name_or_none(answer.place),
         "milliseconds": answer.milliseconds,
@@ -100,5 +88,4 @@ def place_fields(answer: Answer) -> Fields:
 
 
 def setting_fields(setting: Differing) -> Fields:
-    """The fields of a setting that differs."""
     return {"setting": setting.name, "application": name_or_none(setting.app), "old": setting.old, "new": setting.new}

@@ -48,7 +48,6 @@ def setting_row(setting: Differing) -> tuple[str, ...]:
 
 
 def change_rows(changes: Changes) -> Iterator[tuple[str, ...]]:
-    """The rows of changes."""
     short = changes.short
     for each in changes.changes:
         down = " ".join(short.each(each.down))
@@ -70,7 +69,6 @@ def parts_of(old: Answer, new: Answer, short: Short) -> Iterator[str]:
 
 
 def named(place: str | None, short: Short) -> str:
-    """The place of an application."""
     return short.one(place) if place else "nowhere"
 
 
@@ -104,8 +102,7 @@ def stale_line(changes: Changes) -> str:
 
 
 def notes_on(changes: Changes) -> Iterator[Note]:
-    """Advice for a rollout: about files that changed, about different lists, about times alone, and about applications
-    that one file has."""
+    """Advice for a rollout: changed files, different lists, times alone, and applications of one file."""
     if changes.stale:
         yield Note("Stale", shown(f"{stale_line(changes)}."))
     if any(setting.name in GATES for setting in changes.settings):

@@ -1,7 +1,5 @@
 """The answer of `ends` as text."""
 
-from __future__ import annotations
-
 from typing import Iterator, Mapping
 
 from distac_view.answering.caveats import below

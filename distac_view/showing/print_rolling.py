@@ -60,7 +60,6 @@ def hang_faults(rolling: Rolling, fail_on: list[str]) -> Iterator[Failure]:
 
 
 def found_how(rolling: Rolling) -> str:
-    """How the order was found."""
     if rolling.is_given:
         return ""
     if rolling.worst is None:
@@ -93,5 +92,4 @@ def target_of(move: Move, short: Short) -> str:
 
 
 def counted(count: int, noun: str) -> str:
-    """A number with its noun."""
     return f"{count} {noun}" if count == 1 else f"{count} {noun}s"

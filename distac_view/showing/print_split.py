@@ -1,7 +1,5 @@
 """The answer on a split: as tables with notes, and as JSON."""
 
-from __future__ import annotations
-
 from typing import Iterable, Iterator
 
 from distac_view.answering.caveats import TEXTS, below, idle_notes, is_in_tuple, start_notes
@@ -48,7 +46,6 @@ def lasting_line(reply: SplitReply) -> str:
 
 
 def side_rows(reply: SplitReply, shows_all: bool) -> "Iterator[tuple[str, ...]]":
-    """The rows of all sides."""
     for part in reply.parts:
         yield from part_rows(part, reply.configuration.short, shows_all)
 
@@ -127,7 +124,6 @@ def marks_notes(reply: SplitReply) -> Iterator[Note]:
 
 
 def split_answer(reply: SplitReply, notes: Iterable[Note]) -> str:
-    """The answer as JSON."""
     fields: Fields = {
         "nodes": names_of(reply.configuration.nodes),
         "net_ticktime": reply.tick_time,
@@ -148,6 +144,5 @@ def split_answer(reply: SplitReply, notes: Iterable[Note]) -> str:
 
 
 def part_fields(part: Part, tick_time: int) -> Fields:
-    """The fields of a side."""
     fates = [fate_fields(fate, tick_time) for fate in part.case.fates]
     return {"nodes": names_of(part.nodes), "applications": fates, "may_hang": names_of(part.case.may_hang)}

@@ -17,8 +17,7 @@ HEADS = ("down", "application", "now", "then", "how", "after", "outage", "back")
 
 
 def table_of(reply: Reply, shows_all: bool = False) -> Iterator[str]:
-    """The headlines, the duration of the loss, a table for each side, and notes. Rows that stay are shown only if
-    requested."""
+    """The headlines, the duration of the loss, a table for each side, and notes, with all rows if requested."""
     yield from what_if_headlines(reply)
     yield from reply.configuration.short.lines
     yield f"each loss lasts {lasting(reply.question.takes, reply.configuration)}"
@@ -26,7 +25,7 @@ def table_of(reply: Reply, shows_all: bool = False) -> Iterator[str]:
         if len(reply.sides) > 1:
             yield from [""] if number else []
             yield shown(f"side of {listed(bare_names(answers.side.members))}:")
-        yield from side_table(reply, answers, shows_all)
+        yield from lines_of_rows([HEADS, *rows_of_side(reply, answers, shows_all)])
     notes = [*nobody_lines(reply), *(f"- {note.text}" for note in notes_on(reply))]
     if notes:
         yield ""
@@ -38,11 +37,6 @@ def lasting(takes: int | None, configuration: Configuration) -> str:
     return f"longer than {max(configuration.timeouts.values())} ms" if takes is None else f"{takes} ms"
 
 
-def side_table(reply: Reply, answers: Answers, shows_all: bool) -> Iterator[str]:
-    """The table of one side."""
-    yield from lines_of_rows([HEADS, *rows_of_side(reply, answers, shows_all)])
-
-
 def rows_of_side(reply: Reply, answers: Answers, shows_all: bool) -> Iterator[tuple[str, ...]]:
     """The rows of one side. Applications that run nowhere from the start are listed below them."""
     nowhere = [held.app for held in nowhere_at_first(answers.side)]
@@ -51,8 +45,7 @@ def rows_of_side(reply: Reply, answers: Answers, shows_all: bool) -> Iterator[tu
 
 
 def case_rows(case: Case, nowhere: list[str], reply: Reply, shows_all: bool) -> Iterator[tuple[str, ...]]:
-    """The rows of a case: the applications that move, and the number that stays, without those that run nowhere all the
-    time."""
+    """The rows of a case: the applications that move, and the number that stays, except nowhere."""
     short = reply.configuration.short
     down, shown_ones = " ".join(short.each(case.down)), case.fates if shows_all else [fate for fate in case.fates if not fate.stays]
     for fate in shown_ones:

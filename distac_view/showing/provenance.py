@@ -1,7 +1,5 @@
 """The origin of a page: the command, the time, the files with their checksums, the version, and the program used."""
 
-from __future__ import annotations
-
 import argparse
 import hashlib
 import os
@@ -82,7 +80,6 @@ def without_folders(word: str, paths: List[str]) -> str:
 
 
 def file_at(path: str) -> File:
-    """A file with its checksum."""
     if path == PIPE or not os.path.isfile(path):
         return File(file_name(path), "")
     try:

@@ -51,7 +51,6 @@ class Layout:
         return self.digits + self.columns + 4
 
     def rows(self, one: Answered, explains: bool) -> Iterator[str]:
-        """The rows of a line with its answer."""
         text, number = shown(one.line.text), f"{one.line.number:>{self.digits}}"
         if not one.line.is_event:
             yield f"{number}  {text}".rstrip()
@@ -111,7 +110,6 @@ def unknown_names(each: list[Answered], configuration: Configuration) -> Iterato
 
 
 def unknown_in(line: Line, refusal: str, configuration: Configuration) -> Iterator[Remark]:
-    """The name for which a line is refused."""
     for place, (role, word) in enumerate(roles_in(line.words), 1):
         names = configuration.names if role is Role.APP else configuration.nodes
         is_meant = role in NAMES and (role is Role.APP) == (refusal == "UnknownApp")

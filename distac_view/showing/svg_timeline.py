@@ -46,10 +46,6 @@ class Lane:
         """The middle of its band, where arrows begin and end."""
         return self.left + 14 + BAND / 2
 
-    def bar_left(self, place: int) -> float:
-        """The left edge of an application's bar."""
-        return self.left + 14 + BAND + GAP + place * (BAR + 3)
-
 
 @dataclass(frozen=True)
 class Part:
@@ -60,7 +56,6 @@ class Part:
 
     @property
     def rows(self) -> range:
-        """Its rows."""
         return range(self.start, self.stop)
 
     def __contains__(self, row: int) -> bool:
@@ -196,12 +191,11 @@ class Drawing:
         return box(left, band.start * ROW + 4, width, (band.end - band.start) * ROW - 2, kind, words)
 
     def bar(self, bar: Bar, part: Part) -> str:
-        """An application that a node holds over some rows. Its term is at the head, and below it its name if there are
-        many."""
+        """An application that a node holds over some rows, with its term, and its name if there are many."""
         lane, held = self.lanes[bar.node], bar.held
         place = apps_at(self.timeline.configuration, bar.node).index(held.app)
         names = self.timeline.configuration.names
-        left, top = lane.bar_left(place), bar.start * ROW + 4
+        left, top = lane.left + 14 + BAND + GAP + place * (BAR + 3), bar.start * ROW + 4
         kept = "" if held.verdict == "kept" else " loose"
         claim = f"{bare_name(held.app)} at {bare_name(bar.node)}, term {held.term} {held.how}"
         said = f"{claim}, verdict {held.verdict}, {self.span(bar.start, bar.end)}"
@@ -246,7 +240,6 @@ class Drawing:
                 yield self.arrow(message, node, row, kind, f"line {self.timeline.rows[row].line.number}: {answer}")
 
     def arrow(self, message: Message, receiver: str, row: int, kind: str, end: str) -> str:
-        """An arrow from a sender to a receiver."""
         if receiver not in self.lanes or message.sender not in self.lanes:
             return ""
         start, stop = self.lanes[message.sender].middle, self.lanes[receiver].middle
@@ -277,7 +270,6 @@ def apps_at(configuration: Configuration, node: str) -> list[str]:
 
 
 def moment_of(one: Answered) -> str:
-    """The moment of a line, if it has one."""
     moment = word_of(one.line.words, Role.MOMENT) if one.line.is_event else None
     return f"{moment} ms" if moment else ""
 

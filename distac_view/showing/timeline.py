@@ -17,8 +17,6 @@ SHIPPED = re.compile(r"shipped (?P<number>\d+) (?P<kind>whole|interval|nothing)"
 
 
 class State(Enum):
-    """The state of a node."""
-
     OFF = "off"
     UP = "up"
     SAID_DOWN = "said to be down, and hasn't heard it"
@@ -139,7 +137,6 @@ class Drafting:
             self.go_on_holding(node, page, app, row)
 
     def state_of(self, node: str, page: Page) -> State:
-        """The state of a node, from its own page and from any page about it."""
         if page.inc is None:
             return State.OFF
         if not page.can_act(node):
@@ -193,7 +190,6 @@ class Drafting:
             message.heard.append((name_of(one.line.words[1]), row, one.first))
 
     def add_claims(self, one: Answered, row: int) -> None:
-        """Adds the claims of a tick."""
         moment = int(one.line.words[2])
         for line in one.answer[1:]:
             claim = CLAIM.match(line)

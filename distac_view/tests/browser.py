@@ -1,7 +1,5 @@
 """Chromium without a window, controlled by its developer pipe: measurements of a page, pictures, and prints."""
 
-from __future__ import annotations
-
 import base64
 import json
 import os
@@ -11,7 +9,7 @@ import subprocess
 import tempfile
 import time
 from pathlib import Path
-from typing import Any, Dict, List, Optional
+from typing import Any, Optional
 
 NAMES = ("chromium", "chromium-browser", "google-chrome")
 MOST_SECONDS = 60
@@ -19,7 +17,7 @@ WORDS = ("--headless", "--no-sandbox", "--disable-gpu", "--disable-dev-shm-usage
 # The browser reads commands from its file 3, and answers to its file 4.
 SHELL = 'in="$1" out="$2"; shift 2; eval "exec \\"\\$@\\" 3<&$in 4>&$out"'
 
-Fields = Dict[str, Any]
+Fields = dict[str, Any]
 
 
 def browser_here() -> Optional[str]:
@@ -37,7 +35,7 @@ class Browser:
         self.asked = 0
         self.rest = b""
         self.session = ""
-        self.events: List[Fields] = []
+        self.events: list[Fields] = []
 
     def __enter__(self) -> "Browser":
         asking, self.to = os.pipe()
@@ -105,23 +103,21 @@ class Browser:
         while not self.told("Page.loadEventFired"):
             self.next_told()
 
-    def told(self, method: str) -> List[Fields]:
+    def told(self, method: str) -> list[Fields]:
         """The events of a kind since the page was opened."""
         return [event["params"] for event in self.events if event["method"] == method]
 
     def value(self, expression: str) -> Any:
-        """The value of an expression on the page."""
         found = self.ask("Runtime.evaluate", expression=expression, returnByValue=True)
         assert "exceptionDetails" not in found, found
         return found["result"].get("value")
 
-    def names_of(self, role: str) -> List[str]:
+    def names_of(self, role: str) -> list[str]:
         """The names of all elements of a role for a screen reader."""
         nodes = [node for node in self.ask("Accessibility.getFullAXTree")["nodes"] if not node["ignored"]]
         return [str(node.get("name", {}).get("value", "")) for node in nodes if node.get("role", {}).get("value") == role]
 
     def picture(self) -> bytes:
-        """A picture of the window."""
         return base64.b64decode(self.ask("Page.captureScreenshot")["data"])
 
     def paper(self) -> bytes:

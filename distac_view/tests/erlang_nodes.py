@@ -33,7 +33,6 @@ def is_installed() -> bool:
 
 
 def release_of_otp() -> str:
-    """The release of OTP, and the version of kernel."""
     version = "element(3,lists:keyfind(kernel,1,application:loaded_applications()))"
     text = f'io:format("OTP ~s, kernel ~s",[erlang:system_info(otp_release),{version}]),halt().'
     done = subprocess.run(["erl", "-noinput", "-boot", "start_clean", "-eval", text], capture_output=True, text=True, timeout=60, check=True)
@@ -97,7 +96,6 @@ class Node:
         self.told.put("ended")
 
     def order(self, text: str) -> None:
-        """Gives an order."""
         try:
             self.process.stdin.write(text + "\n")  # type: ignore[union-attr]
             self.process.stdin.flush()  # type: ignore[union-attr]

@@ -7,13 +7,11 @@ The schema accepts further fields and ids, because later programs may add them. 
 described.
 """
 
-from __future__ import annotations
-
 import json
 import re
 import sys
 from pathlib import Path
-from typing import Any, Dict, Iterator, List
+from typing import Any, Iterator
 
 DOCS = Path(__file__).resolve().parents[2] / "docs"
 FIELDS, SCHEMA = DOCS / "json-fields.txt", DOCS / "distac-view.schema.json"
@@ -22,7 +20,7 @@ NOTE_ID = re.compile(r"^\| `(?P<id>[A-Z]\w+)` \| ", re.MULTILINE)
 KINDS = {"name": "string", "text": "string", "number": "integer", "null": "null"}
 TYPES = {"string": str, "integer": int, "boolean": bool, "array": list, "object": dict, "null": type(None)}
 
-Rule = Dict[str, Any]
+Rule = dict[str, Any]
 
 
 def described() -> Rule:
@@ -31,8 +29,8 @@ def described() -> Rule:
     A row can name several objects; one that names none belongs to those above it.
     """
     text = FIELDS.read_text(encoding="utf-8")
-    objects: List[str] = []
-    fields: "Dict[str, Dict[str, tuple[str, str]]]" = {}
+    objects: list[str] = []
+    fields: "dict[str, dict[str, tuple[str, str]]]" = {}
     for found in FIELD.finditer(text):
         objects = re.findall(r"[\w-]+", found["objects"]) or objects
         for one in objects:
@@ -44,8 +42,7 @@ def described() -> Rule:
     return {**head, "anyOf": questions, "$defs": definitions}
 
 
-def object_rule(fields: "Dict[str, tuple[str, str]]", objects: "set[str]") -> Rule:
-    """The schema of an object."""
+def object_rule(fields: "dict[str, tuple[str, str]]", objects: "set[str]") -> Rule:
     properties = {name: {**rule_of(value, objects), "description": meaning} for name, (value, meaning) in fields.items()}
     return {"type": "object", "properties": properties, "required": list(fields)}
 
@@ -57,19 +54,17 @@ def rule_of(kind: str, objects: "set[str]") -> Rule:
     if kind in objects:
         return {"$ref": f"#/$defs/{kind}"}
     choices = re.split(r", | or ", kind)
-    rules: List[Rule] = [{"type": KINDS[choice]} for choice in choices if choice in KINDS]
+    rules: list[Rule] = [{"type": KINDS[choice]} for choice in choices if choice in KINDS]
     constants = [json.loads(choice) for choice in choices if choice not in KINDS]
     rules += [{"const": constants[0]} if len(constants) == 1 else {"enum": constants}] if constants else []
     return rules[0] if len(rules) == 1 else {"anyOf": rules}
 
 
 class Schema:
-    """A schema for answers."""
-
     def __init__(self, schema: Rule) -> None:
         self.schema = schema
 
-    def faults_of(self, answer: str) -> List[str]:
+    def faults_of(self, answer: str) -> list[str]:
         """The faults of a whole answer, as sentences."""
         value = json.loads(answer)
         question = value.get("question") if isinstance(value, dict) else None
@@ -78,7 +73,6 @@ class Schema:
         return list(self.faults_in(value, self.schema["$defs"][question], str(question)))
 
     def faults_in(self, value: Any, rule: Rule, place: str) -> Iterator[str]:
-        """The faults of a value."""
         if "$ref" in rule:
             yield from self.faults_in(value, self.schema["$defs"][rule["$ref"].split("/")[-1]], place)
         if "anyOf" in rule and all(list(self.faults_in(value, choice, place)) for choice in rule["anyOf"]):
@@ -111,7 +105,6 @@ def documented() -> Schema:
 
 
 def text_of(schema: Rule) -> str:
-    """The file of a schema."""
     return json.dumps(schema, indent=2) + "\n"
 
 

@@ -1,7 +1,5 @@
 """Random clusters: one configuration, and equivalent files of all its nodes in other spellings."""
 
-from __future__ import annotations
-
 from dataclasses import dataclass
 from pathlib import Path
 from random import Random
@@ -33,8 +31,7 @@ class RandomCluster:
         return "[{kernel,[%s]}]." % ",".join(parts)
 
     def files_of(self, node: str, folder: Path) -> "list[Path]":
-        """The files of a node: its parameters in other spellings, among those of other applications, in one file or
-        several."""
+        """The files of a node: its parameters in other spellings, among those of others, in one file or several."""
         parameters = self.parameters_of(node)
         self.random.shuffle(parameters)
         parts = [parameters]
@@ -53,7 +50,6 @@ class RandomCluster:
         return path
 
     def parameters_of(self, node: str) -> "list[str]":
-        """Kernel's parameters of a node."""
         entries = [entry(name, spelled(self.random, time), turned(self.random, groups)) for name, (time, groups) in self.apps.items()]
         parts = ["{distributed,[%s]}" % ",".join(entries), "{logger_level,%s}" % random_term(self.random, 1)]
         parts.append("{permissions,[%s]}" % ",".join("{%s,%s}" % (name, str(name not in self.barred).lower()) for name in self.apps))
@@ -79,7 +75,6 @@ def random_cluster(random: Random) -> RandomCluster:
 
 
 def random_groups(random: Random, nodes: list[str]) -> list[list[str]]:
-    """Some nodes in groups."""
     chosen, groups = random.sample(nodes, random.randint(1, len(nodes))), []
     while chosen:
         count = random.choice((1, 1, 2, 3))
@@ -89,7 +84,6 @@ def random_groups(random: Random, nodes: list[str]) -> list[list[str]]:
 
 
 def entry(name: str, time: str, groups: list[list[str]]) -> str:
-    """An entry of `distributed`."""
     items = [group[0] if len(group) == 1 else "{%s}" % ",".join(group) for group in groups]
     return "{%s,[%s]}" % (name, ",".join(items)) if time == "0" else "{%s,%s,[%s]}" % (name, time, ",".join(items))
 
@@ -100,6 +94,5 @@ def turned(random: Random, groups: list[list[str]]) -> list[list[str]]:
 
 
 def spelled(random: Random, number: int) -> str:
-    """A number in one of Erlang's spellings."""
     ways = (str(number), f"16#{number:x}", f"+{number}", f"2#{number:b}", f"({number})", f"{number:_}")
     return random.choice(ways) if number else "0"

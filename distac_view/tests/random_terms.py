@@ -1,7 +1,5 @@
 """Random texts of Erlang's term syntax, as in configuration files."""
 
-from __future__ import annotations
-
 from random import Random
 
 NAMES = ("a", "b@h", "'c d'", "'it\\'s'", "'\\x{e9}\\101\\^a'", "'Été'", "été", "ok", "infinity", "'end'", "x_1@Y")
@@ -15,7 +13,6 @@ BLANKS = ("", "", " ", "\n", "\t", " % a comment with ] and \" and '\n", "\u00a0
 
 
 def random_term(random: Random, depth: int) -> str:
-    """A term in a random spelling."""
     kind = random.randrange(12 if depth else 7)
     if kind < 7:
         return random.choice((NAMES, NUMBERS, STRINGS, BINARIES, FUNS, NAMES, NUMBERS)[kind])

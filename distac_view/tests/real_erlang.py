@@ -11,8 +11,6 @@ environment variable DISTAC names, or else the models. It isn't part of the test
 on the release of OTP. Each case has its own nodes, which are started, killed and started again.
 """
 
-from __future__ import annotations
-
 import argparse
 import json
 import signal
@@ -59,11 +57,9 @@ class Scenario:
 
     @property
     def names(self) -> list[str]:
-        """The names of its applications."""
         return [app for app, _, _ in self.apps]
 
     def distributed(self) -> str:
-        """The value of `distributed`."""
         entries = ["{%s,%s,%s}" % (app, milliseconds, whole(nodes)) for app, milliseconds, nodes in self.apps]
         return "[%s]" % ",\n      ".join(entries)
 
@@ -107,7 +103,7 @@ NODE_FILE = """\
 
 
 # the fields of an application in `what-if --json`
-Fate = Dict[str, Any]
+Fate = dict[str, Any]
 
 
 @dataclass(frozen=True)
@@ -163,7 +159,6 @@ def expected(fates: list[Fate], moment: str) -> dict[str, str | None]:
 
 
 def run_case(scenario: Scenario, down: tuple[str, ...], score: Score) -> None:
-    """One case with its own nodes."""
     apps = {app: scenario.start_takes for app in scenario.names}
     with tempfile.TemporaryDirectory(prefix="distac-nodes-") as room, Cluster(Path(room), apps) as cluster:
         case = prepared(scenario, down, Path(room), {})
@@ -201,15 +196,11 @@ def tell_case(case: Case, observed: dict[str, dict[str, str | None]], outages: d
         kind = kind_of(case, observed, wanted, found, moment)
         kinds[kind] += 1
         score.add(kind, f"{head}: {app} {moment} {wanted}, and OTP has {found}: {kind}" if kind != "agree" else "")
-    moves = [(fate["application"], fate["milliseconds"]) for fate in case.fates if is_moved(fate, outages)]
+    moved = (fate for fate in case.fates if fate["milliseconds"] is not None and fate["application"] in outages)
+    moves = [(fate["application"], fate["milliseconds"]) for fate in moved]
     returns = [f"{app} {outages[app] * 1000:.0f} ms ({milliseconds})" for app, milliseconds in moves]
     warned = "; warned of a hang" if case.may_hang else ""
     print(f"{head}: {', '.join(f'{count} {kind}' for kind, count in kinds.items())}{warned}; back after {', '.join(returns) or 'nothing'}", flush=True)
-
-
-def is_moved(fate: Fate, outages: dict[str, float]) -> bool:
-    """Whether an application was expected to move and return."""
-    return fate["milliseconds"] is not None and fate["application"] in outages
 
 
 def kind_of(case: Case, observed: dict[str, dict[str, str | None]], wanted: str | None, found: str | None, moment: str) -> str:
@@ -239,7 +230,7 @@ ROLLED = (
     (HALF.name, (1, 0, 2), 4_000),
 )
 # the fields of a step, or of a move, in `rolling --json`
-Said = Dict[str, Any]
+Said = dict[str, Any]
 
 
 def roll(scenario: Scenario, order: list[str], takes: int | None, score: Score) -> None:
@@ -269,7 +260,6 @@ def roll(scenario: Scenario, order: list[str], takes: int | None, score: Score) 
 
 
 def moved(places: dict[str, str | None], moves: list[Said]) -> dict[str, str | None]:
-    """The places of applications after some moves."""
     return {**places, **{move["application"]: move["to"] for move in moves}}
 
 

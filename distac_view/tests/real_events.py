@@ -3,15 +3,13 @@
 Chains of losses, permissions of single nodes, starts that fail, and splits, for real_erlang.py.
 """
 
-from __future__ import annotations
-
 import json
 import tempfile
 import time
 from collections import Counter
 from dataclasses import dataclass, field
 from pathlib import Path
-from typing import Any, Dict, List, Tuple
+from typing import Any
 
 from erlang_nodes import HOST, Cluster
 from real_shared import LATE_SECONDS, NODES, Score, bare, seen, wait_for, whole
@@ -32,24 +30,22 @@ class Walk:
     """
 
     name: str
-    apps: "Tuple[Tuple[str, int, str], ...]"
-    events: "Tuple[Tuple[str, str], ...]"
-    forbidden: "Dict[str, str]" = field(default_factory=dict)
-    fails: "Dict[str, str]" = field(default_factory=dict)
+    apps: "tuple[tuple[str, int, str], ...]"
+    events: "tuple[tuple[str, str], ...]"
+    forbidden: "dict[str, str]" = field(default_factory=dict)
+    fails: "dict[str, str]" = field(default_factory=dict)
     start_type: str = "temporary"
 
     @property
-    def names(self) -> List[str]:
-        """The names of its applications."""
+    def names(self) -> list[str]:
         return [app for app, _, _ in self.apps]
 
     def text(self, node: str) -> str:
-        """The file of a node."""
         entries = ",".join("{%s,%d,%s}" % each for each in self.apps)
         return whole(FILE % (entries, ",".join("{%s,false}" % app for app in self.forbidden.get(node, "").split())))
 
     @property
-    def words(self) -> List[str]:
+    def words(self) -> list[str]:
         """The words about starts that fail."""
         pairs = [f"{app}={node}" for node, apps in self.fails.items() for app in apps.split()]
         temporary = ["--temporary", *self.names] if self.start_type == "temporary" else []
@@ -83,7 +79,6 @@ WALKS = {"chains": CHAINS, "permissions": PERMISSIONS, "starts that fail": FAILI
 
 
 def take(walk: Walk, score: Score) -> None:
-    """A walk with its own nodes."""
     longest = max(milliseconds for _, milliseconds, _ in walk.apps) / 1000
     with tempfile.TemporaryDirectory(prefix="distac-nodes-") as room, Cluster(Path(room), dict.fromkeys(walk.names, 0)) as cluster:
         config = gathered(walk, Path(room))
@@ -117,7 +112,7 @@ def gathered(walk: Walk, room: Path) -> Path:
     return room / "cluster.config"
 
 
-def boot(cluster: Cluster, walk: Walk, nodes: List[str]) -> None:
+def boot(cluster: Cluster, walk: Walk, nodes: list[str]) -> None:
     """Nodes come up, and start all applications in turn. A node where a start fails may end."""
     for node in nodes:
         short = node.split("@")[0]
@@ -135,13 +130,13 @@ def tell_failures(cluster: Cluster, walk: Walk) -> None:
         cluster.nodes[f"{short}@{HOST}"].order(f"fails {apps}")
 
 
-def places_now(cluster: Cluster, names: List[str]) -> str:
+def places_now(cluster: Cluster, names: list[str]) -> str:
     """The file of `--now`: each node that is up, with what runs there."""
     places = seen(cluster, names)
     return "".join(f"{node.name} {' '.join(app for app in names if places[app] == node.name)}\n" for node in cluster.up())
 
 
-def expected(walk: Walk, config: Path, what: str, now: Path, node: str) -> "Dict[str, str | None]":
+def expected(walk: Walk, config: Path, what: str, now: Path, node: str) -> "dict[str, str | None]":
     """The place of each application after an event, by `what-if`."""
     said = run_view("what-if", str(config), "--json", "--now", str(now), f"--{what}", node, *walk.words)
     if said.status:
@@ -151,7 +146,6 @@ def expected(walk: Walk, config: Path, what: str, now: Path, node: str) -> "Dict
 
 
 def compare_split(way: real_splits.Way, score: Score) -> None:
-    """One configuration of real_splits.py, split in a way."""
     counts: "Counter[str]" = Counter()
     real_splits.run_split(real_splits.SCENARIOS[0], real_splits.SPLITS[0], way, counts)
     for what, count in counts.items():

@@ -103,8 +103,7 @@ def seen(cluster: Cluster, names: list[str]) -> dict[str, str | None]:
 
 
 def wait_for(cluster: Cluster, wanted: dict[str, str | None], seconds: float) -> tuple[dict[str, str | None], dict[str, float]]:
-    """The places once they are as expected for half a second, or at the time limit, and the moment at which each
-    application first ran."""
+    """The places once they were as expected for half a second, or at the limit, and when each first ran."""
     start = time.monotonic()
     since: float | None = None
     when: dict[str, float] = {}

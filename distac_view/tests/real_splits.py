@@ -9,8 +9,6 @@ parameter prevent_overlapping_partitions false and true. Then the cookies are re
 the end the nodes of all sides but the first are restarted.
 """
 
-from __future__ import annotations
-
 import argparse
 import json
 import sys
@@ -19,7 +17,7 @@ import time
 from collections import Counter
 from dataclasses import dataclass
 from pathlib import Path
-from typing import Any, Dict, List
+from typing import Any
 
 sys.dont_write_bytecode = True
 sys.path.insert(0, str(Path(__file__).resolve().parent))
@@ -38,7 +36,7 @@ CONFIG = """\
    {{logger_level, critical}}]}}].
 """
 
-Places = Dict[str, List[str]]
+Places = dict[str, list[str]]
 
 
 @dataclass(frozen=True)
@@ -65,8 +63,7 @@ def whole(nodes: str) -> str:
 
 @dataclass(frozen=True)
 class Way:
-    """How nodes are separated: whether OTP prevents overlapping partitions, and whether all connections break at
-    once."""
+    """How nodes are separated: whether OTP prevents overlaps, and whether all connections break at once."""
 
     name: str
     prevents: bool
@@ -173,8 +170,7 @@ def sides_formed(heard: "dict[str, list[str]]") -> "tuple[str, ...]":
 
 
 def tell(way: Way, answer: Any, seen: "dict[str, Places]", counts: "Counter[str]") -> None:
-    """Counts agreement, and prints a line for each difference. After the restart one copy is expected if one was
-    left."""
+    """Counts agreement, and prints each difference. After the restart one copy is expected if one was left."""
     for each in answer["healed"]:
         app, left = each["application"], seen["healed"][each["application"]]
         wanted = {"during": sorted(each["copies"]), "healed": sorted(each["copies"]), "back": [each["back"]] if each["back"] else []}

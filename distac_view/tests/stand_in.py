@@ -3,7 +3,7 @@
 
 import sys
 from pathlib import Path
-from typing import Callable, Dict, Tuple
+from typing import Callable
 
 sys.dont_write_bytecode = True
 sys.path.insert(0, str(Path(__file__).resolve().parents[2] / "models"))
@@ -12,11 +12,10 @@ import check
 import live
 import simulator
 
-MODELS: Dict[str, Callable[[bytes], Tuple[bytes, int]]] = {"check": check.check, "sim": simulator.simulate, "live": live.run_live}
+MODELS: dict[str, Callable[[bytes], tuple[bytes, int]]] = {"check": check.check, "sim": simulator.simulate, "live": live.run_live}
 
 
 def main() -> int:
-    """Answers one call."""
     output, status = MODELS[sys.argv[1]](sys.stdin.buffer.read())
     sys.stdout.buffer.write(output)
     return status

@@ -1,22 +1,26 @@
 """Shared parts of the tests: the repository, `distac`, and `distac-view` run in this process or in its own."""
 
-from __future__ import annotations
-
+import contextlib
 import io
+import json
 import os
 import signal
 import subprocess
 import sys
 import tempfile
+import time
 import unittest
+from collections.abc import Callable, Iterator
 from dataclasses import dataclass
+from html.parser import HTMLParser
 from pathlib import Path
+from typing import Any
 from unittest import mock
 
 TOP = Path(__file__).resolve().parents[2]
 EXAMPLES = TOP / "examples"
-MISTAKES = Path(__file__).resolve().parent / "mistakes"
-STAND_IN = Path(__file__).resolve().parent / "stand_in.py"
+HERE = TOP / "distac_view" / "tests"
+MISTAKES, NODES, STAND_IN = HERE / "mistakes", HERE / "nodes", HERE / "stand_in.py"
 PROGRAM = os.environ.get("DISTAC") or str(STAND_IN)
 IS_STAND_IN = PROGRAM == str(STAND_IN)
 
@@ -26,6 +30,7 @@ sys.path[:0] = [str(TOP), str(TOP / "models")]
 if signal.getsignal(signal.SIGINT) == signal.SIG_IGN:
     signal.signal(signal.SIGINT, signal.default_int_handler)
 
+from json_schema import documented
 from distac_view.asking.program import Distac, found_distac
 from distac_view.cli import command_line
 
@@ -53,6 +58,52 @@ class InRoom(unittest.TestCase):
         path.parent.mkdir(parents=True, exist_ok=True)
         path.write_bytes(text.encode("utf-8", "surrogateescape"))
         return path
+
+    def script(self, name: str, text: str) -> Path:
+        """A script of the shell that can be run."""
+        path = self.write(name, f"#!/bin/sh\n{text}\n")
+        path.chmod(0o755)
+        return path
+
+    def names(self) -> list[str]:
+        """The contents of the folder."""
+        return sorted(path.name for path in self.room.iterdir())
+
+    def until(self, holds: Callable[[], bool]) -> None:
+        """Waits until something holds."""
+        last = time.monotonic() + 60
+        while not holds():
+            self.assertLess(time.monotonic(), last)
+            time.sleep(0.05)
+
+    def answer(self, status: int, *words: str) -> Any:
+        """An answer as JSON, which fits its schema."""
+        said = view(*words, "--json")
+        self.assertEqual((said.status, documented().faults_of(said.output)), (status, []), said)
+        return json.loads(said.output)
+
+
+class Elements(HTMLParser):
+    """The elements of a page in order, with their attributes."""
+
+    def __init__(self, page: str) -> None:
+        super().__init__()
+        self.found: list[tuple[str, dict[str, str]]] = []
+        self.feed(page)
+
+    def handle_starttag(self, tag: str, attrs: list[tuple[str, str | None]]) -> None:
+        self.found.append((tag, {name: value or "" for name, value in attrs}))
+
+
+@contextlib.contextmanager
+def inside(folder: Path) -> Iterator[None]:
+    """Works in a folder."""
+    before = os.getcwd()
+    os.chdir(folder)
+    try:
+        yield
+    finally:
+        os.chdir(before)
 
 
 def hear_signals() -> None:
@@ -88,11 +139,16 @@ def status_of(words: list[str]) -> int:
 
 
 def written(stream: io.TextIOWrapper) -> str:
-    """The text written to a stream in memory."""
     stream.flush()
     kept = stream.buffer
     assert isinstance(kept, io.BytesIO)
     return kept.getvalue().decode("utf-8", "surrogateescape")
+
+
+def gather(*words: str, folder: Path = NODES) -> Said:
+    """The output of `gather` for files in a folder."""
+    with inside(folder):
+        return view("gather", *words)
 
 
 def run_view(*words: str, source: bytes = b"", program: str = PROGRAM) -> Said:

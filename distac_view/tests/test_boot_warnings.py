@@ -1,9 +1,5 @@
 """Warnings of `check` on files with which a node of OTP doesn't boot, isn't waited for, or hangs."""
 
-from __future__ import annotations
-
-import unittest
-
 from support import InRoom, view
 
 PLACED = "{kernel,[{distributed,[{a,500,[x@h,{y@h,z@h}]},{b,700,[y@h,x@h]}]}%s]}"
@@ -37,9 +33,7 @@ class BootWarnings(InRoom):
     """OTP's objections to a file that `distac` accepts."""
 
     def errors_on(self, sections: str, name: str = "node.config", words: "tuple[str, ...]" = ()) -> str:
-        """The warnings on a file."""
-        path = self.write(name, f"[\n {sections}].\n")
-        said = view("check", str(path), *words)
+        said = view("check", str(self.write(name, f"[\n {sections}].\n")), *words)
         self.assertEqual(said.status, 1 if words and said.errors else 0, said)
         return said.errors
 
@@ -108,7 +102,3 @@ class BootWarnings(InRoom):
         said = view("check", str(path))
         self.assertEqual(said.status, 0)
         self.assertIn("1:12: NotErlang: Erlang doesn't read this file: the file isn't UTF-8 here", said.errors)
-
-
-if __name__ == "__main__":
-    unittest.main()

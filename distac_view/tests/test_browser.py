@@ -3,13 +3,10 @@
 It requires chromium in PATH, as in Debian's package of that name; without one these tests are skipped.
 """
 
-from __future__ import annotations
-
 import re
 import tempfile
 import unittest
 from pathlib import Path
-from typing import Dict, List
 
 from browser import Browser, browser_here
 from support import EXAMPLES, view
@@ -66,7 +63,7 @@ class InBrowser(unittest.TestCase):
     """The pages, opened in a window and printed."""
 
     room: Path
-    pages: Dict[str, Path]
+    pages: dict[str, Path]
     browser: Browser
 
     @classmethod
@@ -142,7 +139,7 @@ class InBrowser(unittest.TestCase):
             self.assertEqual(facts["lang"], "en")
             self.assertEqual(facts["viewport"], "width=device-width, initial-scale=1")
             self.assertRegex(facts["title"], r"\A[A-Z][a-z ]+: [^/]+\Z")
-            levels: List[int] = facts["levels"]
+            levels: list[int] = facts["levels"]
             self.assertEqual((levels[0], levels.count(1)), (1, 1), name)
             self.assertTrue(all(later <= earlier + 1 for earlier, later in zip(levels, levels[1:])), (name, levels))
 
@@ -174,7 +171,3 @@ class InBrowser(unittest.TestCase):
         self.assertIn("node-00@ rack-0.example.org", self.browser.names_of("rowheader"))
         self.assertIn("application", self.browser.names_of("columnheader"))
         self.assertIn("Each loss", self.browser.names_of("region"))
-
-
-if __name__ == "__main__":
-    unittest.main()

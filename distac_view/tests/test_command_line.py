@@ -1,15 +1,10 @@
 """The command line: exit statuses, help, missing files, failing programs, and readers that go away."""
 
-from __future__ import annotations
-
 import codecs
-import json
 import os
 import re
 import subprocess
 import sys
-import tempfile
-import unittest
 from pathlib import Path
 
 from support import EXAMPLES, MISTAKES, PROGRAM, TOP, InRoom, Said, run_view, view
@@ -26,7 +21,7 @@ COMMANDS = (
 )
 
 
-class Statuses(unittest.TestCase):
+class Statuses(InRoom):
     """0 for success, 1 for a strict warning, 2 for a fault or wrong use."""
 
     def expect(self, status: int, said: Said, error: str = "") -> None:
@@ -50,24 +45,20 @@ class Statuses(unittest.TestCase):
             self.assertTrue(said.output.startswith(f"{TYPO}:"), said)
 
     def test_faults_of_the_script_before(self) -> None:
-        with tempfile.TemporaryDirectory() as room:
-            path = Path(room) / "script"
-            for lines, error in (("boot cp1@cave\n", "BadCount"), ("tell cp1@cave\n", "BadCount"), ("boot cp9@cave 0\n", "UnknownActor")):
-                path.write_text(Path(MANUAL).read_text() + "--\n" + lines)
-                said = view("what-if", MANUAL, "--after", str(path))
-                self.expect(2, said)
-                self.assertIn(error, said.output)
-            path.write_text(Path(FAILOVER).read_text().replace("5000", "6000"))
-            self.expect(2, view("what-if", MANUAL, "--after", str(path)), "another configuration")
+        for lines, error in (("boot cp1@cave\n", "BadCount"), ("tell cp1@cave\n", "BadCount"), ("boot cp9@cave 0\n", "UnknownActor")):
+            path = self.write("script", Path(MANUAL).read_text() + "--\n" + lines)
+            said = view("what-if", MANUAL, "--after", str(path))
+            self.expect(2, said)
+            self.assertIn(error, said.output)
+        path = self.write("script", Path(FAILOVER).read_text().replace("5000", "6000"))
+        self.expect(2, view("what-if", MANUAL, "--after", str(path)), "another configuration")
 
     def test_warnings(self) -> None:
         self.expect(0, view("check", WARNED), "UnknownPermission")
         self.expect(1, view("check", "--strict", WARNED), "UnknownPermission")
         self.expect(1, view("check", "--strict", MANUAL), "OwnFile")
-        with tempfile.TemporaryDirectory() as room:
-            path = Path(room) / "shared.config"
-            path.write_text(Path(MANUAL).read_text().replace("[cp2@cave, cp3", "[cp1@cave, cp2@cave, cp3"))
-            self.expect(0, view("check", "--strict", str(path)))
+        path = self.write("shared.config", Path(MANUAL).read_text().replace("[cp2@cave, cp3", "[cp1@cave, cp2@cave, cp3"))
+        self.expect(0, view("check", "--strict", str(path)))
         self.expect(0, view("play", str(MISTAKES / "s03_unknown_about.distac")), "is cp1@cave meant?")
         self.expect(1, view("play", "--strict", str(MISTAKES / "s03_unknown_about.distac")), "UnknownNode")
 
@@ -92,14 +83,13 @@ class Statuses(unittest.TestCase):
         self.expect(0, view("check", MANUAL, WARNED), "UnknownPermission")
 
     def test_byte_order_marks(self) -> None:
-        with tempfile.TemporaryDirectory() as room:
-            path = Path(room) / "file"
-            for mark in (codecs.BOM_UTF8, codecs.BOM_UTF16_LE, codecs.BOM_UTF16_BE):
-                for command, source in (("check", MANUAL), ("play", FAILOVER)):
-                    path.write_bytes(mark + Path(source).read_bytes())
-                    said = view(command, str(path))
-                    self.expect(2, said)
-                    self.assertIn("the file begins with a byte order mark", said.output)
+        path = self.room / "file"
+        for mark in (codecs.BOM_UTF8, codecs.BOM_UTF16_LE, codecs.BOM_UTF16_BE):
+            for command, source in (("check", MANUAL), ("play", FAILOVER)):
+                path.write_bytes(mark + Path(source).read_bytes())
+                said = view(command, str(path))
+                self.expect(2, said)
+                self.assertIn("the file begins with a byte order mark", said.output)
 
     def test_files_that_cannot_be_read(self) -> None:
         for path in ("/no/such/file", str(TOP), "\0", "x" * 5_000):
@@ -111,25 +101,23 @@ class Statuses(unittest.TestCase):
             self.assertEqual(run_view("play", "--plain", "-", source=file.read()).output, Path(FAILOVER).read_text())
 
     def test_allowed_warnings(self) -> None:
-        with tempfile.TemporaryDirectory() as room:
-            path = str(Path(room) / "a.config")
-            Path(path).write_text("[{kernel,[{distributed,[{a,5,[n1@h,{n2@h,n3@h}]},{b,5,[n1@h,{n2@h,n3@h}]},{'C-c',1,[n1@h]}]}]}].")
-            rows: "list[tuple[list[str], list[str]]]" = [
-                ([], ["EqualTimes", "SingleNode"]),
-                (["SingleNode:C-c"], ["EqualTimes"]),
-                (["SingleNode:a", "EqualTimes:b"], ["EqualTimes", "SingleNode"]),
-                (["SingleNode:'C-c'", "EqualTimes:a", "EqualTimes:b"], []),
-                (["SingleNode", "EqualTimes"], []),
-            ]
-            for allowed, left in rows:
-                words = ("check", path, "--strict", *(["--allow", *allowed] if allowed else []))
-                said, remarks = view(*words), json.loads(view(*words, "--json").output)["files"][0]["remarks"]
-                self.assertEqual((said.status, sorted(re.findall(r": ([A-Z][A-Za-z]+): ", said.errors))), (1 if left else 0, left), allowed)
-                self.assertEqual(sorted(each["id"] for each in remarks if not each["allowed"]), left)
-                self.assertEqual(len(remarks), 2)
+        path = self.write("a.config", "[{kernel,[{distributed,[{a,5,[n1@h,{n2@h,n3@h}]},{b,5,[n1@h,{n2@h,n3@h}]},{'C-c',1,[n1@h]}]}]}].")
+        rows: "list[tuple[list[str], list[str]]]" = [
+            ([], ["EqualTimes", "SingleNode"]),
+            (["SingleNode:C-c"], ["EqualTimes"]),
+            (["SingleNode:a", "EqualTimes:b"], ["EqualTimes", "SingleNode"]),
+            (["SingleNode:'C-c'", "EqualTimes:a", "EqualTimes:b"], []),
+            (["SingleNode", "EqualTimes"], []),
+        ]
+        for allowed, left in rows:
+            words = ("check", str(path), "--strict", *(["--allow", *allowed] if allowed else []))
+            said, remarks = view(*words), self.answer(1 if left else 0, *words)["files"][0]["remarks"]
+            self.assertEqual((said.status, sorted(re.findall(r": ([A-Z][A-Za-z]+): ", said.errors))), (1 if left else 0, left), allowed)
+            self.assertEqual(sorted(each["id"] for each in remarks if not each["allowed"]), left)
+            self.assertEqual(len(remarks), 2)
 
     def test_json(self) -> None:
-        fates = json.loads(view("what-if", MANUAL, "--down", "cp1@cave", "cp2@cave", "--json").output)["cases"][0]["applications"]
+        fates = self.answer(0, "what-if", MANUAL, "--down", "cp1@cave", "cp2@cave")["cases"][0]["applications"]
         self.assertEqual((fates[0]["then"], fates[0]["how"], fates[0]["milliseconds"]), ("cp3@cave", "failover", 5000))
 
 
@@ -137,10 +125,7 @@ class Programs(InRoom):
     """Programs in place of `distac` that don't exist, or behave differently."""
 
     def program(self, text: str) -> str:
-        """A program that is a script of the shell."""
-        path = self.write("program", "#!/bin/sh\n" + text)
-        path.chmod(0o755)
-        return str(path)
+        return str(self.script("program", text))
 
     def expect(self, program: str, error: str) -> None:
         """A sentence instead of an answer."""
@@ -189,7 +174,3 @@ class Programs(InRoom):
             done = subprocess.run(line, stdout=full, stderr=subprocess.PIPE, env={**os.environ, "DISTAC": PROGRAM})
         self.assertEqual(done.returncode, 2)
         self.assertIn(b"can't be written", done.stderr)
-
-
-if __name__ == "__main__":
-    unittest.main()

@@ -1,7 +1,5 @@
 """`ends`: the ends of a race, with a script of each that the program plays."""
 
-from __future__ import annotations
-
 import json
 import os
 import re
@@ -9,10 +7,9 @@ import signal
 import subprocess
 import sys
 import time
-import unittest
 from collections import Counter
 from pathlib import Path
-from typing import Any, Dict, List
+from typing import Any
 from unittest import mock
 
 from json_schema import documented
@@ -54,18 +51,11 @@ FAULTS = (
 
 
 class Room(InRoom):
-    """A temporary folder."""
-
     def path(self, text: str) -> str:
-        """A file of a text."""
-        path = self.room / "some.live"
-        path.write_bytes(text.encode("utf-8", "surrogateescape"))
-        return str(path)
+        return str(self.write("some.live", text))
 
 
 class Ends(Room):
-    """The ends that are found, and their scripts."""
-
     def test_the_example(self) -> None:
         said = view("ends", OPERATORS)
         self.assertEqual((said.status, said.errors), (0, ""))
@@ -112,9 +102,9 @@ class Ends(Room):
                         self.assertLessEqual(heard[-1], shipped, text)
                 self.assertEqual(len(heard), len(set(heard)), text)
 
-    def ends(self, path: str) -> List[Dict[str, Any]]:
+    def ends(self, path: str) -> list[dict[str, Any]]:
         """The ends of a race as JSON."""
-        found: List[Dict[str, Any]] = json.loads(view("ends", path, *FEW, "--json").output)["ends"]
+        found: list[dict[str, Any]] = json.loads(view("ends", path, *FEW, "--json").output)["ends"]
         return found
 
     def test_whole_schedules_have_all_requests(self) -> None:
@@ -242,8 +232,6 @@ class Lengths(Room):
 
 
 class Answers(Room):
-    """Statuses, faults, JSON and pages."""
-
     def test_expected_lines(self) -> None:
         for words, status in (
             (("node main@h up 1",), 0),
@@ -286,8 +274,7 @@ class Answers(Room):
             self.assertEqual(view("ends", RACE, "--schedules", "1", *words).status, 2, words)
 
     def test_a_program_that_differs(self) -> None:
-        program = self.write("program", f'#!/bin/sh\n"{PROGRAM}" "$@" | sed "s/halted/kept/"\n')
-        program.chmod(0o755)
+        program = self.script("program", f'"{PROGRAM}" "$@" | sed "s/halted/kept/"')
         said = view("ends", RACE, *FEW, program=str(program))
         self.assertEqual(said.status, 2, said)
         self.assertIn(", NOT played by the program\n", said.output)
@@ -313,11 +300,8 @@ class Answers(Room):
 
     def test_json(self) -> None:
         for words in ((), ("--expect", "app shop holder main@h")):
-            said = view("ends", RACE, *FEW, "--json", *words)
-            self.assertEqual(documented().faults_of(said.output), [], said.output)
-            answer = json.loads(said.output)
+            answer = self.answer(1 if words else 0, "ends", RACE, *FEW, *words)
             self.assertEqual(sum(end["schedules"] for end in answer["ends"]), 90)
-            self.assertEqual(said.status, 1 if words else 0)
 
     def test_a_stored_answer(self) -> None:
         self.write("race.question", f"ends {RACE} --schedules 6 --expect 'app shop holder main@h'")
@@ -376,7 +360,3 @@ class Answers(Room):
             self.assertTrue(stop.is_wished)
             signal.raise_signal(signal.SIGINT)
         self.assertEqual(signal.getsignal(signal.SIGINT), before)
-
-
-if __name__ == "__main__":
-    unittest.main()

@@ -1,8 +1,6 @@
 """Pairs of applications that are reported to hang: the cases measured with three real nodes of OTP 25, which all start
 all applications."""
 
-from __future__ import annotations
-
 import unittest
 
 from support import distac
@@ -38,8 +36,6 @@ def configuration_of_two(entries: tuple[tuple[int, str], ...]) -> Configuration:
 
 
 class EqualTimes(unittest.TestCase):
-    """Cases that hung are reported, and the others aren't."""
-
     def test_measured_cases(self) -> None:
         for entries in HUNG:
             for turned in (entries, entries[::-1]):
@@ -57,7 +53,3 @@ class EqualTimes(unittest.TestCase):
         self.assertEqual(pairs_that_hang(configuration_of_two(((400, "[cp1,{cp2,cp3}]"), (400, "[cp4,{cp2,cp3}]")))), [])
         self.assertEqual(pairs_that_hang(configuration_of_two(((400, "[cp1,{cp2,cp3}]"), (400, "[cp1]")))), [])
         self.assertEqual(pairs_that_hang(configuration_of_two(((400, "[cp1,cp2,{cp3,cp4}]"), (400, "[cp1,cp2,{cp3,cp4}]"))))[0].node, "cp2")
-
-
-if __name__ == "__main__":
-    unittest.main()

@@ -1,13 +1,11 @@
 """`check`, `play`, `timeline` and `what-if` on all examples."""
 
-from __future__ import annotations
-
 import json
 import unittest
-from html.parser import HTMLParser
+from collections import Counter
 from pathlib import Path
 
-from support import EXAMPLES, distac, view
+from support import EXAMPLES, Elements, distac, view
 from distac_view.asking.inputs import answers_of, load_script
 from distac_view.showing.script_rows import EXPLAINS
 
@@ -15,23 +13,7 @@ SCRIPTS = sorted(path for path in EXAMPLES.glob("*.distac") if not path.name.sta
 CONFIGS = sorted(EXAMPLES.glob("*.config"))
 
 
-class Shapes(HTMLParser):
-    """Counts the elements of a page, and notes external references."""
-
-    def __init__(self) -> None:
-        super().__init__()
-        self.counts: dict[str, int] = {}
-        self.outside: list[str] = []
-
-    def handle_starttag(self, tag: str, attrs: list[tuple[str, str | None]]) -> None:
-        """Notes an element."""
-        self.counts[tag] = self.counts.get(tag, 0) + 1
-        self.outside += [value or "" for name, value in attrs if name in ("src", "href") or "http" in (value or "")]
-
-
 class Examples(unittest.TestCase):
-    """The subcommands show the output of `distac` for the examples."""
-
     def test_check_prints_the_canonical_text(self) -> None:
         for path in CONFIGS:
             said = view("check", str(path), "--print")
@@ -52,10 +34,11 @@ class Examples(unittest.TestCase):
     def test_timeline_is_one_page(self) -> None:
         for path in SCRIPTS:
             said = view("timeline", str(path), "-o", "-")
-            shapes = Shapes()
-            shapes.feed(said.output)
-            self.assertEqual((said.status, said.errors, shapes.outside), (0, "", []), path.name)
-            self.assertGreater(shapes.counts["title"], shapes.counts["circle"] // 3, path.name)
+            elements = Elements(said.output).found
+            counts = Counter(tag for tag, _ in elements)
+            outside = [value for _, its in elements for name, value in its.items() if name in ("src", "href") or "http" in value]
+            self.assertEqual((said.status, said.errors, outside), (0, "", []), path.name)
+            self.assertGreater(counts["title"], counts["circle"] // 3, path.name)
 
     def test_a_bar_for_each_claim_that_is_kept(self) -> None:
         page = view("timeline", str(EXAMPLES / "failover.distac"), "-o", "-").output
@@ -95,7 +78,3 @@ def answers_in(output: str, path: Path) -> list[str]:
     start = len(str(loaded.lines[-1].number)) + min(max(map(len, events)), 46) + 4
     rows = [row for row in output.splitlines() if not row.lstrip(" 0123456789").startswith("%") and len(row) > start]
     return [row[start:] for row in rows if not row[start:].startswith(EXPLAINS)]
-
-
-if __name__ == "__main__":
-    unittest.main()

@@ -1,17 +1,12 @@
 """`expect`: a folder of questions, compared with stored answers."""
 
-from __future__ import annotations
-
-import json
 import os
 import shutil
-import tempfile
 import unittest
 from pathlib import Path
 from typing import Any
 
-from json_schema import documented
-from support import EXAMPLES, InRoom, Said, run_view, view
+from support import EXAMPLES, InRoom, Said, inside, run_view, view
 
 CONFIG = "[{kernel,[{distributed,[{a,500,[x@h,y@h]}]}]}].\n"
 DOWN = "# a comment\nwhat-if\n  'cluster.config' # another\n--down x@h\n"
@@ -29,7 +24,6 @@ class Folder(InRoom):
         self.assertEqual(self.ask("--write").status, 0)
 
     def write(self, name: str, text: str) -> Path:
-        """A file of the folder."""
         return super().write(f"questions/{name}", text)
 
     def ask(self, *words: str) -> Said:
@@ -40,10 +34,7 @@ class Folder(InRoom):
         return said
 
     def json(self, status: int, *words: str) -> Any:
-        """The output as JSON, which fits its schema."""
-        said = self.ask("--json", *words)
-        self.assertEqual((said.status, documented().faults_of(said.output)), (status, []), said)
-        return json.loads(said.output)["answers"]
+        return self.answer(status, "expect", str(self.folder), *words)["answers"]
 
     def test_as_stored(self) -> None:
         said = self.ask()
@@ -112,12 +103,8 @@ class Folder(InRoom):
         shutil.copytree(self.folder, elsewhere)
         said = view("expect", str(elsewhere))
         self.assertEqual((said.status, said.output), (0, "3 of 3 answers are as stored\n"))
-        before = os.getcwd()
-        os.chdir(elsewhere.parent)
-        try:
+        with inside(elsewhere.parent):
             self.assertEqual(view("expect", "folder").status, 0)
-        finally:
-            os.chdir(before)
 
     def test_what_is_no_question(self) -> None:
         faults = {
@@ -145,30 +132,17 @@ class Folder(InRoom):
             self.assertEqual((said.status, part in said.errors), (2, True), said)
         self.assertEqual(self.ask("down.question").status, 0)
         self.assertEqual(view("expect", str(self.folder / "none")).status, 2)
-        with tempfile.TemporaryDirectory() as room:
-            self.assertIn("has no NAME.question", view("expect", room).errors)
+        self.assertIn("has no NAME.question", view("expect", str(self.room)).errors)
 
     def test_a_program_by_a_relative_path(self) -> None:
-        program = self.folder.parent / "program"
-        program.write_text('#!/bin/sh\necho "$1" >&2\nexit 3\n')
-        program.chmod(0o755)
-        before = os.getcwd()
-        os.chdir(self.folder.parent)
-        try:
+        self.script("../program", 'echo "$1" >&2\nexit 3')
+        with inside(self.room):
             said = run_view("expect", "questions", program="./program")
-        finally:
-            os.chdir(before)
         self.assertEqual(said.status, 2)
         self.assertIn("distac check gave no answer", said.output)
 
 
 class Example(unittest.TestCase):
-    """The folder of the examples."""
-
     def test_the_answers_are_as_stored(self) -> None:
         said = view("expect", str(EXAMPLES / "questions"))
         self.assertEqual((said.status, said.output, said.errors), (0, "3 of 3 answers are as stored\n", ""))
-
-
-if __name__ == "__main__":
-    unittest.main()

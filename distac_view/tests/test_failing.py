@@ -1,13 +1,8 @@
 """`what-if --fails`: starts that fail, as they were seen with OTP 25."""
 
-from __future__ import annotations
-
-import json
-import unittest
 from random import Random
-from typing import Any, Dict, Tuple
+from typing import Any
 
-from json_schema import documented
 from support import IS_STAND_IN, InRoom, Said, view
 from test_what_if import random_config
 
@@ -17,25 +12,19 @@ TUPLE = "[{kernel,[{distributed,[{a,300,[cp1@h,{cp2@h,cp3@h}]}]},%s]}].\n" % SYN
 COUNT = 6 if IS_STAND_IN else 60
 
 # The places of an application: now, then, and once nodes are back.
-Places = Dict[str, Tuple[Any, ...]]
+Places = dict[str, tuple[Any, ...]]
 
 
 class Failing(InRoom):
-    """Starts that fail after a loss or a return."""
-
     def setUp(self) -> None:
         super().setUp()
         self.config = self.write("cluster.config", TEXT)
 
     def ask(self, words: str) -> Said:
-        """The output for some words."""
         return view("what-if", str(self.config), *words.split())
 
     def json(self, words: str) -> Any:
-        """The output as JSON, which fits its schema."""
-        said = self.ask(f"{words} --json")
-        self.assertEqual((said.status, documented().faults_of(said.output)), (0, []), said)
-        return json.loads(said.output)
+        return self.answer(0, "what-if", str(self.config), *words.split())
 
     def places(self, words: str) -> "tuple[Places, list[str]]":
         """The places of each application in the only case, and the nodes that ended."""
@@ -126,7 +115,3 @@ class Failing(InRoom):
         for words, part in rows:
             said = self.ask(words)
             self.assertEqual((said.status, part in said.errors), (2, True), (words, said))
-
-
-if __name__ == "__main__":
-    unittest.main()

@@ -1,21 +1,16 @@
 """Changed inputs of each subcommand, including names that look like markup, with open streams and with closed ones.
 
-Some run with the other tests. `DISTAC_VIEW_INPUTS=2000 python3 distac_view/tests/test_fuzz.py` runs that many, and
+Some run with the other tests. `DISTAC_VIEW_INPUTS=2000 python3 distac_view/tests/run.py test_fuzz` runs that many, and
 `DISTAC_VIEW_SEED` chooses others. The same seed and number yield the same input.
 """
-
-from __future__ import annotations
 
 import os
 import subprocess
 import sys
-import unittest
-from html.parser import HTMLParser
 from random import Random
-from typing import List, Tuple
 
 from json_schema import documented
-from support import EXAMPLES, IS_STAND_IN, MISTAKES, PROGRAM, TOP, InRoom, Said, view
+from support import EXAMPLES, IS_STAND_IN, MISTAKES, PROGRAM, TOP, Elements, InRoom, Said, view
 from distac_view.cli.command_line import SUBCOMMANDS
 
 SEED = os.environ.get("DISTAC_VIEW_SEED", "1")
@@ -37,7 +32,7 @@ PIECES = (
     *(b"\nstate ", b"\nbytes 1\n", b"\nhand ", b"\nphase\n", b"<b>", b"]]>", b"&amp;", b"<!--"),
 )
 FILE = "FILE"
-LINES: Tuple[Tuple[str, ...], ...] = (
+LINES: tuple[tuple[str, ...], ...] = (
     ("check", FILE),
     ("check", "--strict", FILE),
     ("play", FILE),
@@ -88,19 +83,11 @@ def with_other_names(random: Random, source: bytes) -> bytes:
     return source.replace(name, random.choice(NAMES))
 
 
-class Elements(HTMLParser):
-    """The elements of a page that the program didn't make."""
-
-    def __init__(self, page: str) -> None:
-        super().__init__()
-        self.others: List[str] = []
-        self.feed(page)
-
-    def handle_starttag(self, tag: str, attrs: List[Tuple[str, "str | None"]]) -> None:
-        """Notes an element or an attribute that no page has."""
-        if tag not in TAGS.split():
-            self.others.append(tag)
-        self.others += [name for name, _ in attrs if name.startswith("on") or name in ("src", "href")]
+def foreign(page: str) -> list[str]:
+    """The elements and attributes of a page that the program didn't make."""
+    elements = Elements(page).found
+    names = [name for _, its in elements for name in its if name.startswith("on") or name in ("src", "href")]
+    return [tag for tag, _ in elements if tag not in TAGS.split()] + names
 
 
 class Fuzz(InRoom):
@@ -122,18 +109,17 @@ class Fuzz(InRoom):
                 self.check_answer(words, said)
                 self.assertEqual(self.path.read_bytes(), source)
 
-    def named(self, words: Tuple[str, ...]) -> List[str]:
+    def named(self, words: tuple[str, ...]) -> list[str]:
         """A command line with the input's name."""
         return [word.replace(FILE, str(self.path)) for word in words]
 
-    def check_answer(self, words: Tuple[str, ...], said: Said) -> None:
-        """Checks the properties of every answer."""
+    def check_answer(self, words: tuple[str, ...], said: Said) -> None:
         self.assertIn(said.status, (0, 1, 2))
         self.assertTrue(said.status == 0 or said.output + said.errors)
         if "--plain" not in words:
             self.assertNotIn("\x1b", said.output + said.errors)
         if "-o" in words and said.status != 2:
-            self.assertEqual(Elements(said.output).others, [])
+            self.assertEqual(foreign(said.output), [])
         if said.status == 0 and "--json" in words:
             self.assertEqual(self.schema.faults_of(said.output), [])
 
@@ -151,7 +137,3 @@ class Fuzz(InRoom):
                 self.assertIn(done.returncode, (0, 1, 2))
                 self.assertNotIn(b"Traceback", done.stderr)
                 self.assertNotIn(b"Exception ignored", done.stderr)
-
-
-if __name__ == "__main__":
-    unittest.main()

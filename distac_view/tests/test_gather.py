@@ -1,8 +1,6 @@
 """`gather`: files of nodes become one configuration, equal to a handwritten one, or a fault or a warning explains why
 not."""
 
-from __future__ import annotations
-
 import hashlib
 import os
 import shutil
@@ -15,11 +13,10 @@ from unittest import mock
 
 from hostile_files import FINE, hostile_sources
 from random_clusters import random_cluster
-from support import EXAMPLES, InRoom, Said, distac, run_view, view
+from support import EXAMPLES, NODES, InRoom, Said, distac, gather, run_view, view
 from distac_view.reading.erlang_reader import has_erlang
 
 COUNT = 200
-NODES = Path(__file__).resolve().parent / "nodes"
 READERS = ("erl", "own") if has_erlang() else ("own",)
 DESKS = tuple(f"desk{number}@10.4.0.{number}=manual/desk{number}.config" for number in (1, 2, 3))
 BY_HAND = (
@@ -79,16 +76,6 @@ WRONG_PARAMETERS = (
 SYNC = ",{sync_nodes_mandatory,[%s]},{sync_nodes_optional,[%s]},{sync_nodes_timeout,%s}"
 
 
-def gather(*words: str) -> Said:
-    """The output of `gather` for files in the folder of this test's nodes."""
-    here = os.getcwd()
-    os.chdir(NODES)
-    try:
-        return view("gather", *words)
-    finally:
-        os.chdir(here)
-
-
 def canonical(text: bytes) -> str:
     """The configuration of a correct text."""
     answer = distac().check(text)
@@ -96,9 +83,7 @@ def canonical(text: bytes) -> str:
     return answer.lines[0]
 
 
-class FilesOfNodes(unittest.TestCase):
-    """Files as clusters have them."""
-
+class FilesOfNodes(InRoom):
     def test_equal_to_what_is_written_by_hand(self) -> None:
         for name, words, warning in BY_HAND:
             for reader in READERS:
@@ -141,17 +126,15 @@ class FilesOfNodes(unittest.TestCase):
             self.assertIn("--reader own", said.errors)
 
     def test_the_script_of_permissions(self) -> None:
-        with tempfile.TemporaryDirectory() as room:
-            config, script = f"{room}/cluster.config", f"{room}/opening.distac"
-            said = gather("bank1=barred/bank1.config", "bank2=barred/bank2.config", "-o", config, "-s", script)
-            self.assertEqual((said.status, said.output), (0, ""))
-            self.assertIn("\npermit bank1@vault audit bank1@vault false\n", Path(script).read_text())
-            self.assertEqual(view("play", script).status, 0)
-            answer = view("what-if", config, "--after", script, "--down", "bank2@vault")
-            self.assertEqual(answer.status, 0, answer)
-            self.assertIn("audit", answer.output)
-            self.assertRegex(answer.output, r"audit without bank2@vault: .*bank1@vault=barred|audit +bank2@vault +- +nobody")
-            self.assertEqual(sorted(os.listdir(room)), ["cluster.config", "opening.distac"])
+        config, script = f"{self.room}/cluster.config", f"{self.room}/opening.distac"
+        said = gather("bank1=barred/bank1.config", "bank2=barred/bank2.config", "-o", config, "-s", script)
+        self.assertEqual((said.status, said.output), (0, ""))
+        self.assertIn("\npermit bank1@vault audit bank1@vault false\n", Path(script).read_text())
+        self.assertEqual(view("play", script).status, 0)
+        answer = view("what-if", config, "--after", script, "--down", "bank2@vault")
+        self.assertEqual(answer.status, 0, answer)
+        self.assertRegex(answer.output, r"audit without bank2@vault: .*bank1@vault=barred|audit +bank2@vault +- +nobody")
+        self.assertEqual(self.names(), ["cluster.config", "opening.distac"])
 
 
 class RandomClusters(unittest.TestCase):
@@ -194,7 +177,6 @@ class Differences(InRoom):
             self.assertIn(part, text)
 
     def config_of(self, said: Said) -> str:
-        """The configuration that was written."""
         self.assertEqual(said.status, 0, said)
         return said.output.splitlines()[-1]
 
@@ -327,9 +309,7 @@ class Differences(InRoom):
         self.expect(view("gather", f"x@h={room}/sys.config"), 2, "can't be read")
 
 
-class Use(unittest.TestCase):
-    """The command line, and hostile files."""
-
+class Use(InRoom):
     def test_wrong_use(self) -> None:
         for words in ((), ("x",), ("x=",), ("=x",), ("x=,",), ("x=/no/such/file",), ("x=/",), ("x=\0",)):
             said = view("gather", *words)
@@ -352,39 +332,31 @@ class Use(unittest.TestCase):
         self.assertEqual((line.count("\n"), line.count("'")), (1, 0))
         if not shutil.which("elixir"):
             self.skipTest("elixir isn't in PATH")
-        with tempfile.TemporaryDirectory() as room:
-            (Path(room) / "config").mkdir()
-            (Path(room) / "config" / "runtime.exs").write_text(ELIXIR_CONFIG)
-            words = ["elixir", "-e", line]
-            done = subprocess.run(words, cwd=room, env={**os.environ, "FAILOVER_MS": "700"}, capture_output=True, timeout=60, check=True)
-            (Path(room) / "answer").write_bytes(done.stdout)
-            said = view("gather", *(f"{node}@h={room}/answer" for node in "ab"))
-            self.assertEqual(said.errors, "")
-            self.assertIn("{distributed,[{shop,700,[a@h,b@h]}]}", said.output)
+        self.write("config/runtime.exs", ELIXIR_CONFIG)
+        words = ["elixir", "-e", line]
+        done = subprocess.run(words, cwd=self.room, env={**os.environ, "FAILOVER_MS": "700"}, capture_output=True, timeout=60, check=True)
+        self.write("answer", done.stdout.decode())
+        said = gather("a@h=answer", "b@h=answer", folder=self.room)
+        self.assertEqual(said.errors, "")
+        self.assertIn("{distributed,[{shop,700,[a@h,b@h]}]}", said.output)
 
     def test_standard_input(self) -> None:
         said = run_view("gather", "a@h=-", source=b"[{kernel,[{distributed,[{a,[a@h]}]}]}].")
         self.assertEqual(said.status, 0, said)
 
     def test_hostile_files(self) -> None:
-        with tempfile.TemporaryDirectory() as room:
-            path = Path(room) / "node.config"
-            for source in hostile_sources():
-                path.write_bytes(source)
-                with self.subTest(source=source[:60]):
-                    said = view("gather", "--reader", "own", f"x@h={path}")
-                    self.assertIn(said.status, (2,) if source not in FINE else (0,), said)
-                    self.assertTrue(said.output + said.errors)
+        path = self.room / "node.config"
+        for source in hostile_sources():
+            path.write_bytes(source)
+            with self.subTest(source=source[:60]):
+                said = view("gather", "--reader", "own", f"x@h={path}")
+                self.assertIn(said.status, (2,) if source not in FINE else (0,), said)
+                self.assertTrue(said.output + said.errors)
 
     def test_cut_files(self) -> None:
         source = (NODES / "broker" / "advanced.config").read_bytes()
-        with tempfile.TemporaryDirectory() as room:
-            path = Path(room) / "node.config"
-            for end in range(0, len(source) - 4, 7):
-                path.write_bytes(source[:end])
-                said = view("gather", "--reader", "own", f"x@h={path}")
-                self.assertEqual(said.status, 2, (end, said))
-
-
-if __name__ == "__main__":
-    unittest.main()
+        path = self.room / "node.config"
+        for end in range(0, len(source) - 4, 7):
+            path.write_bytes(source[:end])
+            said = view("gather", "--reader", "own", f"x@h={path}")
+            self.assertEqual(said.status, 2, (end, said))

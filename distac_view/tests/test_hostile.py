@@ -1,8 +1,5 @@
 """Inputs of any kind: each gets a sentence, and the status 0, 1 or 2."""
 
-from __future__ import annotations
-
-import unittest
 from pathlib import Path
 from random import Random
 
@@ -34,8 +31,6 @@ WORDS = (
 
 
 class Hostile(InRoom):
-    """No input causes a traceback."""
-
     def setUp(self) -> None:
         super().setUp()
         self.path = str(self.room / "input")
@@ -97,7 +92,3 @@ class Hostile(InRoom):
             Path(self.path).write_bytes(HEAD + b"boot x 0\nboot y 0\n" + line * count)
             for words in (("play", self.path), ("timeline", self.path, "-o", "-")):
                 self.assertEqual(view(*words).status, 0)
-
-
-if __name__ == "__main__":
-    unittest.main()

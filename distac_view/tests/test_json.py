@@ -1,12 +1,8 @@
 """Answers as JSON have the form described in docs/FORMATS.md."""
 
-from __future__ import annotations
-
-import json
 import unittest
 from pathlib import Path
 from random import Random
-from typing import Any, Tuple
 
 from support import EXAMPLES, MISTAKES, InRoom, view
 from json_schema import SCHEMA, described, documented, text_of
@@ -17,23 +13,11 @@ QUOTED = "[{kernel,[{distributed,[{'Shop',5000,['shop1@10.0.0.11',{'shop-2@h','a
 
 
 class Schema(InRoom):
-    """Answers that fit the described schema."""
-
     def path(self, text: str) -> str:
-        """A file of a text."""
         return str(self.write("cluster.config", text))
-
-    def answer(self, status: int, *words: str) -> dict[str, Any]:
-        """The answer to some words with a status, which fits the schema."""
-        said = view(*words, "--json")
-        self.assertEqual((said.status, documented().faults_of(said.output)), (status, []), said)
-        answer: dict[str, Any] = json.loads(said.output)
-        return answer
 
 
 class Answers(Schema):
-    """Answers of `what-if`."""
-
     def test_examples(self) -> None:
         for path in sorted(EXAMPLES.glob("*.config")):
             self.answer(0, "what-if", str(path))
@@ -60,7 +44,7 @@ class Answers(Schema):
         self.assertIn("\udcffé@h", answer["nodes"])
 
     def test_ids_of_notes(self) -> None:
-        def ids_of(*words: str) -> Tuple[str, ...]:
+        def ids_of(*words: str) -> tuple[str, ...]:
             return tuple(note["id"] for note in self.answer(0, "what-if", *words)["notes"])
 
         self.assertEqual(ids_of(MANUAL), ("Outage", "FirstTick", "TupleLoad", "StartedAgain"))
@@ -125,7 +109,3 @@ class Validator(unittest.TestCase):
         for old, new in changes:
             self.assertIn(old, text)
             self.assertTrue(schema.faults_of(text.replace(old, new)), (old, new))
-
-
-if __name__ == "__main__":
-    unittest.main()

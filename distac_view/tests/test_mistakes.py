@@ -3,8 +3,6 @@
 `python3 test_mistakes.py --write` writes the present output to mistakes.txt, for review.
 """
 
-from __future__ import annotations
-
 import sys
 import unittest
 
@@ -25,8 +23,6 @@ def said_of_all() -> str:
 
 
 class Mistakes(unittest.TestCase):
-    """Each mistake is reported with its line and column, the rule and its remedy."""
-
     maxDiff = None
 
     def test_what_is_said(self) -> None:
@@ -38,8 +34,5 @@ class Mistakes(unittest.TestCase):
             self.assertTrue(is_told or "s16_quoted" in part or "s18_indent" in part, part)
 
 
-if __name__ == "__main__":
-    if sys.argv[1:] == ["--write"]:
-        EXPECTED.write_text(said_of_all())
-    else:
-        unittest.main()
+if __name__ == "__main__" and sys.argv[1:] == ["--write"]:
+    EXPECTED.write_text(said_of_all())

@@ -1,7 +1,5 @@
 """The parts of `distac_view`: their imports from each other, and the names of modules."""
 
-from __future__ import annotations
-
 import ast
 import re
 import unittest
@@ -34,11 +32,8 @@ def names_bound(tree: ast.Module) -> "Iterator[str]":
 
 
 class Modules(unittest.TestCase):
-    """All modules except the tests."""
-
     def test_each_part_is_there(self) -> None:
-        folders = {path.parent.name for path in PACKAGE.glob("*/__init__.py")}
-        self.assertEqual(folders, set(PARTS))
+        self.assertEqual({path.parent.name for path in PACKAGE.glob("*/__init__.py")}, set(PARTS))
         self.assertEqual(len(MODULES), sum(len(list((PACKAGE / part).glob("*.py"))) for part in ("", *PARTS)) - len(PARTS) - 1)
 
     def test_no_part_imports_from_one_above_it(self) -> None:
@@ -74,7 +69,3 @@ class Modules(unittest.TestCase):
             words = Counter(re.findall(r"\w+", text))
             for name in names_bound(ast.parse(text)):
                 self.assertGreater(words[name], 1, f"{path.name} imports {name}")
-
-
-if __name__ == "__main__":
-    unittest.main()

@@ -1,17 +1,12 @@
 """The script `nightly` in a repository with made-up parts: its record of each part, and its table."""
 
-from __future__ import annotations
-
 import os
 import shutil
 import signal
 import subprocess
-import tempfile
-import time
-import unittest
 from pathlib import Path
 
-from support import TOP, hear_signals
+from support import TOP, InRoom, hear_signals
 
 COMPARED = ("compare-texts", "compare-scripts", "compare-live", "compare-packets", "compare-long")
 PARTS = ("examples", "races", *COMPARED, "growths", "stacks", "mutants-read", "mutants")
@@ -27,13 +22,10 @@ esac"""
 MOST_SECONDS = 60
 
 
-class Nightly(unittest.TestCase):
-    """A repository of four crates."""
-
+class Nightly(InRoom):
     def setUp(self) -> None:
-        room = tempfile.TemporaryDirectory()
-        self.addCleanup(room.cleanup)
-        self.top = Path(room.name).resolve() / "top"
+        super().setUp()
+        self.room = self.top = self.room.resolve() / "top"
         for path in (TOP / "checks" / "nightly", *(TOP / "models").glob("*.py"), *(TOP / "checks" / "library").glob("*.py")):
             (self.top / path.relative_to(TOP)).parent.mkdir(parents=True, exist_ok=True)
             shutil.copy(path, self.top / path.relative_to(TOP))
@@ -50,18 +42,7 @@ class Nightly(unittest.TestCase):
         self.git("add", "-A")
         self.git("-c", "user.name=a", "-c", "user.email=a", "commit", "-q", "-m", "all")
 
-    def write(self, path: str, text: str) -> Path:
-        file = self.top / path
-        file.parent.mkdir(parents=True, exist_ok=True)
-        file.write_text(text)
-        return file
-
-    def script(self, path: str, text: str) -> None:
-        """A script that can be run."""
-        self.write(path, f"#!/bin/sh\n{text}\n").chmod(0o755)
-
     def toolchain(self, name: str) -> None:
-        """A toolchain of a name, outside the repository."""
         self.script("../bin/rt", f"echo {name}")
 
     def git(self, *words: str) -> str:
@@ -193,10 +174,7 @@ class Nightly(unittest.TestCase):
     def ended_by(self, number: int, begun: Path) -> int:
         """The status of a run that a signal ends after its part has begun."""
         with self.start("--only", "stacks", "examples") as started:
-            until = time.monotonic() + MOST_SECONDS
-            while not (begun.exists() and begun.read_text().endswith("\n")):
-                self.assertLess(time.monotonic(), until)
-                time.sleep(0.05)
+            self.until(lambda: begun.exists() and begun.read_text().endswith("\n"))
             started.send_signal(number)
             started.communicate(timeout=MOST_SECONDS)
         return started.returncode
@@ -213,7 +191,3 @@ class Nightly(unittest.TestCase):
         self.git("checkout", "-q", ".")
         after = self.rows()
         self.assertEqual([after[name][3:] for name in ("stacks", "fuzz")], [before[name][3:] for name in ("stacks", "fuzz")])
-
-
-if __name__ == "__main__":
-    unittest.main()

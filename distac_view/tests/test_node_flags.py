@@ -1,24 +1,21 @@
 """`gather` before any node runs: variables of templates, argument files such as `vm.args`, and absolute file names."""
 
-from __future__ import annotations
-
+import functools
 import os
 import shutil
 import subprocess
-import tempfile
 import unittest
-from pathlib import Path
 from random import Random
 
-from support import InRoom, Said, distac, view
+import support
+from support import NODES, InRoom, Said, distac
 from distac_view.cli.gather import ERLANG_LINE
 from distac_view.reading.erlang_reader import has_erlang
 from distac_view.reading.erlang_tokens import Misread
 from distac_view.reading.templates import filled_in
 from distac_view.reading.vm_args import words_of
 
-HERE = Path(__file__).resolve().parent
-FLAGS = HERE / "nodes" / "flags"
+gather = functools.partial(support.gather, folder=NODES / "flags")
 READERS = ("erl", "own") if has_erlang() else ("own",)
 SIGNS = "\"'\\# \t\n\rab{}[]"
 PLACED = "[{kernel,[{distributed,[{a,500,[x@h,y@h]}]}]}]."
@@ -40,21 +37,11 @@ WAYS = (
 )
 
 
-def gather(*words: str, folder: "Path | str" = FLAGS) -> Said:
-    """The output of `gather` for files in a folder."""
-    here = os.getcwd()
-    os.chdir(folder)
-    try:
-        return view("gather", *words)
-    finally:
-        os.chdir(here)
-
-
-class Releases(unittest.TestCase):
+class Releases(InRoom):
     """The files of a release as shipped."""
 
     def test_equal_to_what_is_written_by_hand(self) -> None:
-        wanted = distac().check((HERE / "nodes" / "flags.by-hand.config").read_bytes()).lines[0]
+        wanted = distac().check((NODES / "flags.by-hand.config").read_bytes()).lines[0]
         for reader in READERS:
             for words in (
                 ("sys.config.src,vm.args.src", "--env", "prod.env", "--root", "."),
@@ -90,26 +77,23 @@ class Releases(unittest.TestCase):
 
     def test_faults_behind_a_value_keep_their_place(self) -> None:
         for host in ("a", "a-long-name-of-a-host"):
-            with tempfile.TemporaryDirectory() as room:
-                (Path(room) / "sys.config.src").write_text("[{kernel,[{distributed,[{a,${MS},['x@${HOST}']}]},\n{permissions,['${HOST}' oops]}]}].")
-                said = gather("x=sys.config.src", "--env", f"HOST={host}", "--env", "MS=5", "--reader", "own", folder=room)
-                self.assertTrue(said.output.startswith("sys.config.src:2:25: Syntax: a comma is missing"), said)
-                self.assertIn("\n  {permissions,['${HOST}' oops]}]}].\n                          ^", said.output)
+            self.write("sys.config.src", "[{kernel,[{distributed,[{a,${MS},['x@${HOST}']}]},\n{permissions,['${HOST}' oops]}]}].")
+            said = gather("x=sys.config.src", "--env", f"HOST={host}", "--env", "MS=5", "--reader", "own", folder=self.room)
+            self.assertTrue(said.output.startswith("sys.config.src:2:25: Syntax: a comma is missing"), said)
+            self.assertIn("\n  {permissions,['${HOST}' oops]}]}].\n                          ^", said.output)
 
     def test_a_variable_with_a_wrong_value_is_shown(self) -> None:
-        with tempfile.TemporaryDirectory() as room:
-            (Path(room) / "sys.config.src").write_text("[{kernel,[{distributed,[{a,['x@${HOST}']},\n {b,${MS},['x@${HOST}']}]}]}].")
-            said = gather("x@h=sys.config.src", "--env", "HOST=h", "--env", "MS=-5", folder=room)
-            self.assertTrue(said.output.startswith("sys.config.src:2:5: BadTime: "), said)
+        self.write("sys.config.src", "[{kernel,[{distributed,[{a,['x@${HOST}']},\n {b,${MS},['x@${HOST}']}]}]}].")
+        said = gather("x@h=sys.config.src", "--env", "HOST=h", "--env", "MS=-5", folder=self.room)
+        self.assertTrue(said.output.startswith("sys.config.src:2:5: BadTime: "), said)
 
     def test_each_node_has_its_own_values(self) -> None:
-        with tempfile.TemporaryDirectory() as room:
-            (Path(room) / "sys.config").write_text(PLACED.replace("]}].", ",{sync_nodes_optional,['${OTHER}']},{sync_nodes_timeout,5}]}]."))
-            (Path(room) / "x.env").write_text("OTHER=y@h\n")
-            (Path(room) / "y.env").write_text("OTHER=x@h\n")
-            said = gather("x@h=sys.config,x.env", "y@h=sys.config,y.env", folder=room)
-            self.assertEqual((said.status, said.errors), (0, ""), said)
-            self.assertIn("{sync_nodes_optional,[x@h,y@h]}", said.output)
+        self.write("sys.config", PLACED.replace("]}].", ",{sync_nodes_optional,['${OTHER}']},{sync_nodes_timeout,5}]}]."))
+        self.write("x.env", "OTHER=y@h\n")
+        self.write("y.env", "OTHER=x@h\n")
+        said = gather("x@h=sys.config,x.env", "y@h=sys.config,y.env", folder=self.room)
+        self.assertEqual((said.status, said.errors), (0, ""), said)
+        self.assertIn("{sync_nodes_optional,[x@h,y@h]}", said.output)
 
 
 class Folders(InRoom):
@@ -149,8 +133,6 @@ class Folders(InRoom):
 
 
 class Faults(InRoom):
-    """Unreadable inputs."""
-
     def setUp(self) -> None:
         super().setUp()
         self.write("sys.config", PLACED)
@@ -213,14 +195,11 @@ class Faults(InRoom):
 
 @unittest.skipUnless(has_erlang() and shutil.which("erl"), "Erlang isn't in PATH")
 class RealErlang(InRoom):
-    """Argument files as Erlang reads them."""
-
     def setUp(self) -> None:
         super().setUp()
         self.environment = {name: value for name, value in os.environ.items() if not name.startswith("ERL_")}
 
     def erl(self, *words: str) -> str:
-        """The output of `erl`."""
         done = subprocess.run(["erl", *words], cwd=self.room, env=self.environment, capture_output=True, timeout=60, check=True)
         return done.stdout.decode()
 
@@ -261,7 +240,3 @@ class RealErlang(InRoom):
 def kept(said: Said) -> "list[str]":
     """The configuration, and net_ticktime if it isn't that of every node."""
     return [line for line in said.output.splitlines() if not line.startswith("%% ") or "net_ticktime 9" in line]
-
-
-if __name__ == "__main__":
-    unittest.main()

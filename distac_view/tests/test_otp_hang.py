@@ -1,7 +1,5 @@
 """The report of docs/otp-hang: its escript runs where Erlang is installed, and its line numbers are those that it prints."""
 
-from __future__ import annotations
-
 import re
 import shutil
 import subprocess
@@ -15,8 +13,6 @@ FRAME = re.compile(r"dist_ac:(\w+/\d+) \(dist_ac\.erl:(\d+)\)")
 
 
 class Report(unittest.TestCase):
-    """The first of its cases."""
-
     def test_lines_are_those_of_the_stored_run(self) -> None:
         frames = dict(FRAME.findall((REPORT / "hang.txt").read_text()))
         cited = dict(re.findall(r"`(\w+/\d+)` \((\d+)\)", (REPORT / "README.md").read_text()))
@@ -35,7 +31,3 @@ class Report(unittest.TestCase):
         self.assertLessEqual({"collect_answers/4", "wait_dist_start/7"}, {name for name, _ in FRAME.findall(done.stdout)})
         for line in ("application:load -> no_answer", "n1 back: a1 runs at []", "without n1 and n2: a1 runs at [n3]"):
             self.assertIn(line, done.stdout)
-
-
-if __name__ == "__main__":
-    unittest.main()

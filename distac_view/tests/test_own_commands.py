@@ -1,7 +1,5 @@
 """The commands at the top that check the program: what they refuse, before any work."""
 
-from __future__ import annotations
-
 import ast
 import io
 import os
@@ -10,15 +8,13 @@ import shutil
 import signal
 import subprocess
 import sys
-import tempfile
-import time
 import unittest
 from contextlib import redirect_stdout
 from pathlib import Path
 from typing import Dict, Tuple
 from unittest import mock
 
-from support import EXAMPLES, TOP, hear_signals
+from support import EXAMPLES, TOP, InRoom, hear_signals
 import folders
 
 MOST_SECONDS = 60
@@ -127,9 +123,7 @@ class OldPythons(unittest.TestCase):
             self.assertEqual([ast.dump(node) for node in ast.walk(tree) if isinstance(node, NEWER)], [], script)
 
 
-class OwnCommands(unittest.TestCase):
-    """Refused words, and help."""
-
+class OwnCommands(InRoom):
     def test_unknown_words_are_refused_before_anything_is_done(self) -> None:
         for words, said in REFUSED:
             status, output, errors = say(*words)
@@ -155,47 +149,41 @@ class OwnCommands(unittest.TestCase):
 
     def test_links_and_folders_that_cd_looks_in(self) -> None:
         cdpath = f".:{TOP.parent}:/"
-        with tempfile.TemporaryDirectory() as room:
-            for command in HELPED:
-                expected = say(command, "--help")
-                link = Path(room, Path(command).name)
-                link.symlink_to(TOP / command)
-                self.assertEqual(say(link.name, "--help", folder=Path(room)), expected, command)
-                self.assertEqual(say(command, "--help", folder=Path(TOP.name), CDPATH=cdpath), expected, command)
+        for command in HELPED:
+            expected = say(command, "--help")
+            link = self.room / Path(command).name
+            link.symlink_to(TOP / command)
+            self.assertEqual(say(link.name, "--help", folder=self.room), expected, command)
+            self.assertEqual(say(command, "--help", folder=Path(TOP.name), CDPATH=cdpath), expected, command)
 
     def test_a_signal_to_the_tests_removes_what_they_keep(self) -> None:
+        for path in ("distac_view/tests/run.py", "models/processes.py", "models/streams.py"):
+            shutil.copy(TOP / path, self.room)
+        self.write("support.py", "PROGRAM = 'nothing'\n")
+        self.write("test_waiting.py", WAITING)
+        kept = self.room / "kept"
+        kept.mkdir()
+        surroundings = {**os.environ, "TMPDIR": str(kept)}
+        words, pipe = [sys.executable, f"{self.room}/run.py"], subprocess.PIPE
         for number in (signal.SIGTERM, signal.SIGHUP, signal.SIGINT):
-            with tempfile.TemporaryDirectory() as room:
-                shutil.copy(TOP / "distac_view" / "tests" / "run.py", room)
-                for name in ("processes.py", "streams.py"):
-                    shutil.copy(TOP / "models" / name, room)
-                Path(room, "support.py").write_text("PROGRAM = 'nothing'\n")
-                Path(room, "test_waiting.py").write_text(WAITING)
-                kept = Path(room, "kept")
-                kept.mkdir()
-                surroundings = {**os.environ, "TMPDIR": str(kept)}
-                words, pipe = [sys.executable, f"{room}/run.py"], subprocess.PIPE
-                with subprocess.Popen(words, env=surroundings, stdout=pipe, stderr=pipe, preexec_fn=hear_signals) as run:
-                    until = time.monotonic() + MOST_SECONDS
-                    while not list(kept.iterdir()) and time.monotonic() < until:
-                        time.sleep(0.05)
-                    run.send_signal(number)
-                    run.communicate(timeout=MOST_SECONDS)
-                self.assertNotEqual(run.returncode, 0)
-                self.assertEqual(list(kept.iterdir()), [], number)
+            with subprocess.Popen(words, env=surroundings, stdout=pipe, stderr=pipe, preexec_fn=hear_signals) as run:
+                self.until(lambda: any(kept.iterdir()))
+                run.send_signal(number)
+                run.communicate(timeout=MOST_SECONDS)
+            self.assertNotEqual(run.returncode, 0)
+            self.assertEqual(list(kept.iterdir()), [], number)
 
     def test_jobs_of_mutants(self) -> None:
         for jobs in ("0", "x", ""):
             self.assertEqual(say("checks/mutants", JOBS=jobs), (1, "", f"mutants: JOBS: {jobs!r} isn't a number of 1 or more\n"))
 
     def test_a_folder_that_cant_be_written(self) -> None:
-        with tempfile.TemporaryDirectory() as room:
-            self.assertEqual(list(folders.own(Path(room, "out", "kept")).iterdir()), [])
-            Path(room, "file").write_text("")
-            for path in (Path(room, "file"), Path(room, "file", "kept")):
-                with self.assertRaises(SystemExit) as caught:
-                    folders.own(path)
-                self.assertIn(f"{path} can't be written (", str(caught.exception.code))
+        self.assertEqual(list(folders.own(self.room / "out" / "kept").iterdir()), [])
+        file = self.write("file", "")
+        for path in (file, file / "kept"):
+            with self.assertRaises(SystemExit) as caught:
+                folders.own(path)
+            self.assertIn(f"{path} can't be written (", str(caught.exception.code))
 
     def test_beginnings_of_names(self) -> None:
         unknown = runpy.run_path(str(TOP / "checks" / "growths"), run_name="growths")["unknown"]
@@ -229,14 +217,8 @@ class OwnCommands(unittest.TestCase):
         source = (EXAMPLES / "rows/record/each-event.distac").read_bytes()
         printed = (EXAMPLES / "rows/record/each-event.out").read_bytes()
         self.assertIn(b"\ntick ", printed)
-        with tempfile.TemporaryDirectory() as room:
-            program, output = Path(room, "program"), Path(room, "output")
-            program.write_text(f"#!/bin/sh\ncat >{room}/input; cat {output}\n")
-            program.chmod(0o755)
-            for text, is_right in ((printed, True), (printed.replace(b"\ntick ", b"\n# tick ", 1), False)):
-                output.write_bytes(text)
-                self.assertEqual(fuzz["is_right"](fuzz["Target"]("record", program, Path(room)), source), is_right)
-
-
-if __name__ == "__main__":
-    unittest.main()
+        output = self.room / "output"
+        program = self.script("program", f"cat >{self.room}/input; cat {output}")
+        for text, is_right in ((printed, True), (printed.replace(b"\ntick ", b"\n# tick ", 1), False)):
+            output.write_bytes(text)
+            self.assertEqual(fuzz["is_right"](fuzz["Target"]("record", program, self.room), source), is_right)

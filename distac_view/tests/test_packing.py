@@ -1,19 +1,15 @@
 """A single file to copy, the message of an older Python, and completion by bash."""
 
-from __future__ import annotations
-
 import ast
 import os
 import shlex
 import shutil
 import subprocess
 import sys
-import tempfile
 import unittest
-from pathlib import Path
-from typing import Iterator, List
+from typing import Iterator
 
-from support import EXAMPLES, PROGRAM, TOP, view
+from support import EXAMPLES, PROGRAM, TOP, InRoom, view
 from distac_view.cli.command_line import SUBCOMMANDS, parser_of_words
 from distac_view.cli.help_texts import EXAMPLES as HELP_EXAMPLES
 
@@ -33,13 +29,11 @@ def ran(*words: str, **more: object) -> "subprocess.CompletedProcess[bytes]":
     return subprocess.run([sys.executable, *words], capture_output=True, env=surroundings, **more)  # type: ignore[call-overload,no-any-return]
 
 
-class Packed(unittest.TestCase):
+class Packed(InRoom):
     """`distac_view` in one file."""
 
     def setUp(self) -> None:
-        room = tempfile.TemporaryDirectory()
-        self.addCleanup(room.cleanup)
-        self.room = Path(room.name)
+        super().setUp()
         self.file = self.room / "distac-view.pyz"
 
     def pack(self, *words: str) -> None:
@@ -64,15 +58,13 @@ class Packed(unittest.TestCase):
         self.assertTrue(os.access(self.file, os.X_OK))
         done = ran("-I", str(self.file), "check", MANUAL, "--print", cwd=str(self.room))
         self.assertEqual((done.returncode, done.stdout.decode()), (0, (EXAMPLES / "manual.out").read_text()), done.stderr)
-        self.assertEqual([path.name for path in self.room.iterdir()], ["distac-view.pyz"])
+        self.assertEqual(self.names(), ["distac-view.pyz"])
         self.assertNotIn(b"compiled", ran("-I", str(self.file), "check", "--help", cwd=str(self.room)).stdout)
         self.assertIn(b"compiled", ran(str(TOP / "distac-view"), "check", "--help").stdout)
 
     def test_it_finds_the_program_beside_it(self) -> None:
         self.pack("-o", str(self.file))
-        beside = self.room / "distac"
-        beside.write_text(f'#!/bin/sh\nexec {shlex.quote(PROGRAM)} "$@"\n')
-        beside.chmod(0o755)
+        self.script("distac", f'exec {shlex.quote(PROGRAM)} "$@"')
         done = subprocess.run([sys.executable, str(self.file), "check", MANUAL, "--print"], capture_output=True, env={"PATH": os.environ["PATH"]})
         self.assertEqual((done.returncode, done.stdout.decode()), (0, (EXAMPLES / "manual.out").read_text()), done.stderr)
 
@@ -133,7 +125,7 @@ class Helps(unittest.TestCase):
 class Completion(unittest.TestCase):
     """Bash completes the words of the parser."""
 
-    def offered(self, *words: str) -> List[str]:
+    def offered(self, *words: str) -> list[str]:
         """The completions of the last of some words."""
         script = view("--print-completion", "bash").output
         line = " ".join(shlex.quote(word) for word in ("distac-view", *words))
@@ -161,7 +153,3 @@ class Completion(unittest.TestCase):
         self.assertEqual(self.offered("--print-completion", ""), ["bash"])
         for words in (("--distac", ""), ("what-if", "--after", ""), ("timeline", "-o", "--"), ("check", ""), ("check", "examples/")):
             self.assertEqual(self.offered(*words), [], words)
-
-
-if __name__ == "__main__":
-    unittest.main()

@@ -1,17 +1,14 @@
 """The pages of `what-if`, `rolling` and `load`: their contents, their places, and that they contain the whole printed
 answer."""
 
-from __future__ import annotations
-
 import hashlib
 import json
 import os
 import re
-import unittest
 from html import unescape
 from html.parser import HTMLParser
 from pathlib import Path
-from typing import Any, Dict, List, Tuple
+from typing import Any
 from unittest import mock
 
 from support import EXAMPLES, PROGRAM, InRoom, Said, run_view, view
@@ -25,7 +22,7 @@ FLEET = """[{kernel,[{distributed,[{billing,8000,['shop-1@10.0.0.11',{'shop-2@10
 {reports,5000,[c@h,'shop-1@10.0.0.11']},{audit,5000,['shop-1@10.0.0.11']},{ledger,8000,['shop-1@10.0.0.11',{c@h,'shop-2@10.0.0.12'}]}]},
 {sync_nodes_mandatory,[c@h]},{sync_nodes_optional,['shop-1@10.0.0.11','shop-2@10.0.0.12']},{sync_nodes_timeout,3000}]}].
 """
-QUESTIONS: Tuple[Tuple[str, ...], ...] = (
+QUESTIONS: tuple[tuple[str, ...], ...] = (
     ("what-if", "FLEET"),
     ("what-if", "FLEET", "--all", "--down", "c", "shop-2", "--back", "shop-2"),
     ("what-if", "FLEET", "--then", "OTHER"),
@@ -43,12 +40,12 @@ class Text(HTMLParser):
 
     def __init__(self, page: str) -> None:
         super().__init__()
-        self.tags: List[str] = []
-        self.found: Dict[str, List[str]] = {}
-        self.rows: List[List[str]] = []
+        self.tags: list[str] = []
+        self.found: dict[str, list[str]] = {}
+        self.rows: list[list[str]] = []
         self.feed(page.replace("<wbr>", "").replace("\u00a0", " ").replace("\u2192", "->"))
 
-    def handle_starttag(self, tag: str, attrs: List[Tuple[str, "str | None"]]) -> None:
+    def handle_starttag(self, tag: str, attrs: list[tuple[str, "str | None"]]) -> None:
         """Notes an element."""
         if tag not in ("meta", "br"):
             self.tags.append(tag)
@@ -63,26 +60,23 @@ class Text(HTMLParser):
         assert self.tags.pop() == tag, tag
 
     def handle_data(self, data: str) -> None:
-        """Notes a text."""
         if self.tags:
             self.found[self.tags[-1]][-1] += data
         if self.tags and self.tags[-1] in ("th", "td"):
             self.rows[-1][-1] += data
 
-    def texts(self, *tags: str) -> List[str]:
+    def texts(self, *tags: str) -> list[str]:
         """The texts of the elements of some kinds."""
         return [text for tag in tags for text in self.found.get(tag, [])]
 
 
 class Pages(InRoom):
-    """The contents of each page."""
-
     def setUp(self) -> None:
         super().setUp()
         self.write("fleet.config", FLEET)
         self.write("other.config", FLEET.replace("8000", "9000").replace("audit", "mirror").replace("c@h,'shop-1", "'shop-1"))
 
-    def words(self, words: Tuple[str, ...]) -> List[str]:
+    def words(self, words: tuple[str, ...]) -> list[str]:
         """A command line with file names."""
         names = {"FLEET": str(self.room / "fleet.config"), "OTHER": str(self.room / "other.config")}
         return [names.get(word, word) for word in words]
@@ -92,9 +86,8 @@ class Pages(InRoom):
         with mock.patch.dict(os.environ, {EPOCH: NOON}):
             return view(*self.words(words), "-o", "-")
 
-    def answer(self, *words: str) -> Dict[str, Any]:
-        """The answer as JSON."""
-        found: Dict[str, Any] = json.loads(view(*self.words(words), "--json").output)
+    def asked(self, *words: str) -> dict[str, Any]:
+        found: dict[str, Any] = json.loads(view(*self.words(words), "--json").output)
         return found
 
     def test_it_stands_beside_the_answer(self) -> None:
@@ -142,7 +135,7 @@ class Pages(InRoom):
         seen = set()
         for words in QUESTIONS:
             said = Text(self.page(*words).output).texts("li")
-            for note in self.answer(*words)["notes"]:
+            for note in self.asked(*words)["notes"]:
                 self.assertIn(note["text"], said, words)
                 seen.add(note["id"])
         self.assertLessEqual({"EqualTimes", "CannotComeBack", "NoDrain", "NoRollingChange", "Outage", "NotRunning"}, seen)
@@ -156,7 +149,7 @@ class Pages(InRoom):
 
     def test_each_square(self) -> None:
         for words in QUESTIONS[:2]:
-            answer = self.answer(*words)
+            answer = self.asked(*words)
             rows = Text(self.page(*words).output).rows[: len(answer["cases"]) + 2]
             for case, (down, *cells) in zip(answer["cases"], rows[2:]):
                 self.assertEqual((down, len(cells)), (f"{' '.join(case['down'])} down", len(case["applications"])))
@@ -169,7 +162,7 @@ class Pages(InRoom):
 
     def test_each_square_of_a_restart(self) -> None:
         for words in QUESTIONS[4:6]:
-            answer, (heads, *rows) = self.answer(*words), Text(self.page(*words).output).rows
+            answer, (heads, *rows) = self.asked(*words), Text(self.page(*words).output).rows
             self.assertEqual(heads[2:], [f"{number}. {step['node']} restarts" for number, step in enumerate(answer["steps"], 1)])
             for app, place, *squares in rows:
                 for step, square in zip(answer["steps"], squares):
@@ -187,7 +180,7 @@ class Pages(InRoom):
 
     def test_each_square_of_a_split(self) -> None:
         words = QUESTIONS[7]
-        answer, (heads, before, *sides) = self.answer(*words), Text(self.page(*words).output).rows
+        answer, (heads, before, *sides) = self.asked(*words), Text(self.page(*words).output).rows
         sides, healed = sides[: len(answer["parts"])], sides[len(answer["parts"])]
         self.assertEqual(healed[1:], [each["back"] for each in answer["healed"]])
         for part, (name, *squares) in zip(answer["parts"], sides):
@@ -233,7 +226,7 @@ class Pages(InRoom):
 
     def test_each_step(self) -> None:
         for words in QUESTIONS[4:6]:
-            answer, text = self.answer(*words), Text(self.page(*words).output)
+            answer, text = self.asked(*words), Text(self.page(*words).output)
             self.assertEqual(text.texts("h3"), [f"{number}. {step['node']}" for number, step in enumerate(answer["steps"], 1)])
             said = " ".join(text.texts("dd"))
             for step in answer["steps"]:
@@ -250,7 +243,7 @@ class Pages(InRoom):
 
     def test_each_load(self) -> None:
         words = QUESTIONS[6]
-        answer, text = self.answer(*words), Text(self.page(*words).output)
+        answer, text = self.asked(*words), Text(self.page(*words).output)
         nodes = answer["nodes"]
         self.assertEqual(text.rows[0], ["down", *nodes, "lost"])
         rows = {row[0]: row[1:] for row in text.rows[1:]}
@@ -292,7 +285,3 @@ class Pages(InRoom):
         self.assertEqual(wrapped("shop1@10.0.0.11"), "shop1@<wbr>10.0.0.11")
         self.assertLessEqual(max(map(len, wrapped("x" * 300).split("<wbr>"))), 12)
         self.assertEqual(wrapped("x" * 24), "x" * 24)
-
-
-if __name__ == "__main__":
-    unittest.main()

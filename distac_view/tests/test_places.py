@@ -1,7 +1,5 @@
 """Lines and columns as an editor counts them."""
 
-from __future__ import annotations
-
 import unittest
 
 import support
@@ -93,7 +91,3 @@ class ShortNames(unittest.TestCase):
             self.assertEqual((short.each(nodes), short.left_out), (names, left_out))
             self.assertEqual([node_meant(name, list(nodes)) for name in names], list(nodes))
             self.assertEqual(short.one(None), "-")
-
-
-if __name__ == "__main__":
-    unittest.main()

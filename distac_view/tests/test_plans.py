@@ -1,18 +1,16 @@
 """`load`, `rolling` and `what-if --then`, each compared with other plays of their questions."""
 
-from __future__ import annotations
-
 import json
 import re
 import unittest
-from typing import List, Sequence, Tuple
+from typing import Sequence
 from itertools import combinations, permutations
 from pathlib import Path
 from random import Random
 from unittest import mock
 
 from json_schema import documented
-from support import EXAMPLES, IS_STAND_IN, InRoom, distac, view
+from support import IS_STAND_IN, InRoom, distac, view
 from test_starts import checked_of, random_places
 from test_what_if import random_config
 from distac_view.answering import load as loads
@@ -52,14 +50,11 @@ def random_side(random: Random) -> Side:
 
 
 class Files(InRoom):
-    """Tests with files of configurations."""
-
     def setUp(self) -> None:
         super().setUp()
         self.shop = self.path("shop.config", SHOP)
 
     def path(self, name: str, text: str) -> str:
-        """A file of a text."""
         return str(self.write(name, text))
 
 
@@ -179,8 +174,6 @@ class Hangs(Files):
 
 
 class Rolls(Files):
-    """Rolling restarts."""
-
     def test_moves_are_the_claims_of_the_script(self) -> None:
         for number in range(COUNT // 2):
             random = Random(f"rolling {number}")
@@ -274,8 +267,6 @@ def cost_of(side: Side, order: "tuple[str, ...]") -> "tuple[int, ...]":
 
 
 class Changed(Files):
-    """The changes by a new configuration."""
-
     def test_against_two_replies(self) -> None:
         for number in range(COUNT):
             random = Random(f"changes {number}")
@@ -327,7 +318,7 @@ class Changed(Files):
 
     def test_what_a_rollout_fails_on(self) -> None:
         old = self.path("old.config", FULL_SHOP)
-        rows: Sequence[Tuple[str, str, List[str]]] = (
+        rows: Sequence[tuple[str, str, list[str]]] = (
             ("billing,8000", "billing,8001", []),
             ("shop2@h,shop3@h]},{reports", "shop2@h]},{reports", ["rollout"]),
             (",{audit,0,[shop1@h,shop2@h]}", "", ["rollout"]),
@@ -366,8 +357,7 @@ def fates_of(reply: Reply) -> "dict[tuple[str, ...], Fate]":
 
 
 def what_follows(fate: Fate) -> "tuple[object, ...]":
-    """The effect of a loss on an application. All random files have one net_ticktime, so an outage is as long as its
-    wait."""
+    """The effect of a loss on an application. All random files have one net_ticktime: an outage is its wait."""
     able = {node for node, mark in marks_in(fate.marks) if mark == "ok"}
     return fate.then, fate.milliseconds, fate.how == "failover", fate.back, fate.then is not None and able <= {fate.then}
 
@@ -384,10 +374,7 @@ def now_of(fates: "dict[tuple[str, ...], Fate]", app: str) -> "str | None":
 
 
 class Json(Files):
-    """Answers as JSON have the form described in docs/FORMATS.md."""
-
     def test_answers(self) -> None:
-        schema = documented()
         gate = self.path("gate.config", GATED_SHOP)
         now = self.path("now", "shop1@h billing audit\nshop2@h mail\n")
         questions = (
@@ -403,8 +390,7 @@ class Json(Files):
             ("what-if", self.shop, "--down", "shop1@h", "shop2@h", "--back", "shop1@h"),
         )
         for words in questions:
-            said = view(*words, "--json")
-            self.assertEqual(schema.faults_of(said.output), [], words)
+            self.assertEqual(documented().faults_of(view(*words, "--json").output), [], words)
 
 
 class Now(Files):
@@ -505,8 +491,3 @@ class Now(Files):
         for words in (("'My-App'='a=b@h'",), ("My-App=a=b@h",), (self.path("now", "a=b@h My-App\n'c-d@h'\r\n"),)):
             answer = json.loads(view("what-if", path, "--now", *words, "--json").output)
             self.assertEqual([fate["now"] for case in answer["cases"] for fate in case["applications"]], ["a=b@h", "a=b@h"])
-
-
-if __name__ == "__main__":
-    assert EXAMPLES
-    unittest.main()

@@ -1,6 +1,5 @@
-"""The program's behavior if its output can't be written or memory is short. Skipped if the models replace it."""
-
-from __future__ import annotations
+"""The program's behavior if its output can't be written, memory is short, or a word isn't text. Skipped if the models
+replace it."""
 
 import functools
 import resource
@@ -13,13 +12,12 @@ from support import EXAMPLES, IS_STAND_IN, PROGRAM
 # Limits of memory, in KiB, around those below which the C library's loader fails. It ends with this status.
 LIMITS, NOT_LOADED = range(2_600, 4_400, 4), 127
 TOO_LONG = b"record fault 1 TooLong\n"
+NO_TEXT = b"error: a word of the command line isn't UTF-8\n\nFor more information, try '--help'.\n"
 INPUTS = {"check": "manual.config", "sim": "failover.distac", "live": "live-three-nodes.distac", "record": "race.live"}
 
 
 @unittest.skipIf(IS_STAND_IN, "the models aren't the program")
 class Program(unittest.TestCase):
-    """Each command, on an example."""
-
     def ended(self, line: str, command: str) -> "tuple[int, str]":
         """The status of a shell's line, in which $0 is the program, and its standard error."""
         with Path(EXAMPLES, INPUTS[command]).open("rb") as source:
@@ -69,6 +67,8 @@ class Program(unittest.TestCase):
             status, errors = self.ended(f'exec "$0" {word} >/dev/full', "check")
             self.assertEqual((status, errors.partition(": No")[0]), (1, "distac: standard output can't be written"), word)
 
-
-if __name__ == "__main__":
-    unittest.main()
+    def test_word_that_is_not_utf_8(self) -> None:
+        for words in ([b"caf\xe9"], [b"check", b"\xff"], [b"\xc0\xaf", b"sim"]):
+            with self.subTest(words=words):
+                done = subprocess.run([PROGRAM.encode(), *words], stdin=subprocess.DEVNULL, capture_output=True)
+                self.assertEqual((done.returncode, done.stdout, done.stderr), (2, b"", NO_TEXT))

@@ -1,15 +1,11 @@
 """The two readers of configuration files: their results, and their agreement if Erlang is installed."""
 
-from __future__ import annotations
-
 import os
-import tempfile
 import unittest
-from pathlib import Path
 from random import Random
 from unittest import mock
 
-import support
+from support import InRoom
 from hostile_files import hostile_sources
 from random_terms import changed, random_file
 from distac_view.common.problems import Problem
@@ -62,13 +58,10 @@ class ByteTokens(unittest.TestCase):
 
 
 class OwnReader(unittest.TestCase):
-    """Our own reader."""
-
     def test_what_is_read(self) -> None:
         for text, term in (*READ, *NEWER):
             with self.subTest(text=text[:80]):
-                found = term_of(text) if term is not None else None
-                self.assertEqual(found, term)
+                self.assertEqual(term_of(text) if term is not None else None, term)
 
     def test_what_is_refused(self) -> None:
         for text in MISREAD:
@@ -93,8 +86,6 @@ class OwnReader(unittest.TestCase):
 
 @unittest.skipUnless(has_erlang(), "Erlang isn't installed")
 class Agreement(unittest.TestCase):
-    """Both readers agree."""
-
     def compare(self, texts: list[str]) -> None:
         """Each text is read by both, or by none, as one term."""
         for text, own, erlang in zip(texts, read_by_own(texts), read_by_erlang(texts)):
@@ -133,7 +124,7 @@ class Agreement(unittest.TestCase):
             self.assertEqual(read_by_erlang(["[a]."]), [[Atom("a")]])
 
 
-class ErlangThatFails(unittest.TestCase):
+class ErlangThatFails(InRoom):
     """An Erlang that is missing, or doesn't answer."""
 
     def test_none(self) -> None:
@@ -148,16 +139,8 @@ class ErlangThatFails(unittest.TestCase):
                 read_by_erlang(["[]."])
 
     def test_why_it_failed(self) -> None:
-        with tempfile.TemporaryDirectory() as room:
-            script = Path(room, "escript")
-            script.write_text("#!/bin/sh\necho loading >&2; echo no memory >&2; exit 3\n")
-            script.chmod(0o755)
-            for which, said in ((str(script), "status 3 (no memory): try"), ("/bin/false", "status 1: try")):
-                with mock.patch("shutil.which", lambda _: which), self.assertRaises(Problem) as caught:
-                    read_by_erlang(["[]."])
-                self.assertEqual(caught.exception.sentence, f"escript ended with {said} --reader own")
-
-
-if __name__ == "__main__":
-    assert support.TOP
-    unittest.main()
+        script = self.script("escript", "echo loading >&2; echo no memory >&2; exit 3")
+        for which, said in ((str(script), "status 3 (no memory): try"), ("/bin/false", "status 1: try")):
+            with mock.patch("shutil.which", lambda _: which), self.assertRaises(Problem) as caught:
+                read_by_erlang(["[]."])
+            self.assertEqual(caught.exception.sentence, f"escript ended with {said} --reader own")

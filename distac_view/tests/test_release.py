@@ -1,30 +1,24 @@
 """A release: the contents of its folder, the conditions for making it, its commit, and the script for CI, with only
 Python."""
 
-from __future__ import annotations
-
 import hashlib
 import os
 import re
 import shutil
 import subprocess
 import sys
-import tempfile
 import unittest
 from pathlib import Path
-from typing import Dict, List
 
-from support import TOP, view
+from support import TOP, InRoom, view
 from distac_view.common.version import CHANGED, UNKNOWN, VERSION, commit_of
 
 PARTS = ("distac_view/*.py", "distac_view/[!t]*/*.py", "models/*.py", "distac-view", "docs/distac-view.schema.json", "LICENSE")
-FAKE = """#!/bin/sh
-case "$1 $2" in
+FAKE = """case "$1 $2" in
     "--which --proved") echo "STATE" ;;
     "--version ") echo "distac 9.9.9, bytes 2" ;;
-esac
-"""
-RT = "#!/bin/sh\necho 'kit-1 logic 1'\necho more\n"
+esac"""
+RT = "echo 'kit-1 logic 1'\necho more"
 NAMES = ["LICENSE", "RELEASE", "SHA256SUMS", "distac", "distac-view.pyz", "distac-view.schema.json"]
 OWN_CONFIG = """[{kernel,[{distributed,[{billing,5000,['shop1@10.0.0.1','shop2@10.0.0.2']},{audit,7000,['shop2@10.0.0.2','shop1@10.0.0.1']}]},
 {sync_nodes_optional,['OTHER']},{sync_nodes_timeout,3000}]}].
@@ -46,21 +40,13 @@ def git(folder: Path, *words: str) -> str:
     return done.stdout.strip()
 
 
-class Room(unittest.TestCase):
+class Room(InRoom):
     """A folder for each test, with programs that a command finds there first."""
 
     def setUp(self) -> None:
-        room = tempfile.TemporaryDirectory()
-        self.addCleanup(room.cleanup)
-        self.room = Path(room.name)
+        super().setUp()
         self.programs = self.room / "programs"
         self.programs.mkdir()
-
-    def program(self, path: Path, text: str) -> Path:
-        """An executable script."""
-        path.write_text(text)
-        path.chmod(0o755)
-        return path
 
 
 @unittest.skipUnless(shutil.which("git"), "git isn't in PATH")
@@ -76,10 +62,9 @@ class Release(Room):
                 copy.parent.mkdir(parents=True, exist_ok=True)
                 shutil.copy(path, copy)
         (self.top / ".gitignore").write_text("out/\n")
-        (self.top / "out").mkdir()
-        self.proved = self.program(self.top / "out" / "proved", FAKE)
-        self.program(self.top / "distac", FAKE.replace("STATE", f"proved: {self.proved}"))
-        self.program(self.programs / "rt", RT)
+        self.proved = self.script("top/out/proved", FAKE)
+        self.script("top/distac", FAKE.replace("STATE", f"proved: {self.proved}"))
+        self.script("programs/rt", RT)
         git(self.top, "init", "-q", ".")
         self.commit = self.committed()
         self.folder = self.room / "release"
@@ -95,9 +80,8 @@ class Release(Room):
         path = f"{self.programs}{os.pathsep}{os.environ['PATH']}" if has_rt else f"{self.room}{os.pathsep}/usr/bin{os.pathsep}/bin"
         return said(sys.executable, str(self.top / "distac_view" / "release.py"), *words, str(self.folder), cwd=self.room, path=path)
 
-    def facts(self) -> Dict[str, str]:
-        lines = (self.folder / "RELEASE").read_text().splitlines()
-        return dict(line.split(": ", 1) for line in lines)
+    def facts(self) -> dict[str, str]:
+        return dict(line.split(": ", 1) for line in (self.folder / "RELEASE").read_text().splitlines())
 
     def refused(self, sentence: str, *words: str, has_rt: bool = True) -> None:
         """No release is made, and nothing of it is left."""
@@ -127,7 +111,7 @@ class Release(Room):
         self.assertEqual(version.stdout, f"{VERSION}, commit {self.commit}\n", version.stderr)
 
     def test_the_same_bytes_each_time(self) -> None:
-        found: List[Dict[str, bytes]] = []
+        found: list[dict[str, bytes]] = []
         for _ in range(2):
             self.assertEqual(self.made().returncode, 0)
             found.append({path.name: path.read_bytes() for path in self.folder.iterdir()})
@@ -137,7 +121,7 @@ class Release(Room):
 
     def test_without_a_proved_program(self) -> None:
         for state in ("none", f"stale: {self.proved}", f"not proved: {self.proved}", ""):
-            self.program(self.top / "distac", FAKE.replace("STATE", state))
+            self.script("top/distac", FAKE.replace("STATE", state))
             self.committed()
             self.refused("there is no proved program")
         commit = self.committed_again()
@@ -148,7 +132,6 @@ class Release(Room):
         self.assertEqual(self.facts()["commit"], commit)
 
     def committed_again(self) -> str:
-        """A further commit."""
         (self.top / "more").write_text("more")
         return self.committed()
 
@@ -197,11 +180,11 @@ class InCI(Room):
     def setUp(self) -> None:
         super().setUp()
         text = (TOP / "docs" / "OPERATORS.md").read_text().split("\n## In CI\n")[1].split("\n## ")[0]
-        self.script, self.workflow = BLOCK.findall(text)[:2]
+        self.steps, self.workflow = BLOCK.findall(text)[:2]
         (self.programs / "python3").symlink_to(sys.executable)
         self.folder = self.room / "configurations"
         (self.folder / "ci").mkdir(parents=True)
-        (self.folder / "ci" / "failover.sh").write_text(self.script)
+        (self.folder / "ci" / "failover.sh").write_text(self.steps)
         done = subprocess.run([sys.executable, str(TOP / "distac_view" / "pack.py"), "-o", str(self.folder / "ci" / "distac-view.pyz")], check=True)
         self.assertEqual(done.returncode, 0)
         for node in OTHERS:
@@ -223,20 +206,19 @@ class InCI(Room):
         self.assertIsNotNone(shell)
         return said(str(shell), *runs[0].split()[1:], cwd=self.folder, path=str(self.programs))
 
-    def names(self) -> List[str]:
-        """The existing pages."""
+    def pages(self) -> list[str]:
         return sorted(path.name for path in self.folder.glob("*.html"))
 
     def test_a_change(self) -> None:
         done = self.ran()
         self.assertEqual(done.returncode, 0, done)
-        self.assertEqual(self.names(), ["load.html", "rolling.html"])
+        self.assertEqual(self.pages(), ["load.html", "rolling.html"])
         shutil.move(str(self.folder / "new.config"), str(self.folder / "cluster.config"))
         self.change("audit,7000", "audit,9000")
         done = self.ran()
         self.assertEqual(done.returncode, 0, done)
         self.assertIn(["~", "audit", "time", "7000", "->", "9000"], [line.split() for line in done.stdout.splitlines()])
-        self.assertEqual(self.names(), ["change.html", "load.html", "rolling.html"])
+        self.assertEqual(self.pages(), ["change.html", "load.html", "rolling.html"])
         self.assertIn("Change: cluster.config to new.config", (self.folder / "change.html").read_text())
 
     def test_a_fault(self) -> None:
@@ -244,17 +226,17 @@ class InCI(Room):
         self.assertEqual(self.ran().returncode, 2)
         self.change("billing", "bill", "shop2")
         done = self.ran()
-        self.assertEqual((done.returncode, self.names()), (2, []), done)
+        self.assertEqual((done.returncode, self.pages()), (2, []), done)
         self.assertIn("Differs", done.stdout + done.stderr)
 
     def test_the_no_of_a_question(self) -> None:
         self.change("{sync_nodes_timeout", "{permissions,[{audit,false}]},{sync_nodes_timeout", "shop2")
         done = self.ran()
-        self.assertEqual((done.returncode, self.names()), (1, []), done)
+        self.assertEqual((done.returncode, self.pages()), (1, []), done)
         self.assertIn("PermissionDiffers", done.stderr)
         self.change("{sync_nodes_timeout", "{permissions,[{audit,false}]},{sync_nodes_timeout")
         done = self.ran()
-        self.assertEqual((done.returncode, self.names()), (1, ["load.html"]), done)
+        self.assertEqual((done.returncode, self.pages()), (1, ["load.html"]), done)
         self.assertIn("lost: audit runs nowhere before any loss", done.stderr)
         self.assertIn("lost: audit runs nowhere before any loss", (self.folder / "load.html").read_text())
 
@@ -268,11 +250,5 @@ class InCI(Room):
 
 
 class Version(unittest.TestCase):
-    """The output of --version for this checkout, or for an unpacked one."""
-
     def test_version(self) -> None:
         self.assertEqual(view("--version").output, f"{VERSION}, commit {commit_of(TOP) or UNKNOWN}\n")
-
-
-if __name__ == "__main__":
-    unittest.main()

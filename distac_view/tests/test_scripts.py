@@ -1,14 +1,12 @@
 """Random scripts of the models: `play` shows the lines of `distac` in order, and a `tell` of all nodes is a share."""
 
-from __future__ import annotations
-
 import unittest
 from random import Random
 
 from support import IS_STAND_IN, distac
 from check import MOST_INPUT, read_config
 from random_scripts import CALM, CONFIGS, DRAINS, LETTERS, PAUSES, ScriptMaker, decorated, odd_input, with_fault
-from distac_view.asking.inputs import answers_of, check_config, checked_lines, plain_of
+from distac_view.asking.inputs import Loaded, answers_of, check_config, checked_lines, plain_of
 from distac_view.asking.program import lines_of
 from distac_view.common.diagnostics import Faulty
 from distac_view.common.texts import text_of
@@ -34,8 +32,6 @@ def random_source(number: int) -> bytes:
 
 
 class Scripts(unittest.TestCase):
-    """The answers shown are those of `distac`, each with its line."""
-
     def test_each_answer_stands_beside_its_line(self) -> None:
         for number in range(COUNT):
             source = random_source(number)
@@ -60,23 +56,18 @@ class Scripts(unittest.TestCase):
             self.assertEqual(caught.exception.remark.place.line, script.lines[fault.place - 1].number)
 
 
-def script_in(source: bytes) -> Script:
-    """The script of a file that has the line `--`."""
+def loaded_of(source: bytes) -> Loaded:
+    """A file that has the line `--`, with each `tell` written out."""
     script = script_of(source)
     assert script is not None
-    return script
+    configuration = check_config(distac(), "x", script.config).configuration
+    return Loaded("x", script, configuration, checked_lines(distac(), "x", script, configuration))
 
 
 def shown_answers(source: bytes) -> list[str]:
     """The answers in the rows of `play`."""
-    script = script_in(source)
-    checked = check_config(distac(), "x", script.config)
-    lines = checked_lines(distac(), "x", script, checked.configuration)
-    from distac_view.asking.inputs import Loaded
-
-    loaded = Loaded("x", script, checked.configuration, lines)
     layout, found = Layout(6, 20), []
-    for one in answers_of(distac(), loaded):
+    for one in answers_of(distac(), loaded_of(source)):
         if one.line.is_event:
             rows = [row[layout.start :] for row in layout.rows(one, explains=True)]
             found += [row for row in rows if not row.startswith(EXPLAINS)]
@@ -106,7 +97,7 @@ class Telling(unittest.TestCase):
         lines = b"boot x 0\nboot y 0\nboot z 0\ntell x y\ntell x y z\ntell y z\nshare\ntell z y\ntick x 5\ntell x z\ntell x z".split(b"\n")
         before: list[str] = []
         for count in range(len(lines) + 1):
-            texts = [line.text for line in told_lines(config, b"\n".join(lines[:count]))]
+            texts = [line.text for line in loaded_of(config + b"--\n" + b"\n".join(lines[:count])).lines]
             self.assertEqual(texts[: len(before)], before)
             before = texts if count else []
 
@@ -115,23 +106,14 @@ class Telling(unittest.TestCase):
         for line, name in rows:
             for before, its in ((b"", name), (b"boot x\n", "BadCount")):
                 with self.subTest(line=line, before=before), self.assertRaises(Faulty) as caught:
-                    told_lines(CONFIGS[3], before + line)
+                    loaded_of(CONFIGS[3] + b"--\n" + before + line)
                 self.assertEqual(caught.exception.remark.name, its)
-
-
-def told_lines(config: bytes, script: bytes) -> list[Line]:
-    """The lines of a script with each `tell` written out."""
-    made = script_in(config + b"--\n" + script)
-    checked = check_config(distac(), "x", config)
-    return checked_lines(distac(), "x", made, checked.configuration)
 
 
 def told_answers(config: bytes, script: bytes) -> list[str]:
     """The answers to all lines except ships, deliveries and shares, without numbers of messages."""
-    made = script_in(config + b"--\n" + script)
-    checked = check_config(distac(), "x", config)
-    lines = checked_lines(distac(), "x", made, checked.configuration)
-    output = lines_of(text_of(distac().asked("sim", plain_of(made, lines))[0]))
+    loaded = loaded_of(config + b"--\n" + script)
+    output = lines_of(text_of(distac().asked("sim", plain_of(loaded.script, loaded.lines))[0]))
     return [line for line in output if not line.startswith(("shipped", "shared", "heard ")) and "UpToDate" not in line and "NotForMe" not in line]
 
 
@@ -143,7 +125,3 @@ class Guesses(unittest.TestCase):
         written = written_out(lines, lambda run: ["refused 1 Off" if line.is_event else "" for line in run])
         self.assertEqual([line.text for line in written], ["% tell a b c", "boot a 0"])
         self.assertTrue(Script(b"tell", b"", lines).has_tells)
-
-
-if __name__ == "__main__":
-    unittest.main()

@@ -1,13 +1,8 @@
 """`what-if --split`: the applications of each side of a split, and the rest once it is healed."""
 
-from __future__ import annotations
-
-import json
-import unittest
 from random import Random
 from typing import Any, Iterator
 
-from json_schema import documented
 from support import InRoom, Said, distac, view
 from test_what_if import random_config
 from distac_view.asking.snapshots import page_of
@@ -26,21 +21,15 @@ FIRST = (
 
 
 class Splits(InRoom):
-    """Splits of a cluster of four nodes, and of random ones."""
-
     def setUp(self) -> None:
         super().setUp()
         self.config = self.write("cluster.config", FOUR)
 
     def ask(self, split: str, *words: str) -> Said:
-        """The output for a split."""
         return view("what-if", str(self.config), "--split", *split.split(), *words)
 
     def json(self, split: str, *words: str) -> Any:
-        """The output as JSON, which fits its schema."""
-        said = self.ask(split, "--json", *words)
-        self.assertEqual((said.status, documented().faults_of(said.output)), (0, []), said)
-        return json.loads(said.output)
+        return self.answer(0, "what-if", str(self.config), "--split", *split.split(), *words)
 
     def places(self, split: str, *words: str) -> "list[dict[str, str | None]]":
         """The place of each application on each side."""
@@ -94,7 +83,7 @@ class Splits(InRoom):
         for number in range(COUNT):
             random = Random(f"split {number}")
             self.config.write_text(random_config(random))
-            nodes = json.loads(view("what-if", str(self.config), "--json").output)["nodes"]
+            nodes = self.answer(0, "what-if", str(self.config))["nodes"]
             if len(nodes) < 2:
                 continue
             side = sorted(random.sample(nodes, random.randrange(1, len(nodes))))
@@ -102,7 +91,7 @@ class Splits(InRoom):
             with self.subTest(number=number, side=side, text=self.config.read_text()):
                 answer = self.json(" ".join([*side, "/", *other]))
                 for part, down in zip(answer["parts"], (other, side)):
-                    alone = json.loads(view("what-if", str(self.config), "--json", "--down", *down).output)["cases"][0]
+                    alone = self.answer(0, "what-if", str(self.config), "--down", *down)["cases"][0]
                     kept = ("application", "now", "then", "how", "milliseconds", "list")
                     self.assertEqual(*([{name: fate[name] for name in kept} for fate in each["applications"]] for each in (part, alone)))
 
@@ -159,7 +148,3 @@ def way_out(healed: "list[dict[str, Any]]") -> Iterator[str]:
     for _ in range(4):
         yield from ["share", "share", *(f"tick {node} 2000" for node in NODES)]
     yield from ["share", "share"]
-
-
-if __name__ == "__main__":
-    unittest.main()

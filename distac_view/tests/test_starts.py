@@ -4,10 +4,7 @@ places.
 A case written in one go is compared with the case played step by step.
 """
 
-from __future__ import annotations
-
 import json
-import tempfile
 import unittest
 from functools import partial
 from pathlib import Path
@@ -57,14 +54,11 @@ def checked_of(text: str) -> Checked:
 
 
 class Asked(InRoom):
-    """Questions after scripts."""
-
     def setUp(self) -> None:
         super().setUp()
         self.path = self.room / "script"
 
     def reply(self, config: str, script: str, *down: str) -> Reply:
-        """The reply to a question after a script."""
         self.path.write_text(config + "--\n" + script)
         return reply_on(distac(), checked_of(config), Question("x", list(down), after=str(self.path)))
 
@@ -137,10 +131,7 @@ class Splits(Asked):
     def test_the_table_names_its_sides(self) -> None:
         config, script = (EXAMPLES / "split.distac").read_text().split("--\n", 1)
         self.path.write_text(config + "--\n" + script[: script.index("page cp1@cave")])
-        with tempfile.NamedTemporaryFile("w", suffix=".config") as file:
-            file.write(config)
-            file.flush()
-            output = view("what-if", file.name, "--after", str(self.path)).output
+        output = view("what-if", str(self.write("some.config", config)), "--after", str(self.path)).output
         self.assertIn("side of cp1@cave:\n", output)
         self.assertIn("side of cp2@cave and cp3@cave:\n", output)
 
@@ -227,8 +218,6 @@ class Forbidden(Asked):
 
 
 class Courses(Asked):
-    """Random starts and losses."""
-
     def test_the_start_holds_what_now_says(self) -> None:
         for number in range(COUNT):
             random = Random(f"now {number}")
@@ -284,8 +273,7 @@ class Courses(Asked):
         return quick_ones[0] is not None
 
     def no_living_holder_is_missed(self, course: Course) -> None:
-        """An application that is nowhere at the end has no running holder, according to any running node of the side
-        once all was told."""
+        """What is nowhere at the end has no running holder, says any running node once all was told."""
         cluster = course.cluster.copy()
         share_all(distac(), cluster)
         pages = {one.actor: page_of(one.answer) for one in cluster.story.play(distac(), *(f"page {node}" for node in cluster.nodes))}
@@ -342,8 +330,6 @@ def counted(done: int) -> tuple[int, int]:
 
 
 class Progressing(unittest.TestCase):
-    """The output of the progress."""
-
     def test_it_counts_cases(self) -> None:
         progress = Progress()
         progress.ask()
@@ -382,7 +368,3 @@ class Plays(unittest.TestCase):
         reply = reply_on(program, checked_of(text), Question("x"))
         self.assertEqual((len(reply.cases), program.cases, program.cases_done), (9, 9, 9))
         self.assertLessEqual(len(asked), 9 + 5)
-
-
-if __name__ == "__main__":
-    unittest.main()

@@ -1,19 +1,14 @@
 """Standard streams that are closed or can't be written, and written files: nothing is lost, and nothing is a
 traceback."""
 
-from __future__ import annotations
-
 import os
 import shlex
 import stat
 import subprocess
 import sys
-import tempfile
-import unittest
 from pathlib import Path
-from typing import List
 
-from support import EXAMPLES, PROGRAM, TOP, Said, view
+from support import EXAMPLES, PROGRAM, TOP, InRoom, Said, view
 from distac_view.common.problems import Problem
 from distac_view.common.writing import write_whole
 
@@ -30,16 +25,12 @@ def redirected(streams: str, *words: str, program: str = PROGRAM) -> Said:
     return Said(done.returncode, done.stdout.decode(), done.stderr.decode())
 
 
-class Streams(unittest.TestCase):
+class Streams(InRoom):
     """A closed stream leads to a sentence or a status."""
 
     def setUp(self) -> None:
-        room = tempfile.TemporaryDirectory()
-        self.addCleanup(room.cleanup)
-        quick = Path(room.name) / "quick"
-        quick.write_text(f"#!/bin/sh\ncat >/dev/null\ncat {shlex.quote(str(EXAMPLES / 'manual.out'))}\n")
-        quick.chmod(0o755)
-        self.quick = str(quick)
+        super().setUp()
+        self.quick = str(self.script("quick", f"cat >/dev/null\ncat {shlex.quote(str(EXAMPLES / 'manual.out'))}"))
 
     def expect(self, said: Said, status: int) -> None:
         """A status without a traceback."""
@@ -74,37 +65,29 @@ class Streams(unittest.TestCase):
         self.expect(redirected("<&-", "check", "-"), 2)
 
     def test_a_page_needs_no_output(self) -> None:
-        with tempfile.TemporaryDirectory() as room:
-            page = Path(room) / "page.html"
-            self.expect(redirected(">&- 2>&- <&-", "timeline", FAILOVER, "-o", str(page)), 0)
-            self.assertTrue(page.read_text().endswith("</html>\n"))
+        page = self.room / "page.html"
+        self.expect(redirected(">&- 2>&- <&-", "timeline", FAILOVER, "-o", str(page)), 0)
+        self.assertTrue(page.read_text().endswith("</html>\n"))
 
 
-class Files(unittest.TestCase):
+class Files(InRoom):
     """A file is written whole or not at all."""
 
     def setUp(self) -> None:
-        room = tempfile.TemporaryDirectory()
-        self.addCleanup(room.cleanup)
-        self.room = Path(room.name)
-        self.script = self.room / "my.distac"
-        self.script.write_bytes(Path(FAILOVER).read_bytes())
-
-    def names(self) -> List[str]:
-        """The contents of the folder."""
-        return sorted(path.name for path in self.room.iterdir())
+        super().setUp()
+        self.source = self.write("my.distac", Path(FAILOVER).read_text())
 
     def test_no_input_is_written_over(self) -> None:
-        (self.room / "link").symlink_to(self.script)
-        os.link(self.script, self.room / "same")
+        (self.room / "link").symlink_to(self.source)
+        os.link(self.source, self.room / "same")
         for name in ("my.distac", "link", "same", "../" + self.room.name + "/my.distac"):
-            said = view("timeline", str(self.script), "-o", str(self.room / name))
+            said = view("timeline", str(self.source), "-o", str(self.room / name))
             self.assertEqual(said.status, 2, name)
             self.assertIn("isn't written over", said.errors)
-        with open(self.script, "rb") as source:
-            line = [sys.executable, str(TOP / "distac-view"), "timeline", "-", "-o", str(self.script)]
+        with open(self.source, "rb") as source:
+            line = [sys.executable, str(TOP / "distac-view"), "timeline", "-", "-o", str(self.source)]
             self.assertEqual(subprocess.run(line, stdin=source, capture_output=True, env={**os.environ, "DISTAC": PROGRAM}).returncode, 2)
-        self.assertEqual(self.script.read_bytes(), Path(FAILOVER).read_bytes())
+        self.assertEqual(self.source.read_bytes(), Path(FAILOVER).read_bytes())
         self.assertEqual(self.names(), ["link", "my.distac", "same"])
 
     def test_an_earlier_page_is_replaced(self) -> None:
@@ -112,7 +95,7 @@ class Files(unittest.TestCase):
         page.write_text("before")
         page.chmod(0o640)
         (self.room / "link").symlink_to(page)
-        self.assertEqual(view("timeline", str(self.script), "-o", str(self.room / "link")).status, 0)
+        self.assertEqual(view("timeline", str(self.source), "-o", str(self.room / "link")).status, 0)
         self.assertTrue(page.read_text().startswith("<!DOCTYPE html>"))
         self.assertEqual(stat.S_IMODE(page.stat().st_mode), 0o640)
         self.assertTrue((self.room / "link").is_symlink())
@@ -135,7 +118,3 @@ class Files(unittest.TestCase):
             with self.subTest(place=place), self.assertRaises(Problem) as caught:
                 write_whole(place, b"page", [])
             self.assertIn("can't be written", caught.exception.sentence)
-
-
-if __name__ == "__main__":
-    unittest.main()

@@ -1,29 +1,21 @@
 """A plan is of certain files: their sums in pages and JSON, and what says that they changed."""
 
-from __future__ import annotations
-
 import hashlib
-import json
 import os
-import tempfile
-import unittest
 from pathlib import Path
-from typing import Any
 
-from json_schema import documented
-from support import Said, view
+from support import InRoom, Said, view
 
 TEXT = "[{kernel,[{distributed,[{a,500,[x@h,y@h]},{b,700,[y@h,x@h]}]}%s]}].\n"
 
 
-class Sums(unittest.TestCase):
+class Sums(InRoom):
     """A configuration that was gathered from the files of two nodes."""
 
     def setUp(self) -> None:
-        room = tempfile.TemporaryDirectory()
-        self.addCleanup(room.cleanup)
+        super().setUp()
         self.addCleanup(os.chdir, os.getcwd())
-        os.chdir(room.name)
+        os.chdir(self.room)
         for name in ("x.config", "y.config"):
             Path(name).write_text(TEXT % "")
         self.assertEqual(view("gather", *self.nodes, "--reader", "own", "-o", "cluster.config").status, 0)
@@ -36,23 +28,17 @@ class Sums(unittest.TestCase):
         self.assertEqual(said.status, status, said)
         return said.output.splitlines()
 
-    def json(self, status: int, *words: str) -> Any:
-        """An answer as JSON, which fits its schema."""
-        said = view(*words, "--json")
-        self.assertEqual((said.status, documented().faults_of(said.output)), (status, []), said)
-        return json.loads(said.output)
-
     def test_as_they_were(self) -> None:
         for words in ((), self.nodes):
             self.assertEqual(self.check(0, *words), ["2 of 2 files are those of cluster.config"])
-        self.assertTrue(self.json(0, "gather", "--check", "cluster.config")["same"])
+        self.assertTrue(self.answer(0, "gather", "--check", "cluster.config")["same"])
 
     def test_changed_and_gone(self) -> None:
         Path("x.config").write_text(TEXT % ",{net_ticktime,20}")
         Path("y.config").unlink()
         rows = ["x@h x.config has changed", "y@h y.config is gone", "0 of 2 files are those of cluster.config"]
         self.assertEqual(self.check(1), rows)
-        answer = self.json(1, "gather", "--check", "cluster.config")
+        answer = self.answer(1, "gather", "--check", "cluster.config")
         self.assertEqual(([each["now"] is None for each in answer["files"]], answer["same"]), ([False, True], False))
 
     def test_gathered_anew(self) -> None:
@@ -73,8 +59,8 @@ class Sums(unittest.TestCase):
         mark = hashlib.sha256(Path("x.config").read_bytes()).hexdigest()
         wanted = [{"node": f"{name}@h", "file": f"{name}.config", "sha256": mark} for name in "xy"]
         for words in (("what-if",), ("rolling",), ("load",), ("what-if", "--split", "x", "/", "y")):
-            self.assertEqual(self.json(0, words[0], "cluster.config", *words[1:])["gathered"], wanted, words)
-        self.assertEqual(self.json(0, "what-if", "x.config")["gathered"], [])
+            self.assertEqual(self.answer(0, words[0], "cluster.config", *words[1:])["gathered"], wanted, words)
+        self.assertEqual(self.answer(0, "what-if", "x.config")["gathered"], [])
         page = view("what-if", "cluster.config", "-o", "-").output
         self.assertIn(f"<dt>Gathered</dt><dd>x@h: x.config, SHA-256 {mark}</dd>", page)
 
@@ -83,12 +69,11 @@ class Sums(unittest.TestCase):
         self.assertEqual(view(*words).status, 0)
         Path("y.config").write_text(TEXT % ",{net_ticktime,20}")
         self.assertEqual(self.said(1, *words).output.splitlines()[-1], "- y.config changed since the new file was gathered from it: gather it again.")
-        self.assertEqual(self.json(1, *words)["notes"][0]["id"], "Stale")
+        self.assertEqual(self.answer(1, *words)["notes"][0]["id"], "Stale")
         self.assertIn("distac-view: stale: y.config changed", self.said(1, *words, "--fail-on", "rollout,stale").errors)
         self.assertEqual(self.said(0, *words, "--fail-on", "rollout,lost").errors, "")
 
     def said(self, status: int, *words: str) -> Said:
-        """The output with a status."""
         said = view(*words)
         self.assertEqual(said.status, status, said)
         return said
@@ -100,7 +85,3 @@ class Sums(unittest.TestCase):
         Path("x.config").write_text(TEXT % ",{net_ticktime,20}")
         said = view("expect", ".")
         self.assertEqual((said.status, "+x@h x.config has changed" in said.output), (1, True), said)
-
-
-if __name__ == "__main__":
-    unittest.main()

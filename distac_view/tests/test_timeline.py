@@ -1,16 +1,11 @@
 """The page of a timeline: its drawing on a screen, on paper, and for readers who can't see it or its colors."""
 
-from __future__ import annotations
-
 import re
-import tempfile
 import unittest
-from html.parser import HTMLParser
 from pathlib import Path
-from typing import Dict, List, Tuple
 from xml.etree import ElementTree
 
-from support import EXAMPLES, InRoom, view
+from support import EXAMPLES, Elements, InRoom, view
 from distac_view.reading.configuration import Application, Configuration
 from distac_view.reading.script_file import script_of
 from distac_view.showing.html_frame import DARK, LIGHT, PAPER
@@ -25,13 +20,12 @@ ODD = "'<b onclick=\"x()\">&amp;'"
 
 
 def page_of(path: Path, *words: str) -> str:
-    """The page of a script."""
     said = view("timeline", str(path), "-o", "-", *words)
     assert said.status == 0, said
     return said.output
 
 
-def pictures(page: str) -> List[ElementTree.Element]:
+def pictures(page: str) -> list[ElementTree.Element]:
     """The pictures of a page's rows, each read as XML."""
     found = [ElementTree.fromstring(text) for text in PICTURE.findall(page)]
     return [one for one in found if (one.get("aria-label") or "").startswith("lines ")]
@@ -45,28 +39,13 @@ def many_applications(count: int) -> str:
     return "[{kernel,[{distributed,[%s]}]}].\n--\nboot a@h 0\nboot b@h 0\nshare\n%s%s" % (entries, starts, rest)
 
 
-class Elements(HTMLParser):
-    """The elements of a page in order, with their attributes."""
-
-    def __init__(self, page: str) -> None:
-        super().__init__()
-        self.found: List[Tuple[str, Dict[str, str]]] = []
-        self.feed(page)
-
-    def handle_starttag(self, tag: str, attrs: List[Tuple[str, "str | None"]]) -> None:
-        """Notes an element."""
-        self.found.append((tag, {name: value or "" for name, value in attrs}))
-
-    def place(self, tag: str, **attributes: str) -> int:
-        """The position of the first element of a kind."""
-        return next(place for place, (name, its) in enumerate(self.found) if name == tag and attributes.items() <= its.items())
+def place_in(page: Elements, tag: str, **attributes: str) -> int:
+    """The position of the first element of a kind."""
+    return next(place for place, (name, its) in enumerate(page.found) if name == tag and attributes.items() <= its.items())
 
 
 class Pages(InRoom):
-    """The contents of each page."""
-
     def written(self, text: str) -> Path:
-        """A script of a text."""
         return self.write("script", text)
 
     def test_each_line_stands_in_one_picture(self) -> None:
@@ -90,11 +69,10 @@ class Pages(InRoom):
     def test_claims_come_first(self) -> None:
         for path in SCRIPTS:
             page = Elements(page_of(path))
-            first_picture = page.place("svg", role="img")
-            heading = page.place("h2")
-            self.assertLess(heading, first_picture, path.name)
+            first_picture = place_in(page, "svg", role="img")
+            self.assertLess(place_in(page, "h2"), first_picture, path.name)
             if any(its.get("aria-label") == "Claims of ticks" for _, its in page.found):
-                self.assertLess(page.place("table"), first_picture)
+                self.assertLess(place_in(page, "table"), first_picture)
                 self.assertTrue(all(its.get("scope") in ("col", "row") for tag, its in page.found if tag == "th"))
 
     def test_each_picture_has_a_name_or_is_decoration(self) -> None:
@@ -125,7 +103,7 @@ class Pages(InRoom):
         self.assertEqual(pictures(page_of(self.written("[{kernel,[{distributed,[{a,[x]}]}]}].\n--\n\n\n"))), [])
 
 
-class Colors(unittest.TestCase):
+class Colors(InRoom):
     """Nothing is shown by color alone."""
 
     def test_each_application_has_a_color_of_its_own(self) -> None:
@@ -133,12 +111,10 @@ class Colors(unittest.TestCase):
             self.assertEqual(len({color_of(number, count) for number in range(count)}), count)
 
     def test_many_applications_have_names_on_their_bars(self) -> None:
-        with tempfile.TemporaryDirectory() as room:
-            path = Path(room) / "script"
-            for count in (len(HUES), len(HUES) + 1):
-                path.write_text(many_applications(count))
-                names = re.findall(r'class="term along[^"]*" style="[^"]*">([^<]*)<', page_of(path))
-                self.assertEqual(set(names), {f"app{number:02d}" for number in range(count)} if count > len(HUES) else set())
+        for count in (len(HUES), len(HUES) + 1):
+            page = page_of(self.write("script", many_applications(count)))
+            names = re.findall(r'class="term along[^"]*" style="[^"]*">([^<]*)<', page)
+            self.assertEqual(set(names), {f"app{number:02d}" for number in range(count)} if count > len(HUES) else set())
 
     def test_states_are_told_by_patterns(self) -> None:
         page = page_of(EXAMPLES / "split.distac")
@@ -169,8 +145,6 @@ def brightness(color: str) -> float:
 
 
 class Paper(unittest.TestCase):
-    """A printed page."""
-
     def test_the_first_picture_leaves_room_for_the_claims(self) -> None:
         configuration = Configuration(["a"], [Application("x", 0, [["a"]], True)], [], [], None)
         counts = []
@@ -188,8 +162,6 @@ class Paper(unittest.TestCase):
 
 
 class Words(unittest.TestCase):
-    """Refusals with a sentence."""
-
     def test_counts(self) -> None:
         for option in ("--lines", "--from"):
             for word in ("-5", "0", "x", "1_0", "", "9" * 5_000):
@@ -203,7 +175,3 @@ class Words(unittest.TestCase):
                 said = view(*words)
                 self.assertEqual(said.status, 2)
                 self.assertIn("this is a line of distac live", said.output)
-
-
-if __name__ == "__main__":
-    unittest.main()

@@ -4,17 +4,16 @@ Nothing is printed or read here: worlds of the models are copied, and the models
 knowledge.
 """
 
-from __future__ import annotations
-
 import copy
 import unittest
 from collections.abc import Iterable
 from random import Random
-from typing import Optional, Tuple
+from typing import Optional
 
-from support import IS_STAND_IN, distac
+from support import distac
 import placement
 from check import Config, read_config
+from random_clusters import random_groups
 from world import Refused, World
 from distac_view.answering.what_if import Question, reply_on
 from distac_view.asking.inputs import check_config
@@ -23,7 +22,7 @@ COUNT = 500
 PENDING = (placement.START, placement.FAILOVER, placement.MOVE, placement.TAKEOVER)
 NODES = ("a@h", "b@h", "c@h", "d@h")
 # the present place of an application, the next one, how it moves, after how many milliseconds, and the final place
-Fate = Tuple[Optional[int], Optional[int], str, Optional[int], Optional[int]]
+Fate = tuple[Optional[int], Optional[int], str, Optional[int], Optional[int]]
 
 
 def random_config(random: Random) -> str:
@@ -42,12 +41,7 @@ def random_config(random: Random) -> str:
 
 def random_entry(random: Random, name: str, nodes: tuple[str, ...]) -> str:
     """An application with some of the nodes in random groups."""
-    chosen = random.sample(nodes, random.randint(1, len(nodes)))
-    items = []
-    while chosen:
-        count = random.choice((1, 1, 2, 3))
-        group, chosen = chosen[:count], chosen[count:]
-        items.append(group[0] if len(group) == 1 else "{%s}" % ",".join(group))
+    items = [group[0] if len(group) == 1 else "{%s}" % ",".join(group) for group in random_groups(random, list(nodes))]
     return "{%s,%d,[%s]}" % (name, random.choice((0, 0, 1, 100, 3000, 5000)), ",".join(items))
 
 
@@ -116,8 +110,7 @@ class Oracle:
         return [found.node if found.what in (placement.KEPT, placement.HALTED) else None for found in self.verdicts(world)]
 
     def fates(self, down: list[int], takes: int | None) -> list[Fate]:
-        """For each application: its place, the next one, how, after how long, and the final one. Nodes are back after
-        some milliseconds."""
+        """Of each application: its place, the next one, how, after how long, and once nodes are back, the final one."""
         last = self.longest if takes is None else min(self.longest, takes - 1)
         world = self.opened()
         begin = 10 * self.longest + 10
@@ -160,8 +153,6 @@ class Oracle:
 
 
 class WhatIf(unittest.TestCase):
-    """The answers agree with the models."""
-
     def test_random_configurations(self) -> None:
         for number in range(COUNT):
             random = Random(f"what if {number}")
@@ -185,8 +176,3 @@ class WhatIf(unittest.TestCase):
         reply = reply_on(distac(), check_config(distac(), "x", text.encode()), Question("x", down, not_started, takes=takes))
         answered = [(fate.now, fate.then, fate.how, fate.milliseconds, fate.back) for fate in reply.cases[0].fates]
         self.assertEqual(answered, expected)
-
-
-if __name__ == "__main__":
-    assert IS_STAND_IN or distac()
-    unittest.main()

@@ -1,13 +1,8 @@
 """States with more lives than their format can count are reported."""
 
-from __future__ import annotations
-
-import tempfile
 import unittest
-from pathlib import Path
-from typing import List
 
-from support import IS_STAND_IN, view
+from support import IS_STAND_IN, InRoom, view
 from distac_view.asking.sim_output import Answered
 from distac_view.asking.wide_states import MOST_LIVES, too_wide
 from distac_view.reading.script_file import Line
@@ -15,12 +10,12 @@ from distac_view.reading.script_file import Line
 HEAD = "[{kernel,[{distributed,[{a,[x,y]}]}]}].\n--\n"
 
 
-def booted(count: int) -> List[Answered]:
+def booted(count: int) -> list[Answered]:
     """Repeated boots of a node."""
     return [Answered(Line(number, "boot x 0"), [f"booted {number} op {number}"]) for number in range(1, count + 1)]
 
 
-class WideStates(unittest.TestCase):
+class WideStates(InRoom):
     """A line that may print such a state gets a warning."""
 
     def test_which_lines(self) -> None:
@@ -37,13 +32,7 @@ class WideStates(unittest.TestCase):
 
     @unittest.skipIf(IS_STAND_IN, "the models take minutes for so many lines")
     def test_a_whole_script(self) -> None:
-        with tempfile.TemporaryDirectory() as room:
-            path = Path(room) / "script"
-            path.write_text(HEAD + "boot x 0\ncrash x\n" * (MOST_LIVES + 1) + "boot y 0\nstate y\n")
-            said = view("play", "--strict", str(path))
-            self.assertEqual(said.status, 1)
-            self.assertIn("TooManyLives: 65,537 lives of nodes began", said.errors)
-
-
-if __name__ == "__main__":
-    unittest.main()
+        path = self.write("script", HEAD + "boot x 0\ncrash x\n" * (MOST_LIVES + 1) + "boot y 0\nstate y\n")
+        said = view("play", "--strict", str(path))
+        self.assertEqual(said.status, 1)
+        self.assertIn("TooManyLives: 65,537 lives of nodes began", said.errors)
