@@ -1,5 +1,7 @@
 """Chromium without a window, controlled by its developer pipe: measurements of a page, pictures, and prints."""
 
+from __future__ import annotations
+
 import base64
 import json
 import os
@@ -9,7 +11,7 @@ import subprocess
 import tempfile
 import time
 from pathlib import Path
-from typing import Any, Optional
+from typing import Any, Dict, Optional
 
 NAMES = ("chromium", "chromium-browser", "google-chrome")
 MOST_SECONDS = 60
@@ -17,7 +19,7 @@ WORDS = ("--headless", "--no-sandbox", "--disable-gpu", "--disable-dev-shm-usage
 # The browser reads commands from its file 3, and answers to its file 4.
 SHELL = 'in="$1" out="$2"; shift 2; eval "exec \\"\\$@\\" 3<&$in 4>&$out"'
 
-Fields = dict[str, Any]
+Fields = Dict[str, Any]
 
 
 def browser_here() -> Optional[str]:

@@ -1,5 +1,7 @@
 """Configuration files that nobody means: truncated, nested, with odd bytes and huge numbers."""
 
+from __future__ import annotations
+
 FINE = (
     b"[{kernel,[{distributed,[{a,[x@h]}]},{deep," + b"[" * 3_000 + b"]" * 3_000 + b"}]}].",
     b"[{kernel,[{distributed,[{a,[x@h]}]},{huge,-" + b"9" * 20_000 + b"},{text,\"\0\"}]}].",

@@ -7,11 +7,13 @@ The schema accepts further fields and ids, because later programs may add them. 
 described.
 """
 
+from __future__ import annotations
+
 import json
 import re
 import sys
 from pathlib import Path
-from typing import Any, Iterator
+from typing import Any, Dict, Iterator
 
 DOCS = Path(__file__).resolve().parents[2] / "docs"
 FIELDS, SCHEMA = DOCS / "json-fields.txt", DOCS / "distac-view.schema.json"
@@ -20,7 +22,7 @@ NOTE_ID = re.compile(r"^\| `(?P<id>[A-Z]\w+)` \| ", re.MULTILINE)
 KINDS = {"name": "string", "text": "string", "number": "integer", "null": "null"}
 TYPES = {"string": str, "integer": int, "boolean": bool, "array": list, "object": dict, "null": type(None)}
 
-Rule = dict[str, Any]
+Rule = Dict[str, Any]
 
 
 def described() -> Rule:

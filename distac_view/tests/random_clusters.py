@@ -1,5 +1,7 @@
 """Random clusters: one configuration, and equivalent files of all its nodes in other spellings."""
 
+from __future__ import annotations
+
 from dataclasses import dataclass
 from pathlib import Path
 from random import Random

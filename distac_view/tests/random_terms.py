@@ -1,5 +1,7 @@
 """Random texts of Erlang's term syntax, as in configuration files."""
 
+from __future__ import annotations
+
 from random import Random
 
 NAMES = ("a", "b@h", "'c d'", "'it\\'s'", "'\\x{e9}\\101\\^a'", "'Été'", "été", "ok", "infinity", "'end'", "x_1@Y")

@@ -11,6 +11,8 @@ environment variable DISTAC names, or else the models. It isn't part of the test
 on the release of OTP. Each case has its own nodes, which are started, killed and started again.
 """
 
+from __future__ import annotations
+
 import argparse
 import json
 import signal
@@ -21,7 +23,7 @@ from collections import Counter
 from dataclasses import dataclass
 from functools import partial
 from pathlib import Path
-from typing import Any, Callable, Iterable, Tuple
+from typing import Any, Callable, Dict, Iterable, Tuple
 
 sys.dont_write_bytecode = True
 sys.path.insert(0, str(Path(__file__).resolve().parent))
@@ -103,7 +105,7 @@ NODE_FILE = """\
 
 
 # the fields of an application in `what-if --json`
-Fate = dict[str, Any]
+Fate = Dict[str, Any]
 
 
 @dataclass(frozen=True)
@@ -230,7 +232,7 @@ ROLLED = (
     (HALF.name, (1, 0, 2), 4_000),
 )
 # the fields of a step, or of a move, in `rolling --json`
-Said = dict[str, Any]
+Said = Dict[str, Any]
 
 
 def roll(scenario: Scenario, order: list[str], takes: int | None, score: Score) -> None:

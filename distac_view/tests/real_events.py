@@ -3,6 +3,8 @@
 Chains of losses, permissions of single nodes, starts that fail, and splits, for real_erlang.py.
 """
 
+from __future__ import annotations
+
 import json
 import tempfile
 import time

@@ -17,7 +17,7 @@ import time
 from collections import Counter
 from dataclasses import dataclass
 from pathlib import Path
-from typing import Any
+from typing import Any, Dict, List
 
 sys.dont_write_bytecode = True
 sys.path.insert(0, str(Path(__file__).resolve().parent))
@@ -36,7 +36,7 @@ CONFIG = """\
    {{logger_level, critical}}]}}].
 """
 
-Places = dict[str, list[str]]
+Places = Dict[str, List[str]]
 
 
 @dataclass(frozen=True)

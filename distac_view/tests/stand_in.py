@@ -1,6 +1,8 @@
 #!/usr/bin/env python3
 """A stand-in for `distac`, made of the models, for tests if the environment names no program."""
 
+from __future__ import annotations
+
 import sys
 from pathlib import Path
 from typing import Callable

@@ -1,5 +1,7 @@
 """Shared parts of the tests: the repository, `distac`, and `distac-view` run in this process or in its own."""
 
+from __future__ import annotations
+
 import contextlib
 import io
 import json

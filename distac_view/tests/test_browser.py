@@ -3,6 +3,8 @@
 It requires chromium in PATH, as in Debian's package of that name; without one these tests are skipped.
 """
 
+from __future__ import annotations
+
 import re
 import tempfile
 import unittest

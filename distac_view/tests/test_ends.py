@@ -1,5 +1,7 @@
 """`ends`: the ends of a race, with a script of each that the program plays."""
 
+from __future__ import annotations
+
 import json
 import os
 import re

@@ -1,6 +1,8 @@
 """Pairs of applications that are reported to hang: the cases measured with three real nodes of OTP 25, which all start
 all applications."""
 
+from __future__ import annotations
+
 import unittest
 
 from support import distac

@@ -1,5 +1,7 @@
 """`check`, `play`, `timeline` and `what-if` on all examples."""
 
+from __future__ import annotations
+
 import json
 import unittest
 from collections import Counter

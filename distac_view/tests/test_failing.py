@@ -1,7 +1,7 @@
 """`what-if --fails`: starts that fail, as they were seen with OTP 25."""
 
 from random import Random
-from typing import Any
+from typing import Any, Dict, Tuple
 
 from support import IS_STAND_IN, InRoom, Said, view
 from test_what_if import random_config
@@ -12,7 +12,7 @@ TUPLE = "[{kernel,[{distributed,[{a,300,[cp1@h,{cp2@h,cp3@h}]}]},%s]}].\n" % SYN
 COUNT = 6 if IS_STAND_IN else 60
 
 # The places of an application: now, then, and once nodes are back.
-Places = dict[str, tuple[Any, ...]]
+Places = Dict[str, Tuple[Any, ...]]
 
 
 class Failing(InRoom):

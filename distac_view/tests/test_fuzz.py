@@ -4,6 +4,8 @@ Some run with the other tests. `DISTAC_VIEW_INPUTS=2000 python3 distac_view/test
 `DISTAC_VIEW_SEED` chooses others. The same seed and number yield the same input.
 """
 
+from __future__ import annotations
+
 import os
 import subprocess
 import sys

@@ -1,5 +1,7 @@
 """A single file to copy, the message of an older Python, and completion by bash."""
 
+from __future__ import annotations
+
 import ast
 import os
 import shlex

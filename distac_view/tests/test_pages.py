@@ -1,6 +1,8 @@
 """The pages of `what-if`, `rolling` and `load`: their contents, their places, and that they contain the whole printed
 answer."""
 
+from __future__ import annotations
+
 import hashlib
 import json
 import os

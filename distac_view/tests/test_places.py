@@ -1,5 +1,7 @@
 """Lines and columns as an editor counts them."""
 
+from __future__ import annotations
+
 import unittest
 
 import support

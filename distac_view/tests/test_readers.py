@@ -1,5 +1,7 @@
 """The two readers of configuration files: their results, and their agreement if Erlang is installed."""
 
+from __future__ import annotations
+
 import os
 import unittest
 from random import Random

@@ -1,6 +1,8 @@
 """A release: the contents of its folder, the conditions for making it, its commit, and the script for CI, with only
 Python."""
 
+from __future__ import annotations
+
 import hashlib
 import os
 import re

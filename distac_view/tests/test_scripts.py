@@ -1,5 +1,7 @@
 """Random scripts of the models: `play` shows the lines of `distac` in order, and a `tell` of all nodes is a share."""
 
+from __future__ import annotations
+
 import unittest
 from random import Random
 

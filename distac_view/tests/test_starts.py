@@ -4,6 +4,8 @@ places.
 A case written in one go is compared with the case played step by step.
 """
 
+from __future__ import annotations
+
 import json
 import unittest
 from functools import partial

@@ -1,5 +1,7 @@
 """The page of a timeline: its drawing on a screen, on paper, and for readers who can't see it or its colors."""
 
+from __future__ import annotations
+
 import re
 import unittest
 from pathlib import Path

@@ -4,11 +4,13 @@ Nothing is printed or read here: worlds of the models are copied, and the models
 knowledge.
 """
 
+from __future__ import annotations
+
 import copy
 import unittest
 from collections.abc import Iterable
 from random import Random
-from typing import Optional
+from typing import Optional, Tuple
 
 from support import distac
 import placement
@@ -22,7 +24,7 @@ COUNT = 500
 PENDING = (placement.START, placement.FAILOVER, placement.MOVE, placement.TAKEOVER)
 NODES = ("a@h", "b@h", "c@h", "d@h")
 # the present place of an application, the next one, how it moves, after how many milliseconds, and the final place
-Fate = tuple[Optional[int], Optional[int], str, Optional[int], Optional[int]]
+Fate = Tuple[Optional[int], Optional[int], str, Optional[int], Optional[int]]
 
 
 def random_config(random: Random) -> str:

@@ -1,5 +1,7 @@
 """States with more lives than their format can count are reported."""
 
+from __future__ import annotations
+
 import unittest
 
 from support import IS_STAND_IN, InRoom, view
