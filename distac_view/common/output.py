@@ -1,5 +1,7 @@
 """Standard output and standard error of any kind."""
 
+from __future__ import annotations
+
 import errno
 import os
 import sys

@@ -1,5 +1,7 @@
 """Answers as JSON have the form described in docs/FORMATS.md."""
 
+from __future__ import annotations
+
 import unittest
 from pathlib import Path
 from random import Random

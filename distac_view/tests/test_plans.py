@@ -1,5 +1,7 @@
 """`load`, `rolling` and `what-if --then`, each compared with other plays of their questions."""
 
+from __future__ import annotations
+
 import json
 import re
 import unittest
