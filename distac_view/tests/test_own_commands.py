@@ -167,7 +167,8 @@ class OwnCommands(InRoom):
         words, pipe = [sys.executable, f"{self.room}/run.py"], subprocess.PIPE
         for number in (signal.SIGTERM, signal.SIGHUP, signal.SIGINT):
             with subprocess.Popen(words, env=surroundings, stdout=pipe, stderr=pipe, preexec_fn=hear_signals) as run:
-                self.until(lambda: any(kept.iterdir()))
+                # (Python first tries whether files can be made there, by other names)
+                self.until(lambda: any(kept.glob("tmp*")))
                 run.send_signal(number)
                 run.communicate(timeout=MOST_SECONDS)
             self.assertNotEqual(run.returncode, 0)
