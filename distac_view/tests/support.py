@@ -2,7 +2,6 @@
 
 from __future__ import annotations
 
-import contextlib
 import io
 import json
 import os
@@ -12,7 +11,7 @@ import sys
 import tempfile
 import time
 import unittest
-from collections.abc import Callable, Iterator
+from collections.abc import Callable
 from dataclasses import dataclass
 from html.parser import HTMLParser
 from pathlib import Path
@@ -35,6 +34,7 @@ if signal.getsignal(signal.SIGINT) == signal.SIG_IGN:
 from json_schema import documented
 from distac_view.asking.program import Distac, found_distac
 from distac_view.cli import command_line
+from distac_view.cli.expect import within
 
 
 @dataclass(frozen=True)
@@ -97,17 +97,6 @@ class Elements(HTMLParser):
         self.found.append((tag, {name: value or "" for name, value in attrs}))
 
 
-@contextlib.contextmanager
-def inside(folder: Path) -> Iterator[None]:
-    """Works in a folder."""
-    before = os.getcwd()
-    os.chdir(folder)
-    try:
-        yield
-    finally:
-        os.chdir(before)
-
-
 def hear_signals() -> None:
     """Makes a process that is started hear the signals that `nohup` or a shell's `&` ignores. A shell can't trap these."""
     for number in (signal.SIGHUP, signal.SIGINT, signal.SIGQUIT):
@@ -149,7 +138,7 @@ def written(stream: io.TextIOWrapper) -> str:
 
 def gather(*words: str, folder: Path = NODES) -> Said:
     """The output of `gather` for files in a folder."""
-    with inside(folder):
+    with within(str(folder)):
         return view("gather", *words)
 
 

@@ -6,7 +6,8 @@ import unittest
 from pathlib import Path
 from typing import Any
 
-from support import EXAMPLES, InRoom, Said, inside, run_view, view
+from support import EXAMPLES, InRoom, Said, run_view, view
+from distac_view.cli.expect import within
 
 CONFIG = "[{kernel,[{distributed,[{a,500,[x@h,y@h]}]}]}].\n"
 DOWN = "# a comment\nwhat-if\n  'cluster.config' # another\n--down x@h\n"
@@ -103,7 +104,7 @@ class Folder(InRoom):
         shutil.copytree(self.folder, elsewhere)
         said = view("expect", str(elsewhere))
         self.assertEqual((said.status, said.output), (0, "3 of 3 answers are as stored\n"))
-        with inside(elsewhere.parent):
+        with within(str(elsewhere.parent)):
             self.assertEqual(view("expect", "folder").status, 0)
 
     def test_what_is_no_question(self) -> None:
@@ -136,7 +137,7 @@ class Folder(InRoom):
 
     def test_a_program_by_a_relative_path(self) -> None:
         self.script("../program", 'echo "$1" >&2\nexit 3')
-        with inside(self.room):
+        with within(str(self.room)):
             said = run_view("expect", "questions", program="./program")
         self.assertEqual(said.status, 2)
         self.assertIn("distac check gave no answer", said.output)
