@@ -1,3 +1,4 @@
+pub mod Callers
 pub mod Causes
 pub mod Rooms
 pub use Rattle.dac_workers.specs.Compared

@@ -1,4 +1,5 @@
 mod Common
 mod Followed
+mod Joined
 mod Passed
 mod Repeated

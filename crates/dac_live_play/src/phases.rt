@@ -4,8 +4,7 @@ ghost use Rattle.std.specs.Prelude.{◌≡◌, IfOk, map};
 ghost use Rattle.dac_live_play.specs.Phases.{ends_phase, parts_of, event_of, asked_by, lines_in, AsksAs};
 
 use dac_base::NoMemory;
-use dac_live::{Ask, Line, Phase};
-use dac_messages::Event;
+use dac_live::{Ask, CallerEvent, Line, Phase};
 use dac_script::{LiveLine, Request};
 use std::alloc::Global;
 
@@ -27,15 +26,15 @@ pub fn parts_of(alloc: Global, script: &[LiveLine]) -> Result<Vec<&[LiveLine]>, 
     Ok(parts)
 }
 
-/// The request as an event of its node.
-fn event_of(request: Request) -> Event
+/// The request as an event that its caller asks for.
+fn event_of(request: Request) -> CallerEvent
     ensures { result ≡ event_of request }
 {
     match request {
-        Request::Boot { now } => Event::Boot { now },
-        Request::Crash => Event::Crash,
-        Request::Command(command) => Event::Command(command),
-        Request::Tick { now } => Event::Tick { now },
+        Request::Boot { now } => CallerEvent::Boot { now },
+        Request::Crash => CallerEvent::Crash,
+        Request::Command(command) => CallerEvent::Command(command),
+        Request::Tick { now } => CallerEvent::Tick { now },
     }
 }
 

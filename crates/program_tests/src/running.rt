@@ -17,7 +17,8 @@ pub fn status_of<T: Print + Eprint + Threads + Wait + Sync, R: Read, W: Write>(
     input: &mut R,
     output: &mut W,
 ) -> u8 {
-    run(rt, alloc, &["distac", word], input, output)
+    let mut errors = Vec::new(alloc);
+    run(rt, alloc, &["distac", word], input, output, &mut errors)
 }
 
 /// The status and output of `distac WORD` on an input.
