@@ -27,7 +27,6 @@ use std::thread::Threads;
 
 /// Fails if the journals don't consist of the phases: with `LinkLost` if those at the ends of a link don't match over
 /// the whole run, and otherwise with a fault that names no record, because one can be missing.
-#[tactic(auto, using(crate::proofs::Joined::links_hold))]
 fn check_phases(alloc: Global, phases: &[Phase], closed: &[Closed]) -> Result<(), RunFault>
     requires { length closed.now ≤ MAX_NODES }
     ensures phases { OnOk result (FallIntoPhases phases.now closed.now) }
