@@ -1,6 +1,6 @@
 -- Words with which some item begins, and the fault that ends them.
-use Rattle.std.proofs.Common.{◌≡◌, ℕ, List, [], ◌∷◌, ◌++◌, map, Err, ap, ◌∙◌}
-use Rattle.dac_shapes.specs.laws.Common.{ConfigFault, TooLong, OpenTuple, CloseTuple, Comma, Word, Punctuation, Name, Located, nothing, State, at}
+use Rattle.std.proofs.Common.{◌≡◌, ℕ, Bool, true, false, cond, List, [], ◌∷◌, ◌++◌, map, Result, Ok, Err, refl, sym, ap, subst, ◌∙◌, append_assoc}
+use Rattle.dac_shapes.specs.laws.Common.{ConfigFault, FaultKind, TooLong, OpenTuple, CloseTuple, Comma, ◌>>=◌, Word, Punctuation, Name, End, Located, nothing, State, token, at}
 
 -- A fault placed after the tokens. No reader returns this kind itself, so whoever returns it reached the end of the
 -- tokens.

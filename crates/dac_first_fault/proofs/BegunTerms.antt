@@ -1,7 +1,7 @@
 -- The reader that skips terms: if it reaches the end, a term begins so. It changes no names.
 use Rattle.std.proofs.Common.{◌≡◌, ℕ, zero, suc, cond, List, [], ◌∷◌, ◌++◌, Result, Ok, refl, sym, ap, subst, ◌∙◌, append_assoc, Bool, true, false, map, Err}
-use Rattle.dac_shapes.specs.laws.Common.{All, All-nil, All-cons, ConfigFault, BadShape, Symbol, OpenList, CloseList, OpenTuple, CloseTuple, Comma, ◌>>=◌, Word, Punctuation, Name, Number, Text, End, Located, State, fails, is_symbol, is_text, token, room, terms_at, terms_in, texts_at, term_by, term_at, passed_at, AreBrackets, IsTerm, AreTerms, OfList, OfTuple, Atom, Integer, Strings, Empty, Between, One, More, mark_is, text_is, FaultKind, Seen, at}
-use Rattle.dac_first_fault.proofs.Begun.{words_in, Begun, Via, by_state, by_behind, blank}
+use Rattle.dac_shapes.specs.laws.Common.{All, All-nil, All-cons, ConfigFault, BadShape, Symbol, OpenList, CloseList, OpenTuple, CloseTuple, Comma, FullStop, ◌>>=◌, Word, Punctuation, Name, Number, Text, End, Located, State, fails, is_symbol, is_text, token, room, terms_at, terms_in, texts_at, term_by, term_at, passed_at, AreBrackets, IsTerm, AreTerms, OfList, OfTuple, Atom, Integer, Strings, Empty, Between, One, More, mark_is, text_is, FaultKind, Seen, at}
+use Rattle.dac_first_fault.proofs.Begun.{halt, words_in, Begun, Via, by_state, by_behind, blank}
 use Rattle.dac_first_fault.proofs.Held.{Stops, Over, IsOver}
 
 abbrev some_token : Located × State

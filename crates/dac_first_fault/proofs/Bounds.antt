@@ -1,6 +1,6 @@
 -- Tokens after which only quiet ones follow a bad name.
 use Rattle.std.proofs.Common.{ℕ, suc, ◌+◌, ◌≤◌, List, [], ◌∷◌, ◌++◌, arith}
-use Rattle.dac_shapes.specs.laws.Common.{All-nil, FaultKind, OpenList, Word, Punctuation, Located}
+use Rattle.dac_shapes.specs.laws.Common.{All-nil, FaultKind, OpenList, CloseList, OpenTuple, CloseTuple, Comma, FullStop, Word, Punctuation, Name, Number, Text, End, Located}
 use Rattle.dac_first_fault.proofs.Held.{IsQuiet, QuietBehind, Lone}
 use Rattle.dac_first_fault.proofs.Offsets.{Clear}
 

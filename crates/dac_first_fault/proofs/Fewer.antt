@@ -1,6 +1,6 @@
 -- Sections that keep some limits also keep any subset of them.
 use Rattle.std.proofs.Common.{ℕ, Bool, true, false, List, [], ◌∷◌, ◌++◌}
-use Rattle.dac_shapes.specs.laws.Common.{FaultKind, BadShape, TwiceApp, TwiceInList, TooManyNodes, TooManyApps, NameTooLong, App, Param, Distributed, Permissions, Mandatory, Optional, Section, Kernel, Seen, AllMay, nothing, with_node, with_nodes, listing, with_app, with_permission, with_param, with_section, NodeKeeps, NodesKeep, GroupsKeep, AppKeeps, PermissionKeeps, ValueKeeps, ParamKeeps, SectionKeeps, Keeps}
+use Rattle.dac_shapes.specs.laws.Common.{FaultKind, BadShape, TwiceApp, TwiceInList, TooManyNodes, TooManyApps, NameTooLong, App, Param, Distributed, Permissions, Mandatory, Optional, Timeout, Section, Kernel, Seen, AllMay, nothing, with_node, with_nodes, listing, with_app, with_permission, with_param, with_section, NodeKeeps, NodesKeep, GroupsKeep, AppKeeps, PermissionKeeps, ValueKeeps, ParamKeeps, SectionKeeps, Keeps}
 
 pub all_to : {A : Type 0} (step : Seen → A → Seen) (Keep May : List A → Seen → A → Type 0) → ((before : List A) (seen : Seen) (x : A) → Keep before seen x → May before seen x) → (before : List A) (seen : Seen) (xs : List A) → AllMay step Keep before seen xs → AllMay step May before seen xs
 all_to step Keep May to before seen [] all = tt

@@ -1,6 +1,6 @@
 -- The fault of a whole file, and of a text.
 use Rattle.std.proofs.Common.{◌≡◌, ℕ, suc, ◌+◌, ◌≤◌, Bool, true, false, cond, eqb, ltb, List, [], ◌∷◌, ◌++◌, length, map, Result, Ok, Err, refl, sym, ap, subst, ◌∙◌, append_assoc, append-nil, arith, inl, inr}
-use Rattle.dac_shapes.specs.laws.Common.{◌⊎◌, ◌↔◌, IfOk, All, All-nil, All-cons, All-head, All-tail, ltb-true, ltb-false, eqb-true, eq-eqb, ConfigFault, FaultKind, BadShape, NoDistributed, TooLong, Unsupported, NumberTooLarge, NameTooLong, TwiceApp, TwiceInList, TooManyApps, TooManyNodes, FullStop, ◌>>=◌, Word, Punctuation, Name, End, Located, is_end, Stream, tokens_of, stopped, AreTokensOf, AreSpelled, Spells, depth_after_word, StopAt, Section, Written, written, Seen, nothing, steps, with_section, MaySections, Keeps, Every, AreWithinLimits, nodes_in, IsListOf, strict, IsSection, IsFile, loose, IsLooseFile, State, fails, is_symbol, list_of, section_at, end_at, file_at, draft_at, symbol_at, at, ended, mark_is, map-append}
+use Rattle.dac_shapes.specs.laws.Common.{◌⊎◌, ◌↔◌, IfOk, All, All-nil, All-cons, All-head, All-tail, ltb-true, ltb-false, eqb-true, eq-eqb, ConfigFault, FaultKind, BadShape, NoDistributed, TooLong, Unsupported, NumberTooLarge, NameTooLong, TwiceApp, TwiceInList, TooManyApps, TooManyNodes, FullStop, ◌>>=◌, Word, Punctuation, Name, Number, Text, End, Located, is_end, Stream, tokens_of, stopped, AreTokensOf, AreSpelled, Spells, depth_after_word, StopAt, Section, Written, written, Seen, nothing, steps, with_section, MaySections, Keeps, Every, AreWithinLimits, nodes_in, IsListOf, strict, IsSection, IsFile, loose, IsLooseFile, State, fails, is_symbol, list_of, section_at, end_at, file_at, draft_at, symbol_at, at, ended, mark_is, map-append}
 use Rattle.dac_tokens.specs.Stream.{end_at as end_of, ended as ended_by}
 use Rattle.dac_shapes.specs.laws.Loosely.{loosely}
 use Rattle.dac_shapes.specs.laws.AgainSections.{sections_again, sections_met}

@@ -1,6 +1,6 @@
 -- If a reader reached the end of the tokens, or a token spoilt them, the words up to the last that isn't quiet begin an
 -- item that keeps the bound limits.
-use Rattle.std.proofs.Common.{◌≡◌, ℕ, zero, suc, ◌≤◌, Bool, true, false, cond, List, [], ◌∷◌, ◌++◌, Result, Ok, Err, refl, sym, ap, subst, ◌∙◌, append_assoc, append-nil, inl, inr}
+use Rattle.std.proofs.Common.{◌≡◌, ℕ, zero, suc, ◌≤◌, Bool, true, false, cond, List, [], ◌∷◌, ◌++◌, map, Result, Ok, Err, refl, sym, ap, subst, ◌∙◌, append_assoc, append-nil, inl, inr}
 use Rattle.dac_shapes.specs.laws.Common.{◌⊎◌, All, All-nil, All-cons, All-append, ConfigFault, FaultKind, BadShape, TooLong, TwiceApp, TwiceInList, TooManyApps, TooManyNodes, NameTooLong, EmptyList, EmptyTuple, NumberTooLarge, Unsupported, Symbol, OpenList, CloseList, OpenTuple, CloseTuple, Comma, ◌>>=◌, Word, Punctuation, Name, Located, Seen, AllMay, steps, State, fails, is_symbol, token, symbol_at, more_at, comma_list, list_of, pair_at, closed, room, Parted, IsListOf, at, mark_is}
 use Rattle.dac_first_fault.specs.FirstFault.{rank}
 pub use Rattle.dac_first_fault.specs.FirstFault.{words}

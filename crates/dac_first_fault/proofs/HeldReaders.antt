@@ -1,6 +1,6 @@
 -- Nodes, applications and permissions that keep the bound limits, up to the last word that isn't quiet.
 use Rattle.std.proofs.Common.{◌≡◌, ℕ, ◌<◌, ◌≤◌, Bool, true, false, cond, not, ◌&&◌, ◌||◌, eqb, ltb, leb, List, [], ◌∷◌, ◌++◌, length, map, Result, Ok, Err, refl, sym, ap, subst, ◌∙◌, inl, inr, codes, arith}
-use Rattle.dac_shapes.specs.laws.Common.{◌⊎◌, All, bytes_eq, ltb-true, ltb-false, leb-false, eqb-true, All-nil, MAX_NODES, ConfigFault, FaultKind, BadShape, EmptyList, EmptyTuple, TwiceInList, TwiceApp, TooManyApps, TooManyNodes, NumberTooLarge, NameTooLong, OpenList, CloseList, OpenTuple, CloseTuple, Comma, ◌>>=◌, Word, Punctuation, Name, Number, Located, App, Permission, Seen, nothing, is_among, with_name, with_node, with_nodes, with_groups, listing, with_list, with_app, with_permission, AllMay, steps, NodeKeeps, NodesKeep, GroupsKeep, ListKeeps, AppKeeps, PermissionKeeps, value_from, State, fails, is_symbol, token, symbol_at, atom_of, short_name_of, milliseconds_of, flag_of, app_name_of, node_of, names_at, item_at, items_at, groups_at, timeout_at, app_value_at, app_at, permission_value_at, permission_at, closed, room, Parted, IsNode, IsMs, IsFlag, IsPermission, IsTimeout, IsAppValue, IsApp, IsLooseItem, IsLooseNodeList, IsLooseMs, loose, at}
+use Rattle.dac_shapes.specs.laws.Common.{◌⊎◌, All, bytes_eq, ltb-true, ltb-false, leb-false, eqb-true, All-nil, MAX_NODES, ConfigFault, FaultKind, BadShape, EmptyList, EmptyTuple, TwiceInList, TwiceApp, TooManyApps, TooManyNodes, NumberTooLarge, NameTooLong, OpenList, CloseList, OpenTuple, CloseTuple, Comma, ◌>>=◌, Word, Punctuation, Name, Number, Text, End, Located, App, Permission, Seen, nothing, is_among, with_name, with_node, with_nodes, with_groups, listing, with_list, with_app, with_permission, AllMay, steps, NodeKeeps, NodesKeep, GroupsKeep, ListKeeps, AppKeeps, PermissionKeeps, value_from, State, fails, is_symbol, token, symbol_at, atom_of, short_name_of, milliseconds_of, flag_of, app_name_of, node_of, names_at, item_at, items_at, groups_at, timeout_at, app_value_at, app_at, permission_value_at, permission_at, closed, room, Parted, IsNode, IsMs, IsFlag, IsPermission, IsTimeout, IsAppValue, IsApp, IsLooseItem, IsLooseNodeList, IsLooseMs, loose, at}
 use Rattle.std.proofs.lemmas.Slice.Eq.{bytes_eq-Decides}
 use Rattle.dac_shapes.specs.laws.Names.{unless_first, zero_is, mark_is, is_named}
 use Rattle.dac_first_fault.proofs.Readers.{not_negative}

@@ -1,6 +1,6 @@
 -- Parameters and sections that keep the bound limits, up to the last word that isn't quiet.
-use Rattle.std.proofs.Common.{◌≡◌, ◌≢◌, ℕ, Bool, true, false, cond, List, [], ◌∷◌, ◌++◌, Option, Some, None, Result, Ok, Err, refl, sym, ap, subst, ◌∙◌, inr, codes, inl, ◌≤◌}
-use Rattle.dac_shapes.specs.laws.Common.{◌⊎◌, bytes_eq, ConfigFault, FaultKind, BadShape, Unsupported, NumberTooLarge, OpenList, CloseList, OpenTuple, CloseTuple, Comma, ◌>>=◌, Word, Punctuation, Name, Number, Located, Param, Distributed, Permissions, Mandatory, Optional, Timeout, Section, Kernel, spelled, name_of, Seen, nothing, has_param, has_kernel, with_node, with_app, with_permission, with_param, with_section, steps, AllMay, NodeKeeps, AppKeeps, PermissionKeeps, ValueKeeps, ParamKeeps, SectionKeeps, Keeps, value_from, State, fails, is_text, atom_of, list_of, app_at, permission_at, node_of, wait_of, milliseconds_of, passed_at, param_named, first_param, param_name_of, param_value_at, param_rest_at, param_at, names_kernel, kernel_at, section_rest_at, section_at, pair_at, closed, IsListOf, IsNode, IsMs, IsPermission, IsApp, IsWait, IsParam, IsSection, loose, at}
+use Rattle.std.proofs.Common.{◌≡◌, ◌≢◌, ℕ, zero, suc, Bool, true, false, cond, List, [], ◌∷◌, ◌++◌, Option, Some, None, Result, Ok, Err, refl, sym, ap, subst, ◌∙◌, inr, codes, inl, ◌≤◌}
+use Rattle.dac_shapes.specs.laws.Common.{◌⊎◌, bytes_eq, ConfigFault, FaultKind, BadShape, Unsupported, NumberTooLarge, Symbol, OpenList, CloseList, OpenTuple, CloseTuple, Comma, FullStop, ◌>>=◌, Word, Punctuation, Name, Number, Text, End, Located, Param, Distributed, Permissions, Mandatory, Optional, Timeout, Section, Kernel, spelled, name_of, Seen, nothing, has_param, has_kernel, with_node, with_app, with_permission, with_param, with_section, steps, AllMay, NodeKeeps, AppKeeps, PermissionKeeps, ValueKeeps, ParamKeeps, SectionKeeps, Keeps, value_from, State, fails, is_symbol, is_text, token, room, atom_of, list_of, app_at, permission_at, node_of, wait_of, milliseconds_of, passed_at, terms_at, terms_in, texts_at, term_by, term_at, param_named, first_param, param_name_of, param_value_at, param_rest_at, param_at, names_kernel, kernel_at, section_rest_at, section_at, pair_at, closed, IsListOf, IsNode, IsMs, IsPermission, IsApp, IsWait, IsParam, IsSection, loose, at}
 use Rattle.dac_shapes.specs.declared.param.ParamName.{ParamName}
 use Rattle.dac_shapes.specs.declared.draft.SyncWait.TheVariants.{Forever, Ms}
 use Rattle.dac_shapes.specs.declared.param.ParamName.TheVariants as named

@@ -30,6 +30,10 @@ module _ {A : Type 0} (read : List A → Located → State → Result (A × Stat
   unfolding comma_list
   stepped before n s = regroup (token s) (λ q. read before q.0 q.1) (behind n before)
 
+  spent : (before : List A) (t : Located) (s : State) → comma_list read close zero before t s ≡ fails BadShape t.at
+  unfolding comma_list
+  spent before t s = refl
+
   failing : (before : List A) (n : ℕ) (s : State) (e : ConfigFault) → one before s ≡ Err e → run before (suc n) s ≡ Err e
   failing before n s e is = stepped before n s ∙ ap (λ r. r >>= behind n before) is
 
@@ -39,8 +43,7 @@ module _ {A : Type 0} (read : List A → Located → State → Result (A × Stat
   more_run before (suc n) us seen p le is = failing before n (at (Err p) us seen) p is
 
   end_run : (before : List A) (n : ℕ) (us : List Located) (seen : Seen) (t : Located) → length us ≤ n → one before (at (Ok t) us seen) ≡ fails BadShape t.at → run before n (at (Ok t) us seen) ≡ fails BadShape t.at
-  unfolding comma_list
-  end_run before zero [] seen t le is = refl
+  end_run before zero [] seen t le is = spent before t (at (Ok t) [] seen)
   end_run before zero (u ∷ us) seen t le is = absurd (omega arith)
   end_run before (suc n) us seen t le is = failing before n (at (Ok t) us seen) (record { kind = BadShape; at = t.at }) is
 
@@ -114,9 +117,12 @@ module _ {A : Type 0} (read : List A → Located → State → Result (A × Stat
 
 module _ {A : Type 0} (read : List A → Located → State → Result (A × State) ConfigFault) (close : Symbol) (reads : (before : List A) → IsReader (λ s. token s >>= λ q. read before q.0 q.1))
     (ends : (before : List A) (t : Located) (s : State) → t.word ≡ End → read before t s ≡ fails BadShape t.at) where
-  pub whole_end : (t : Located) (s : State) → t.word ≡ End → comma_list read close (room s) [] t s ≡ fails BadShape t.at
+  list_end : (n : ℕ) (t : Located) (s : State) → t.word ≡ End → comma_list read close (suc n) [] t s ≡ fails BadShape t.at
   unfolding comma_list
-  whole_end t s w = rw (ends [] t s w) refl
+  list_end n t s w = rw (ends [] t s w) refl
+
+  pub whole_end : (t : Located) (s : State) → t.word ≡ End → comma_list read close (room s) [] t s ≡ fails BadShape t.at
+  whole_end t s w = list_end (length s.left.tokens) t s w
 
   -- a reader that from the token t behaves as a list
   pub as_list : (f : Reader (List A)) (t : Located) (b : List Located) (seen other : Seen) → ((last : Result Located ConfigFault) (rest : List Located) → f (at last (t ∷ rest) seen) ≡ comma_list read close (room (at last rest other)) [] t (at last rest other)) → Wanting f [] seen → Gives f (t ∷ b) seen

@@ -1,6 +1,6 @@
 -- Offsets of names, and of faults that names don't cause.
 use Rattle.std.proofs.Common.{◌≡◌, ℕ, ◌+◌, ◌<◌, ◌≤◌, List, [], ◌∷◌, ◌++◌, length, refl, sym, ap, subst, ◌∙◌, append_assoc, length-append, arith, inl, inr, true, false}
-use Rattle.dac_shapes.specs.laws.Common.{◌⊎◌, All, All-head, All-tail, ConfigFault, FaultKind, FullStop, Word, Punctuation, Name, Number, Text, End, Located, AreTokensOf, AreSpelled, Spells, Begins, depth_after_word, StopAt, cons_is}
+use Rattle.dac_shapes.specs.laws.Common.{◌⊎◌, All, All-head, All-tail, ConfigFault, FaultKind, OpenList, CloseList, OpenTuple, CloseTuple, Comma, FullStop, Word, Punctuation, Name, Number, Text, End, Located, AreTokensOf, AreSpelled, Spells, Begins, depth_after_word, StopAt, cons_is}
 use Rattle.std.specs.Char.{IsAsciiDigit, IsAsciiLowercase}
 use Rattle.dac_tokens.specs.declared.fault.FaultKind.TheVariants as kind
 use Rattle.dac_first_fault.specs.FirstFault.{IsLocatedAt, Itself, InList, InTuple, CanCause, IsNoName, BeginsWith, Only, Before, IsOfName, rank}

@@ -1,7 +1,7 @@
 -- A valid prefix is valid up to each of its words.
 use Rattle.std.proofs.Common.{◌≡◌, List, [], ◌∷◌, ◌++◌, refl, sym, ap, subst, ◌∙◌, append_assoc, append-nil, inl, inr}
-use Rattle.dac_shapes.specs.laws.Common.{◌⊎◌, All, All-nil, All-cons, All-head, All-tail, Word, Section, AreWithinLimits, IsFile, cons_is}
-use Rattle.dac_first_fault.specs.FirstFault.{CanBegin, IsNoName, IsWell}
+use Rattle.dac_shapes.specs.laws.Common.{◌⊎◌, All, All-nil, All-cons, All-head, All-tail, Word, Located, Section, AreWithinLimits, IsFile, cons_is}
+use Rattle.dac_first_fault.specs.FirstFault.{CanBegin, words, IsNoName, IsWell}
 
 begin_front : (Keeps : List Section → Type 0) (a b : List Word) → CanBegin Keeps (a ++ b) → CanBegin Keeps a
 begin_front Keeps a b k = record { more = b ++ k.more; sections = k.sections; file = subst (λ (l : List Word). IsFile l k.sections) (append_assoc a b k.more) k.file; keeps = k.keeps }

@@ -1,6 +1,6 @@
 -- Readers of names, nodes, applications and permissions: their results depend only on the tokens that they take.
 use Rattle.std.proofs.Common.{◌≡◌, ℕ, Bool, true, false, not, ◌&&◌, ◌≤◌, cond, eqb, ltb, leb, List, [], ◌∷◌, length, map, Result, Ok, Err, refl, sym, ap, ◌∙◌, arith, codes}
-use Rattle.dac_shapes.specs.laws.Common.{bytes_eq, ltb-true, ltb-false, ne_eqb, MAX_NODES, ConfigFault, BadShape, EmptyList, EmptyTuple, TwiceInList, TwiceApp, TooManyApps, TooManyNodes, NumberTooLarge, NameTooLong, OpenList, CloseList, OpenTuple, CloseTuple, Comma, ◌>>=◌, Word, Punctuation, Name, Number, End, Located, App, Seen, is_among, with_node, listing, value_from, State, fails, is_symbol, token, symbol_at, atom_of, short_name_of, milliseconds_of, wait_of, flag_of, app_name_of, node_of, names_at, item_at, items_at, groups_at, timeout_at, app_value_at, app_at, permission_value_at, permission_at, closed, at, mark_is}
+use Rattle.dac_shapes.specs.laws.Common.{bytes_eq, ltb-true, ltb-false, ne_eqb, MAX_NODES, ConfigFault, BadShape, EmptyList, EmptyTuple, TwiceInList, TwiceApp, TooManyApps, TooManyNodes, NumberTooLarge, NameTooLong, OpenList, CloseList, OpenTuple, CloseTuple, Comma, ◌>>=◌, Word, Punctuation, Name, Number, Text, End, Located, App, Seen, is_among, with_node, listing, value_from, State, fails, is_symbol, token, symbol_at, atom_of, short_name_of, milliseconds_of, wait_of, flag_of, app_name_of, node_of, names_at, item_at, items_at, groups_at, timeout_at, app_value_at, app_at, permission_value_at, permission_at, closed, at, mark_is}
 use Rattle.dac_shapes.specs.declared.draft.SyncWait.TheVariants.{Forever, Ms}
 use Rattle.dac_shapes.specs.laws.Names.{atom_is, short_name_is}
 use Rattle.dac_first_fault.specs.FirstFault.{IsShortName, Itself, InList, InTuple}

@@ -1,5 +1,5 @@
 -- Readers of parameters and sections: their results depend only on the tokens that they take.
-use Rattle.std.proofs.Common.{◌≡◌, Bool, true, false, List, [], ◌∷◌, Option, Some, None, Result, Ok, refl, ap, cond, codes}
+use Rattle.std.proofs.Common.{◌≡◌, Bool, true, false, List, [], ◌∷◌, Option, Some, None, Result, Ok, refl, ap, ◌∙◌, cond, codes}
 use Rattle.dac_shapes.specs.laws.Common.{bytes_eq, ConfigFault, BadShape, Unsupported, ◌>>=◌, End, Located, Param, Distributed, Permissions, Mandatory, Optional, Timeout, Section, Kernel, Seen, has_kernel, State, fails, is_text, token, atom_of, list_of, app_at, permission_at, node_of, wait_of, param_named, first_param, param_name_of, param_value_at, param_rest_at, param_at, names_kernel, kernel_at, section_rest_at, section_at, pair_at, at, text_is}
 use Rattle.dac_shapes.specs.declared.param.ParamName.{ParamName}
 use Rattle.dac_shapes.specs.declared.param.ParamName.TheVariants as named

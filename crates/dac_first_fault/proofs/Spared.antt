@@ -1,6 +1,6 @@
 -- Any sections keep limits that are none of those of `Keeps`.
 use Rattle.std.proofs.Common.{ℕ, Bool, true, false, List, [], ◌∷◌, ◌++◌, arith}
-use Rattle.dac_shapes.specs.laws.Common.{FaultKind, BadShape, TwiceApp, TwiceInList, TooManyNodes, TooManyApps, NameTooLong, EmptyList, EmptyTuple, NumberTooLarge, Unsupported, App, Param, Distributed, Permissions, Mandatory, Optional, Section, Kernel, Seen, nothing, AllMay, with_node, with_nodes, listing, with_app, with_permission, with_param, with_section, NodeKeeps, NodesKeep, GroupsKeep, AppKeeps, PermissionKeeps, ValueKeeps, ParamKeeps, SectionKeeps, Keeps}
+use Rattle.dac_shapes.specs.laws.Common.{FaultKind, BadShape, TwiceApp, TwiceInList, TooManyNodes, TooManyApps, NameTooLong, EmptyList, EmptyTuple, NumberTooLarge, Unsupported, App, Param, Distributed, Permissions, Mandatory, Optional, Timeout, Section, Kernel, Seen, nothing, AllMay, with_node, with_nodes, listing, with_app, with_permission, with_param, with_section, NodeKeeps, NodesKeep, GroupsKeep, AppKeeps, PermissionKeeps, ValueKeeps, ParamKeeps, SectionKeeps, Keeps}
 
 -- a limit that `Keeps` depends on
 abbrev pub IsLimit : FaultKind → Type 0

@@ -3,7 +3,7 @@ use Rattle.std.proofs.Common.{◌≡◌, ℕ, zero, suc, ◌+◌, ◌<◌, ◌�
 use Rattle.dac_shapes.specs.laws.Common.{◌⊎◌, ConfigFault, BadShape, Symbol, CloseTuple, Comma, ◌>>=◌, Word, Punctuation, Name, Number, Text, End, Located, Seen, State, fails, is_symbol, is_text, token, room, terms_at, terms_in, texts_at, term_by, term_at, passed_at, closing_of, at}
 use Rattle.dac_shapes.specs.laws.TermCases.{by_name, by_number, by_text, by_mark, by_other_mark, by_end}
 use Rattle.dac_first_fault.specs.FirstFault.{Itself}
-use Rattle.dac_first_fault.proofs.Outcomes.{Wants, Fails, Took, Failed, Asked, fails_further, wants_further, Always, Reader, Gives, IsReader, Wanting, goes_further, fails_as}
+use Rattle.dac_first_fault.proofs.Outcomes.{Wants, Fails, Took, Failed, Asked, fails_further, wants_further, Always, Reader, Gives, IsReader, Wanting, goes_further}
 use Rattle.dac_first_fault.proofs.Alike.{goes_alike, wants_before, wants_all, fails_alike}
 use Rattle.dac_first_fault.proofs.Lists.{regroup, Fits}
 
@@ -61,13 +61,16 @@ unfolding texts_at
 texts_other zero t last rest seen w = refl
 texts_other (suc n) t last rest seen w = rw w refl
 
+texts_more : (n : ℕ) (t : Located) (last : Result Located ConfigFault) (rest : List Located) (seen : Seen) → is_text t.word ≡ true → texts_at (suc n) (at last (t ∷ rest) seen) ≡ texts_at n (at last rest seen)
+unfolding texts_at
+texts_more n t last rest seen w = rw w refl
+
 texts_want : (seen : Seen) → Wants Fits Late texts_at [] seen
 texts_want seen = record { more = λ n p le. texts_none n p seen; end = λ n t w le. inr (at (Ok t) [] seen, texts_done n t seen w) }
 
 texts_lead : (t : Located) (seen : Seen) → is_text t.word ≡ true → (n : ℕ) (last : Result Located ConfigFault) (rest : List Located) → length ((t ∷ []) ++ rest) ≤ n → (m : ℕ) × (length rest ≤ m) × (texts_at n (at last (t ∷ rest) seen) ≡ texts_at m (at last rest seen))
-unfolding texts_at
 texts_lead t seen e zero last rest le = absurd (omega arith)
-texts_lead t seen e (suc m) last rest le = (m, omega arith, rw e refl)
+texts_lead t seen e (suc m) last rest le = (m, omega arith, texts_more m t last rest seen e)
 
 texts_by : (t : Located) (us : List Located) (seen : Seen) (c : Bool) → is_text t.word ≡ c → Passing Fits texts_at us seen → Passing Fits texts_at (t ∷ us) seen
 texts_by t us seen true e next = late_further Fits Fits texts_at texts_at (t ∷ []) seen (texts_lead t seen e) us next
@@ -108,6 +111,10 @@ module _ (close : Symbol) where
   unfolding terms_at
   stepped n m s = regroup (token s) (λ q. term_at n q.0 q.1) (choose close n m)
 
+  spent : (n : ℕ) (t : Located) (s : State) → terms_at (term_at n) close zero t s ≡ fails BadShape t.at
+  unfolding terms_at
+  spent n t s = refl
+
   choose_end : (n m : ℕ) (t : Located) (s : State) → t.word ≡ End → choose close n m (t, s) ≡ fails BadShape t.at
   choose_end n m t s w = let a : is_symbol close t.word ≡ false = ap (is_symbol close) w in let b : is_symbol Comma t.word ≡ false = ap (is_symbol Comma) w in rw (a, b) refl
 
@@ -123,8 +130,7 @@ module _ (close : Symbol) where
   more_terms n (suc m) us seen p le is = stepped n m (at (Err p) us seen) ∙ ap (λ r. r >>= choose close n m) is
 
   end_terms : (n m : ℕ) (us : List Located) (seen : Seen) (t : Located) → t.word ≡ End → length us ≤ m → Late t (term n (at (Ok t) us seen)) → Late t (terms close (n, m) (at (Ok t) us seen))
-  unfolding terms_at
-  end_terms n zero [] seen t w le is = inl refl
+  end_terms n zero [] seen t w le is = inl (spent n t (at (Ok t) [] seen))
   end_terms n zero (u ∷ us) seen t w le is = absurd (omega arith)
   end_terms n (suc m) us seen t w le is = inl (stepped n m (at (Ok t) us seen) ∙ late_chosen n m t (term n (at (Ok t) us seen)) w is)
 
@@ -178,7 +184,16 @@ module _ (close : Symbol) where
   terms_step : (us : List Located) (seen : Seen) → Passing Fits term us seen → ((rest : List Located) → length rest < length us → Passing Both (terms close) rest seen) → Passing Both (terms close) us seen
   terms_step us seen (Passed t) next =
       subst (λ (l : List Located). Passing Both (terms close) l seen) (sym t.whole) (by_token us seen t (is_symbol close t.f.word) (is_symbol Comma t.f.word) refl refl (next t.b (omega (arith, ap length t.whole, length-append t.front (t.f ∷ t.b)))))
-  terms_step us seen (Refused t) next = Refused (fails_as t (λ n last rest le. fails_terms n.0 n.1 t.a t.l rest last seen t.e le.1 (t.goes n.0 last rest le.0)) (wants_terms t.a seen t.wants))
+  terms_step us seen (Refused t) next = Refused (record {
+    a = t.a;
+    l = t.l;
+    b = t.b;
+    e = t.e;
+    whole = t.whole;
+    goes = λ n last rest le. fails_terms n.0 n.1 t.a t.l rest last seen t.e le.1 (t.goes n.0 last rest le.0);
+    stands = t.stands;
+    wants = wants_terms t.a seen t.wants;
+  })
   terms_step us seen (Open w) next = Open (wants_terms us seen w)
 
   terms_up : (k : ℕ) → ((us : List Located) (seen : Seen) → length us ≤ k → Passing Fits term us seen) → (j : ℕ) → j ≤ k → (us : List Located) (seen : Seen) → length us ≤ j → Passing Both (terms close) us seen
@@ -188,20 +203,30 @@ module _ (close : Symbol) where
   abbrev within : ℕ → State → Result (Located × State) ConfigFault
   within n s = terms_in (term_at n) close n s
 
+  within_close : (n : ℕ) (t : Located) (last : Result Located ConfigFault) (rest : List Located) (seen : Seen) → is_symbol close t.word ≡ true → within n (at last (t ∷ rest) seen) ≡ token (at last rest seen)
+  unfolding terms_in
+  within_close n t last rest seen e = rw e refl
+
+  within_other : (n : ℕ) (t : Located) (last : Result Located ConfigFault) (rest : List Located) (seen : Seen) → is_symbol close t.word ≡ false → within n (at last (t ∷ rest) seen) ≡ terms close (n, n) (at last (t ∷ rest) seen)
+  unfolding terms_in
+  within_other n t last rest seen e = rw e refl
+
+  within_none : (n : ℕ) (p : ConfigFault) (seen : Seen) → within n (at (Err p) [] seen) ≡ Err p
+  unfolding terms_in
+  within_none n p seen = refl
+
   within_end : (n : ℕ) (t : Located) (seen : Seen) → t.word ≡ End → within n (at (Ok t) [] seen) ≡ terms close (n, n) (at (Ok t) [] seen)
   unfolding terms_in
   within_end n t seen w = let e : is_symbol close t.word ≡ false = ap (is_symbol close) w in rw e refl
 
   within_want : (seen : Seen) → Wants Fits Late within [] seen
-  unfolding terms_in
-  within_want seen = record { more = λ n p le. refl; end = λ n t w le. subst (Late t) (sym (within_end n t seen w)) (end_terms n n [] seen t w le (inl (term_end n t (at (Ok t) [] seen) w))) }
+  within_want seen = record { more = λ n p le. within_none n p seen; end = λ n t w le. subst (Late t) (sym (within_end n t seen w)) (end_terms n n [] seen t w le (inl (term_end n t (at (Ok t) [] seen) w))) }
 
   within_from : (t : Located) (b : List Located) (seen : Seen) → is_symbol close t.word ≡ false → Passing Both (terms close) (t ∷ b) seen → Passing Fits within (t ∷ b) seen
-  unfolding terms_in
   within_from t b seen e gives = by gives
     where
       same : (n : ℕ) (last : Result Located ConfigFault) (rest : List Located) → length (t ∷ rest) ≤ n → (m : ℕ × ℕ) × Both m (length (t ∷ rest)) × (within n (at last (t ∷ rest) seen) ≡ terms close m (at last (t ∷ rest) seen))
-      same n last rest le = ((n, n), (le, le), rw e refl)
+      same n last rest le = ((n, n), (le, le), within_other n t last rest seen e)
 
       by : Passing Both (terms close) (t ∷ b) seen → Passing Fits within (t ∷ b) seen
       by (Passed k) = Passed (record {
@@ -216,8 +241,7 @@ module _ (close : Symbol) where
       by (Open w) = Open (wants_all Fits Both Late within (terms close) t b seen seen same (within_want seen) w)
 
   within_by : (t : Located) (b : List Located) (seen : Seen) (c : Bool) → is_symbol close t.word ≡ c → Passing Both (terms close) (t ∷ b) seen → Passing Fits within (t ∷ b) seen
-  unfolding terms_in
-  within_by t b seen true e gives = late_further Fits Always within (λ _. token) (t ∷ []) seen (λ n last rest le. (tt, tt, rw e refl)) b (token_late b seen)
+  within_by t b seen true e gives = late_further Fits Always within (λ _. token) (t ∷ []) seen (λ n last rest le. (tt, tt, within_close n t last rest seen e)) b (token_late b seen)
   within_by t b seen false e gives = within_from t b seen e gives
 
   within_late : (us : List Located) (seen : Seen) → Passing Both (terms close) us seen → Passing Fits within us seen
@@ -289,6 +313,14 @@ module _ {A : Type 0} (y : A) where
   unfolding passed_at
   passing_is t last rest seen = fin_same (term_at (suc (suc (length (t ∷ rest)))) t (at last rest seen))
 
+  passing_none : (p : ConfigFault) (seen : Seen) → passing (at (Err p) [] seen) ≡ Err p
+  unfolding passed_at
+  passing_none p seen = refl
+
+  passing_end : (t : Located) (seen : Seen) → t.word ≡ End → passing (at (Ok t) [] seen) ≡ fails BadShape t.at
+  unfolding passed_at
+  passing_end t seen w = rw (term_end (suc (room (at (Ok t) [] seen))) t (at (Ok t) [] seen) w) refl
+
   fin_end : (t : Located) (r : Result (Located × State) ConfigFault) → t.word ≡ End → Late t r → (r >>= fin) ≡ fails BadShape t.at
   fin_end t r w late = elim late [
     | inl e ↦ ap (λ q. q >>= fin) e
@@ -296,8 +328,7 @@ module _ {A : Type 0} (y : A) where
   ]
 
   passing_wants : (us : List Located) (seen : Seen) → Wants Fits Late term us seen → Wanting passing us seen
-  unfolding passed_at
-  passing_wants [] seen w = record { more = λ i p room. refl; end = λ i t is fits. rw (term_end (suc (room (at (Ok t) [] seen))) t (at (Ok t) [] seen) is) refl }
+  passing_wants [] seen w = record { more = λ i p room. passing_none p seen; end = λ i t is room. passing_end t seen is }
   passing_wants (u ∷ us) seen w = record {
     more = λ i p room. passing_is u (Err p) us seen ∙ ap (λ r. r >>= fin) (w.more (suc (suc (length (u ∷ us)))) p (omega arith));
     end = λ i t is room. passing_is u (Ok t) us seen ∙ fin_end t (term (suc (suc (length (u ∷ us)))) (at (Ok t) (u ∷ us) seen)) is (w.end (suc (suc (length (u ∷ us)))) t is (omega arith));
@@ -332,7 +363,16 @@ module _ {A : Type 0} (y : A) where
 
   passing_of : (us : List Located) (seen : Seen) → Passing Fits term us seen → Gives passing us seen
   passing_of us seen (Passed k) = passing_by us seen k (is_symbol CloseTuple k.f.word) refl
-  passing_of us seen (Refused k) = Failed (fails_as k (λ i last rest room. passing_goes k.a k.l rest last seen (Err k.e) (λ n le. k.goes n last rest le)) (passing_wants k.a seen k.wants))
+  passing_of us seen (Refused k) = Failed (record {
+    a = k.a;
+    l = k.l;
+    b = k.b;
+    e = k.e;
+    whole = k.whole;
+    goes = λ i last rest room. passing_goes k.a k.l rest last seen (Err k.e) (λ n le. k.goes n last rest le);
+    stands = k.stands;
+    wants = passing_wants k.a seen k.wants;
+  })
   passing_of us seen (Open w) = Asked (passing_wants us seen w)
 
   pub passing_reader : IsReader passing

@@ -1,6 +1,6 @@
 -- Whole texts: a text is read exactly if its tokens form a file whose names are allowed in order.
-use Rattle.std.proofs.Common.{◌≡◌, ℕ, ◌<◌, ◌≤◌, Bool, true, false, not, ◌&&◌, ◌≢◌, cond, eqb, ltb, leb, List, [], ◌∷◌, ◌++◌, length, map, Option, Some, None, Result, Ok, refl, sym, ap, subst, ◌∙◌, arith, inl, inr, codes, zero, suc, Err, bytes_eq, ltb-true, leb-false, eqb-true, ne_eqb, IfOk, IfErr, MatchResult, ◌↔◌}
-use Rattle.dac_shapes.specs.laws.Common.{eqb-false, AllByRecursion, MAX_NODES, ConfigFault, OpenList, CloseList, OpenTuple, CloseTuple, Comma, FullStop, BadShape, EmptyTuple, NumberTooLarge, NoMemory, ◌>>=◌, OrMemory, Gives, Word, Punctuation, Name, Number, Located, is_end, End, value_from, FaultKind, AreTokensOf, Stream, token_from, and_then, tokens_within, tokens_of, taken_of, SyncWait, Ms, ParamName, App, Permission, Param, Distributed, Permissions, Mandatory, Optional, Timeout, Section, Kernel, name_of, spelled, Written, written, Seen, AllMay, steps, is_among, has_param, with_node, NodeKeeps, with_nodes, NodesKeep, ListKeeps, listing, with_list, with_app, AppKeeps, with_permission, PermissionKeeps, with_param, ValueKeeps, ParamKeeps, has_kernel, with_section, SectionKeeps, nothing, Every, State, fails, is_symbol, token, atom_of, short_name_of, node_of, names_at, item_at, groups_at, milliseconds_of, timeout_at, wait_of, app_name_of, app_value_at, app_at, flag_of, permission_value_at, permission_at, param_named, first_param, param_name_of, param_value_at, param_rest_at, param_at, names_kernel, kernel_at, section_rest_at, section_at, closed, list_of, room, end_at, file_at, between, IsListOf, IsNode, IsItem, IsNodeList, IsMs, IsFlag, IsPermission, strict, IsTimeout, IsApp, IsWait, IsParam, IsSection, IsFile, IsTextOf, nodes_in, AreWithinLimits, draft_of, ended, at, symbol_again}
+use Rattle.std.proofs.Common.{◌≡◌, ℕ, ◌<◌, ◌≤◌, Bool, true, false, not, ◌&&◌, ◌≢◌, cond, eqb, ltb, leb, List, [], ◌∷◌, ◌++◌, length, map, Option, Some, None, Result, Ok, refl, sym, ap, subst, ◌∙◌, arith, inl, inr, codes, zero, suc, Err, bytes_eq, ltb-true, ltb-false, leb-false, eqb-true, ne_eqb, IfOk, IfErr, MatchResult, ◌↔◌}
+use Rattle.dac_shapes.specs.laws.Common.{eqb-false, AllByRecursion, MAX_NODES, ConfigFault, OpenList, CloseList, OpenTuple, CloseTuple, Comma, FullStop, BadShape, EmptyTuple, NumberTooLarge, NameTooLong, NoMemory, ◌>>=◌, OrMemory, Gives, Word, Punctuation, Name, Number, Located, is_end, End, value_from, FaultKind, AreTokensOf, Stream, token_from, and_then, tokens_within, tokens_of, taken_of, SyncWait, Ms, ParamName, App, Permission, Param, Distributed, Permissions, Mandatory, Optional, Timeout, Section, Kernel, name_of, spelled, Written, written, Seen, AllMay, steps, is_among, has_param, with_node, NodeKeeps, with_nodes, NodesKeep, ListKeeps, listing, with_list, with_app, AppKeeps, with_permission, PermissionKeeps, with_param, ValueKeeps, ParamKeeps, has_kernel, with_section, SectionKeeps, nothing, Every, State, fails, is_symbol, token, atom_of, short_name_of, node_of, names_at, item_at, groups_at, milliseconds_of, timeout_at, wait_of, app_name_of, app_value_at, app_at, flag_of, permission_value_at, permission_at, param_named, first_param, param_name_of, param_value_at, param_rest_at, param_at, names_kernel, kernel_at, section_rest_at, section_at, closed, list_of, room, end_at, file_at, between, IsListOf, IsNode, IsItem, IsNodeList, IsMs, IsFlag, IsPermission, strict, IsTimeout, IsApp, IsWait, IsParam, IsSection, IsFile, IsTextOf, nodes_in, AreWithinLimits, draft_of, ended, at, symbol_again}
 use Rattle.dac_tokens.specs.Stream.{end_at as end_of, ended as ended_by}
 use Rattle.dac_shapes.specs.declared.param.ParamName.TheVariants as named
 use Rattle.dac_shapes.specs.laws.Names.{chosen, unless_first, zero_is, mark_is, is_named, same_seen, param_is, unknown_is, bind_ok, held, required, passed, ok_is, atom_is, short_name_is}
@@ -400,13 +400,16 @@ end_found s offset v well no_end e =
 
 -- ---- completeness
 
+end_again : (stop end : Located) (seen : Seen) → stop.word ≡ Punctuation FullStop → is_end end.word ≡ true → end_at (at (Ok end) (stop ∷ []) seen) ≡ Ok (end.at, at (Ok end) [] seen)
+unfolding end_at
+end_again stop end seen w e = rw (symbol_again (Ok end) FullStop stop [] seen refl w, e) refl
+
 file_by : (s t u : State) (offset : ℕ) (sections : List Section) → list_of section_at s ≡ Ok (sections, t) → end_at t ≡ Ok (offset, u) → eqb (length (written sections u.seen.met).apps) 0 ≡ false → file_at s ≡ Ok (written sections u.seen.met)
 unfolding file_at
 file_by s t u offset sections a b c = rw (a, b, c) refl
 
 file_again : (end : Located) (ts : List Located) (sections : List Section) → is_end end.word ≡ true → IsFile (map (λ t. t.word) ts) sections → AreWithinLimits sections → length (written sections (nodes_in sections)).apps ≢ 0
     → file_at (at (Ok end) ts nothing) ≡ Ok (written sections (nodes_in sections))
-unfolding end_at
 file_again end ts sections is file within some =
     let c = ended ts file.0 (Punctuation FullStop) file.1 in
     let list : IsListOf (IsSection strict) (map (λ t. t.word) c.front) sections = subst (λ (l : List Word). IsListOf (IsSection strict) l sections) (sym c.first) file.2 in
@@ -414,7 +417,7 @@ file_again end ts sections is file within some =
     let some_app : length (written sections seen.met).apps ≢ 0 = subst (λ (nodes : List (List ℕ)). length (written sections nodes).apps ≢ 0) (sym (seen_is sections)) some in
     ap (λ (l : List Located). file_at (at (Ok end) l nothing)) c.whole
     ∙ file_by (at (Ok end) (c.front ++ c.end ∷ []) nothing) (at (Ok end) (c.end ∷ []) seen) (at (Ok end) [] seen) end.at sections
-    (sections_again (Ok end) c.front (c.end ∷ []) sections list (may_from sections within)) (rw (symbol_again (Ok end) FullStop c.end [] seen refl c.is, is) refl)
+    (sections_again (Ok end) c.front (c.end ∷ []) sections list (may_from sections within)) (end_again c.end end seen c.is is)
     (ne_eqb (length (written sections seen.met).apps) 0 some_app)
     ∙ ap (λ (nodes : List (List ℕ)). Ok (written sections nodes)) (seen_is sections)
 

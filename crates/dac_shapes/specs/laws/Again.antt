@@ -112,9 +112,16 @@ module _ (last : Result Located ConfigFault) (Bad : ℕ → Type 0) (Kept : Faul
         unfolding comma_list
         list_step n before t s = refl
 
+        goes_comma : (n : ℕ) (before : List A) (x : A) (k t : Located) (us : List Located) (seen : Seen) → k.word ≡ Punctuation Comma → goes_on n before (x, at last (k ∷ t ∷ us) seen) ≡ comma_list read close n (before ++ x ∷ []) t (at last us seen)
+        unfolding more_at
+        goes_comma n before x k t us seen e = rw e refl
+
+        goes_close : (n : ℕ) (before : List A) (x : A) (c : Located) (us : List Located) (seen : Seen) → c.word ≡ Punctuation close → goes_on n before (x, at last (c ∷ us) seen) ≡ Ok (before ++ x ∷ [], at last us seen)
+        unfolding more_at
+        goes_close n before x c us seen e = rw (e, not_comma, is_close) refl
+
         pub list_met : (n : ℕ) (before : List A) (t : Located) (ts : List Located) (c : Located) (us : List Located) (seen : Seen) (xs : List A) → length ts < n → Parted Is (words_of (t ∷ ts)) xs → Fine Bad (t ∷ ts) → AllMay step Keep before seen xs → c.word ≡ Punctuation close
             → Met last Bad Kept (before ++ xs) us (steps step seen xs) (comma_list read close n before t (at last (ts ++ c ∷ us) seen))
-        unfolding more_at
         list_met zero before t ts c us seen xs lt p fine keep e = absurd (omega arith)
         list_met (suc n) before t ts c us seen [] lt p fine keep e = absurd p
         list_met (suc n) before t ts c us seen (x ∷ []) lt p fine keep e =
@@ -122,7 +129,7 @@ module _ (last : Result Located ConfigFault) (Bad : ℕ → Type 0) (Kept : Faul
             let after = step seen x in
             met_is (before ++ x ∷ []) us after (comma_list read close (suc n) before t s) (read before t s >>= goes_on n before) (list_step n before t s)
             (met_then x (c ∷ us) after (before ++ x ∷ []) us after (read before t s) (goes_on n before) (met before t ts (c ∷ us) seen x p fine keep.0)
-            (met_is (before ++ x ∷ []) us after (goes_on n before (x, at last (c ∷ us) after)) (Ok (before ++ x ∷ [], at last us after)) (rw (e, not_comma, is_close) refl) refl))
+            (met_is (before ++ x ∷ []) us after (goes_on n before (x, at last (c ∷ us) after)) (Ok (before ++ x ∷ [], at last us after)) (goes_close n before x c us after e) refl))
         list_met (suc n) before t ts c us seen (x ∷ y ∷ ys) lt p fine keep e =
             let b = behind t ts x y ys p in
             let shorter : length b.rest < n = omega (arith, ap length b.whole, length-append b.front (b.comma ∷ b.next ∷ b.rest)) in
@@ -136,7 +143,7 @@ module _ (last : Result Located ConfigFault) (Bad : ℕ → Type 0) (Kept : Faul
             let after = steps step mid (y ∷ ys) in
             met_is xs us after (comma_list read close (suc n) before t (at last (ts ++ c ∷ us) seen)) (read before t s >>= goes_on n before) (ap (λ (l : List Located). comma_list read close (suc n) before t (at last l seen)) apart ∙ list_step n before t s)
             (met_then x tail mid xs us after (read before t s) (goes_on n before) (met before t b.front tail seen x b.first (fine_front Bad (t ∷ b.front) (b.comma ∷ b.next ∷ b.rest) parts) keep.0)
-            (met_is xs us after (goes_on n before (x, at last tail mid)) (comma_list read close n (before ++ x ∷ []) b.next (at last vs mid)) (rw b.is_comma refl)
+            (met_is xs us after (goes_on n before (x, at last tail mid)) (comma_list read close n (before ++ x ∷ []) b.next (at last vs mid)) (goes_comma n before x b.comma b.next vs mid b.is_comma)
             (subst (λ (l : List A). Met last Bad Kept l us after (comma_list read close n (before ++ x ∷ []) b.next (at last vs mid))) (append_assoc before (x ∷ []) (y ∷ ys))
             (list_met n (before ++ x ∷ []) b.next b.rest c us mid (y ∷ ys) shorter b.others (fine_rest Bad (t ∷ b.front) (b.comma ∷ b.next ∷ b.rest) parts).1 keep.1 e))))
 
@@ -145,13 +152,20 @@ module _ (last : Result Located ConfigFault) (Bad : ℕ → Type 0) (Kept : Faul
             → Met last Bad Kept xs us (steps step seen xs) (comma_list read close (room (at last (ts ++ c ∷ us) seen)) [] t (at last (ts ++ c ∷ us) seen))
         whole_met t ts c us seen xs p fine keep e = list_met (room (at last (ts ++ c ∷ us) seen)) [] t ts c us seen xs (omega (arith, length-append ts (c ∷ us))) p fine keep e
 
-      pub bracketed_met : (ts us : List Located) (seen : Seen) (xs : List A) → IsListOf Is (words_of ts) xs → Fine Bad ts → AllMay step Keep [] seen xs → Met last Bad Kept xs us (steps step seen xs) (list_of read (at last (ts ++ us) seen))
+      empty_is : (o c : Located) (us : List Located) (seen : Seen) → o.word ≡ Punctuation OpenList → c.word ≡ Punctuation CloseList → list_of read (at last (o ∷ c ∷ us) seen) ≡ Ok ([], at last us seen)
       unfolding list_of
+      empty_is o c us seen a b = rw (symbol_again last OpenList o (c ∷ us) seen refl a, b) refl
+
+      filled_is : (o f : Located) (ts : List Located) (seen : Seen) → o.word ≡ Punctuation OpenList → is_symbol CloseList f.word ≡ false → list_of read (at last (o ∷ f ∷ ts) seen) ≡ comma_list read CloseList (room (at last ts seen)) [] f (at last ts seen)
+      unfolding list_of
+      filled_is o f ts seen a b = rw (symbol_again last OpenList o (f ∷ ts) seen refl a, b) refl
+
+      pub bracketed_met : (ts us : List Located) (seen : Seen) (xs : List A) → IsListOf Is (words_of ts) xs → Fine Bad ts → AllMay step Keep [] seen xs → Met last Bad Kept xs us (steps step seen xs) (list_of read (at last (ts ++ us) seen))
       bracketed_met ts us seen [] is fine keep =
           let i = inside ts (Punctuation OpenList) is.0 (Punctuation CloseList) is.1 in
           let empty : i.mid ≡ [] = none i.mid (i.is ∙ is.2) in
           let apart : ts ++ us ≡ i.open_at ∷ i.close_at ∷ us = ap (λ (l : List Located). l ++ us) (i.whole ∙ ap (λ (l : List Located). i.open_at ∷ (l ++ i.close_at ∷ [])) empty) in
-          met_is [] us seen (list_of read (at last (ts ++ us) seen)) (Ok ([], at last us seen)) (ap (λ (l : List Located). list_of read (at last l seen)) apart ∙ rw (symbol_again last OpenList i.open_at (i.close_at ∷ us) seen refl i.opens, i.closes) refl) refl
+          met_is [] us seen (list_of read (at last (ts ++ us) seen)) (Ok ([], at last us seen)) (ap (λ (l : List Located). list_of read (at last l seen)) apart ∙ empty_is i.open_at i.close_at us seen i.opens i.closes) refl
       bracketed_met ts us seen (x ∷ xs) is fine keep =
           let i = inside ts (Punctuation OpenList) is.0 (Punctuation CloseList) is.1 in
           let b = parted_begins is.0 (x ∷ xs) is.2 in
@@ -161,7 +175,7 @@ module _ (last : Result Located ConfigFault) (Bad : ℕ → Type 0) (Kept : Faul
           let apart : ts ++ us ≡ i.open_at ∷ f.head ∷ vs = ap (λ (l : List Located). l ++ us) parts ∙ ap (λ (l : List Located). i.open_at ∷ f.head ∷ l) (append_assoc f.tail (i.close_at ∷ []) us) in
           let inner : is.0 ≡ words_of (f.head ∷ f.tail) = sym i.is ∙ ap words_of f.whole in
           let mid : Fine Bad (f.head ∷ f.tail) = fine_front Bad (f.head ∷ f.tail) (i.close_at ∷ []) (subst (λ (l : List Located). Fine Bad l) parts fine).1 in
-          met_is (x ∷ xs) us (steps step seen (x ∷ xs)) (list_of read (at last (ts ++ us) seen)) (comma_list read CloseList (room (at last vs seen)) [] f.head (at last vs seen)) (ap (λ (l : List Located). list_of read (at last l seen)) apart ∙ rw (symbol_again last OpenList i.open_at (f.head ∷ vs) seen refl i.opens, (ap (is_symbol CloseList) f.is ∙ b.no_list)) refl)
+          met_is (x ∷ xs) us (steps step seen (x ∷ xs)) (list_of read (at last (ts ++ us) seen)) (comma_list read CloseList (room (at last vs seen)) [] f.head (at last vs seen)) (ap (λ (l : List Located). list_of read (at last l seen)) apart ∙ filled_is i.open_at f.head vs seen i.opens (ap (is_symbol CloseList) f.is ∙ b.no_list))
           (whole_met CloseList refl refl f.head f.tail i.close_at us seen (x ∷ xs) (subst (λ (l : List Word). Parted Is l (x ∷ xs)) inner is.2) mid keep i.closes)
 
   -- ---- a value and the brace that closes its pair, and a pair

@@ -279,14 +279,17 @@ module _ (last : Result Located ConfigFault) (Bad : ℕ → Type 0) (Kept : Faul
   pub permission_begins : (ws : List Word) (x : Permission) → IsPermission ws x → Begins ws
   permission_begins ws x is = record { head = Punctuation OpenTuple; tail = Name x.name ∷ Punctuation Comma ∷ is.0 ++ Punctuation CloseTuple ∷ []; whole = is.1; no_list = refl; no_tuple = refl }
 
-  permission_value_met : (vs us : List Located) (seen : Seen) (x : Permission) → IsFlag (words_of vs) x.value → Met last Bad Kept x us seen (permission_value_at x.name (at last (vs ++ us) seen))
+  permission_value_is : (t : Located) (us : List Located) (seen : Seen) (x : Permission) → flag_of t ≡ Ok x.value → permission_value_at x.name (at last (t ∷ us) seen) ≡ Ok (x, at last us seen)
   unfolding permission_value_at
+  permission_value_is t us seen x e = rw e refl
+
+  permission_value_met : (vs us : List Located) (seen : Seen) (x : Permission) → IsFlag (words_of vs) x.value → Met last Bad Kept x us seen (permission_value_at x.name (at last (vs ++ us) seen))
   permission_value_met vs us seen x is =
       let w = flag_word (words_of vs) x.value is in
       let c = cut vs w.0 [] w.1 in
       let only : vs ≡ c.head ∷ [] = c.whole ∙ ap (λ (l : List Located). c.head ∷ l) (none c.tail c.rest) in
       let said : IsFlag (c.head.word ∷ []) x.value = subst (λ (l : List Located). IsFlag (words_of l) x.value) only is in
-      met_is last Bad Kept x us seen (permission_value_at x.name (at last (vs ++ us) seen)) (Ok (x, at last us seen)) (ap (λ (l : List Located). permission_value_at x.name (at last (l ++ us) seen)) only ∙ rw (flag_is c.head x.value said) refl) refl
+      met_is last Bad Kept x us seen (permission_value_at x.name (at last (vs ++ us) seen)) (Ok (x, at last us seen)) (ap (λ (l : List Located). permission_value_at x.name (at last (l ++ us) seen)) only ∙ permission_value_is c.head us seen x (flag_is c.head x.value said)) refl
 
   pub permission_met : (before : List Permission) (t : Located) (ts us : List Located) (seen : Seen) (x : Permission) → IsPermission (words_of (t ∷ ts)) x → Fine Bad (t ∷ ts) → PermissionKeeps Kept before seen x → Met last Bad Kept x us seen (permission_at t (at last (ts ++ us) seen))
   permission_met before t ts us seen x is fine keep =

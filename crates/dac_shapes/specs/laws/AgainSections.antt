@@ -1,6 +1,6 @@
 -- Parameters and sections are read, or their fault is of a limit or shape outside `Kept`.
 use Rattle.std.proofs.Common.{◌≡◌, ℕ, Bool, true, false, cond, List, [], ◌∷◌, ◌++◌, Option, None, Some, ◌≢◌, Result, Ok, Err, refl, sym, ap, subst, ◌∙◌, codes, arith, inl, inr}
-use Rattle.dac_shapes.specs.laws.Common.{bytes_eq, ConfigFault, FaultKind, BadShape, Unsupported, NumberTooLarge, OpenTuple, CloseTuple, Comma, Word, Punctuation, Name, Number, Text, Located, SyncWait, NoSync, Forever, Ms, ParamName, App, Permission, Param, Distributed, Permissions, Mandatory, Optional, Timeout, Section, Kernel, spelled, Seen, nothing, AllMay, steps, has_param, has_kernel, with_node, with_nodes, with_app, with_apps, with_permission, with_param, with_section, NodeKeeps, NodesKeep, AppKeeps, PermissionKeeps, ParamKeeps, KernelKeeps, SectionKeeps, Keeps, Every, MaySections, value_from, State, fails, node_of, wait_of, milliseconds_of, app_at, permission_at, param_named, param_name_of, param_value_at, param_rest_at, param_at, names_kernel, kernel_at, section_rest_at, section_at, pair_at, closed, list_of, IsListOf, IsPair, IsTerm, IsNode, IsMs, IsPermission, strict, IsApp, IsWait, IsParam, IsSection, loose}
+use Rattle.dac_shapes.specs.laws.Common.{bytes_eq, ConfigFault, FaultKind, BadShape, Unsupported, NumberTooLarge, OpenTuple, CloseTuple, Comma, Word, Punctuation, Name, Number, Text, Located, SyncWait, NoSync, Forever, Ms, ParamName, App, Permission, Param, Distributed, Permissions, Mandatory, Optional, Timeout, Section, Kernel, spelled, Seen, nothing, AllMay, steps, has_param, has_kernel, with_node, with_nodes, with_app, with_apps, with_permission, with_param, with_section, NodeKeeps, NodesKeep, AppKeeps, PermissionKeeps, ParamKeeps, KernelKeeps, SectionKeeps, Keeps, Every, MaySections, value_from, State, fails, node_of, wait_of, milliseconds_of, app_at, permission_at, param_named, param_name_of, param_value_at, param_rest_at, param_at, names_kernel, kernel_at, section_rest_at, section_at, passed_at, pair_at, closed, list_of, IsListOf, IsPair, IsTerm, IsNode, IsMs, IsPermission, strict, IsApp, IsWait, IsParam, IsSection, loose}
 use Rattle.dac_shapes.specs.declared.param.ParamName.TheVariants as named
 use Rattle.dac_shapes.specs.laws.Names.{is_named, param_is, same_seen}
 use Rattle.dac_shapes.specs.laws.Splits.{words_of, cons_is, cut, none, Begins, at}
@@ -73,14 +73,17 @@ module _ (last : Result Located ConfigFault) (Bad : ℕ → Type 0) (Kept : Faul
   other_said : (before : List Param) (t : Located) (name : List ℕ) → t.word ≡ Name name → param_named name ≡ None → Said Bad Kept None (param_name_of before t)
   other_said before t name w other = subst (λ (r : Result (Option ParamName) ConfigFault). Said Bad Kept None r) (sym (other_is before t name w other)) refl
 
+  timeout_is : (t : Located) (us : List Located) (seen : Seen) (wait : SyncWait) → wait_of t ≡ Ok wait → param_value_at named.Timeout (at last (t ∷ us) seen) ≡ Ok (Timeout wait, at last us seen)
+  unfolding param_value_at
+  timeout_is t us seen wait is = rw is refl
+
   -- a wait that is one word
   word_met : (vs us : List Located) (seen : Seen) (wait : SyncWait) (w : Word) → words_of vs ≡ w ∷ [] → ((offset : ℕ) → wait_of (record { word = w; at = offset }) ≡ Ok wait) → Met last Bad Kept (Timeout wait) us seen (param_value_at named.Timeout (at last (vs ++ us) seen))
-  unfolding param_value_at
   word_met vs us seen wait w e is =
       let c = cut vs w [] e in
       let only : vs ≡ c.head ∷ [] = c.whole ∙ ap (λ (l : List Located). c.head ∷ l) (none c.tail c.rest) in
       let said : wait_of c.head ≡ Ok wait = subst (λ (v : Word). wait_of (record { word = v; at = c.head.at }) ≡ Ok wait) (sym c.is) (is c.head.at) in
-      met_is last Bad Kept (Timeout wait) us seen (param_value_at named.Timeout (at last (vs ++ us) seen)) (Ok (Timeout wait, at last us seen)) (ap (λ (l : List Located). param_value_at named.Timeout (at last (l ++ us) seen)) only ∙ rw said refl) refl
+      met_is last Bad Kept (Timeout wait) us seen (param_value_at named.Timeout (at last (vs ++ us) seen)) (Ok (Timeout wait, at last us seen)) (ap (λ (l : List Located). param_value_at named.Timeout (at last (l ++ us) seen)) only ∙ timeout_is c.head us seen wait said) refl
 
   wait_large : (offset : ℕ) (digits : List ℕ) (us : List Located) (seen : Seen) → milliseconds_of offset false (value_from 0 digits) ≡ fails NumberTooLarge offset → param_value_at named.Timeout (at last (record { word = Number false digits; at = offset } ∷ us) seen) ≡ fails NumberTooLarge offset
   unfolding param_value_at wait_of
@@ -130,6 +133,10 @@ module _ (last : Result Located ConfigFault) (Bad : ℕ → Type 0) (Kept : Faul
   unfolding param_rest_at
   rest_of_known name s = refl
 
+  rest_of_other : (s u : State) → passed_at s ≡ Ok u → param_rest_at None s ≡ Ok (Param.Other, u)
+  unfolding param_rest_at
+  rest_of_other s u e = rw e refl
+
   -- a parameter that is read, by its name
   known_met : (name : ParamName) (before : List Param) (p : Param) (seen : Seen) (IsValue : List Word → Type 0) → (Kept BadShape → has_param name before ≡ false) → ((vs us : List Located) → IsValue (words_of vs) → Fine Bad vs → Met last Bad Kept p us (with_param seen p) (param_value_at name (at last (vs ++ us) seen)))
       → (t : Located) (ts us : List Located) → IsPair (spelled name) IsValue (words_of (t ∷ ts)) → Fine Bad (t ∷ ts) → Met last Bad Kept p us (with_param seen p) (param_at before t (at last (ts ++ us) seen))
@@ -137,7 +144,6 @@ module _ (last : Result Located ConfigFault) (Bad : ℕ → Type 0) (Kept : Faul
       pair_met last Bad Kept (param_name_of before) param_rest_at (spelled name) (Some name) p seen (with_param seen p) (λ n w ok. known_said before n name once w ok) (param_value_at name) IsValue (rest_of_known name) value t ts us pair fine
 
   param_met : (before : List Param) (t : Located) (ts us : List Located) (seen : Seen) (p : Param) → IsParam (loose Kept) (words_of (t ∷ ts)) p → Fine Bad (t ∷ ts) → ParamKeeps Kept before seen p → Met last Bad Kept p us (with_param seen p) (param_at before t (at last (ts ++ us) seen))
-  unfolding param_rest_at
   param_met before t ts us seen (Distributed apps) is fine keep = known_met named.Distributed before (Distributed apps) seen (λ value. IsListOf (IsApp (loose Kept)) value apps) (λ kept. keep.once kept named.Distributed refl) (λ vs us' value f. distributed_met vs us' seen apps value f keep.value) t ts us is fine
   param_met before t ts us seen (Permissions permissions) is fine keep =
       known_met named.Permissions before (Permissions permissions) seen (λ value. IsListOf IsPermission value permissions) (λ kept. keep.once kept named.Permissions refl) (λ vs us' value f. permissions_met vs us' seen permissions value f keep.value) t ts us is fine
@@ -146,7 +152,7 @@ module _ (last : Result Located ConfigFault) (Bad : ℕ → Type 0) (Kept : Faul
   param_met before t ts us seen (Timeout wait) is fine keep = known_met named.Timeout before (Timeout wait) seen (λ value. IsWait (loose Kept) value wait) (λ kept. keep.once kept named.Timeout refl) (λ vs us' value f. timeout_met vs us' seen wait value) t ts us is fine
   param_met before t ts us seen Param.Other is fine keep =
       rest_met last Bad Kept (param_name_of before) param_rest_at is.0 None Param.Other seen seen (λ n w ok. other_said before n is.0 w (unknown_so is.0 is.1)) (is.2.0 ++ Punctuation CloseTuple ∷ []) t ts us is.2.1 fine
-      (λ vs e f. met_is last Bad Kept Param.Other us seen (param_rest_at None (at last (vs ++ us) seen)) (Ok (Param.Other, at last us seen)) (rw (passed_again last is.2.0 vs us seen is.2.2 e) refl) refl)
+      (λ vs e f. met_is last Bad Kept Param.Other us seen (param_rest_at None (at last (vs ++ us) seen)) (Ok (Param.Other, at last us seen)) (rest_of_other (at last (vs ++ us) seen) (at last us seen) (passed_again last is.2.0 vs us seen is.2.2 e)) refl)
 
   -- ---- sections
 
@@ -171,6 +177,10 @@ module _ (last : Result Located ConfigFault) (Bad : ℕ → Type 0) (Kept : Faul
   unfolding section_rest_at
   rest_of_kernel s = refl
 
+  rest_of_section : (s u : State) → passed_at s ≡ Ok u → section_rest_at false s ≡ Ok (Section.Other, u)
+  unfolding section_rest_at
+  rest_of_section s u e = rw e refl
+
   no_text : (before : List Section) (t : Located) (s : State) → t.word ≡ Punctuation OpenTuple → section_at before t s ≡ pair_at (names_kernel before) section_rest_at t s
   unfolding section_at
   no_text before t s w = rw w refl
@@ -188,12 +198,11 @@ module _ (last : Result Located ConfigFault) (Bad : ℕ → Type 0) (Kept : Faul
       (pair_met last Bad Kept (names_kernel before) section_rest_at (codes "kernel") true (Kernel params) seen after (λ n w ok. kernel_said before n keep.once w ok) kernel_at (λ value. IsListOf (IsParam (loose Kept)) value params) rest_of_kernel (λ vs us' value f. kernel_met before vs us' seen params value f keep) t ts us is fine)
 
   other_pair_met : (before : List Section) (t : Located) (ts us : List Located) (seen : Seen) (name : List ℕ) → name ≢ codes "kernel" → IsPair name IsTerm (words_of (t ∷ ts)) → Fine Bad (t ∷ ts) → Met last Bad Kept Section.Other us seen (section_at before t (at last (ts ++ us) seen))
-  unfolding section_rest_at
   other_pair_met before t ts us seen name other is fine =
       let brace = (cons_is t.word (Punctuation OpenTuple) (words_of ts) (Name name ∷ Punctuation Comma ∷ is.0 ++ Punctuation CloseTuple ∷ []) is.1).0 in
       met_is last Bad Kept Section.Other us seen (section_at before t (at last (ts ++ us) seen)) (pair_at (names_kernel before) section_rest_at t (at last (ts ++ us) seen)) (no_text before t (at last (ts ++ us) seen) brace)
       (rest_met last Bad Kept (names_kernel before) section_rest_at name false Section.Other seen seen (λ n w ok. other_section_said before n name w (no_kernel name other)) (is.0 ++ Punctuation CloseTuple ∷ []) t ts us is.1 fine
-      (λ vs e f. met_is last Bad Kept Section.Other us seen (section_rest_at false (at last (vs ++ us) seen)) (Ok (Section.Other, at last us seen)) (rw (passed_again last is.0 vs us seen is.2 e) refl) refl))
+      (λ vs e f. met_is last Bad Kept Section.Other us seen (section_rest_at false (at last (vs ++ us) seen)) (Ok (Section.Other, at last us seen)) (rest_of_section (at last (vs ++ us) seen) (at last us seen) (passed_again last is.0 vs us seen is.2 e)) refl))
 
   section_met : (before : List Section) (t : Located) (ts us : List Located) (seen : Seen) (x : Section) → IsSection (loose Kept) (words_of (t ∷ ts)) x → Fine Bad (t ∷ ts) → SectionKeeps Kept before seen x → Met last Bad Kept x us (with_section seen x) (section_at before t (at last (ts ++ us) seen))
   section_met before t ts us seen (Kernel params) is fine keep = kernel_section_met before t ts us seen params is fine keep

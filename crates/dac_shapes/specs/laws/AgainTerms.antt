@@ -72,16 +72,22 @@ module _ (last : Result Located ConfigFault) where
         ∙ terms_more m t s.front k.head n.head (n.tail ++ c ∷ f ∷ us) seen (passes t s.front k.head (n.head ∷ (n.tail ++ c ∷ f ∷ us)) seen (omega arith) (subst IsTerm here one) (ap is_text k.is)) k.is
         ∙ terms_again m rest n.head n.tail c f us seen (omega arith) (omega arith) others (sym k.rest ∙ ap words_of n.whole) e
 
-    pub empty_again : (n : ℕ) (ts : List Located) (f : Located) (us : List Located) (seen : Seen) → words_of ts ≡ Punctuation close ∷ [] → terms_in pass close n (at last (ts ++ f ∷ us) seen) ≡ Ok (f, at last us seen)
+    empty_in : (n : ℕ) (c f : Located) (us : List Located) (seen : Seen) → c.word ≡ Punctuation close → terms_in pass close n (at last (c ∷ f ∷ us) seen) ≡ Ok (f, at last us seen)
     unfolding terms_in
+    empty_in n c f us seen e = rw (e, is_close) refl
+
+    filled_in : (n : ℕ) (t : Located) (us : List Located) (seen : Seen) → is_symbol close t.word ≡ false → terms_in pass close n (at last (t ∷ us) seen) ≡ terms_at pass close n t (at last us seen)
+    unfolding terms_in
+    filled_in n t us seen e = rw e refl
+
+    pub empty_again : (n : ℕ) (ts : List Located) (f : Located) (us : List Located) (seen : Seen) → words_of ts ≡ Punctuation close ∷ [] → terms_in pass close n (at last (ts ++ f ∷ us) seen) ≡ Ok (f, at last us seen)
     empty_again n ts f us seen e =
         let c = cut ts (Punctuation close) [] e in
         let apart : ts ≡ c.head ∷ [] = c.whole ∙ ap (λ (l : List Located). c.head ∷ l) (none c.tail c.rest) in
-        ap (λ (l : List Located). terms_in pass close n (at last (l ++ f ∷ us) seen)) apart ∙ rw (c.is, is_close) refl
+        ap (λ (l : List Located). terms_in pass close n (at last (l ++ f ∷ us) seen)) apart ∙ empty_in n c.head f us seen c.is
 
     pub filled_again : (n : ℕ) (inner : List Word) (ts : List Located) (f : Located) (us : List Located) (seen : Seen) → length ts ≤ n → length ts ≤ least → AreTerms inner → (b : Begins inner) → is_symbol close b.head ≡ false → words_of ts ≡ inner ++ Punctuation close ∷ []
         → terms_in pass close n (at last (ts ++ f ∷ us) seen) ≡ Ok (f, at last us seen)
-    unfolding terms_in
     filled_again n inner ts f us seen le few all b open_mark e =
         let c = ended ts inner (Punctuation close) e in
         let t = cut c.front b.head b.tail (c.first ∙ b.whole) in
@@ -89,7 +95,7 @@ module _ (last : Result Located ConfigFault) where
         let long : length t.tail + 2 ≡ length ts = omega (arith, ap length apart, length-append t.tail (c.end ∷ [])) in
         let whole : ts ++ f ∷ us ≡ t.head ∷ (t.tail ++ c.end ∷ f ∷ us) = ap (λ (l : List Located). l ++ f ∷ us) apart ∙ ap (λ (l : List Located). t.head ∷ l) (append_assoc t.tail (c.end ∷ []) (f ∷ us)) in
         ap (λ (l : List Located). terms_in pass close n (at last l seen)) whole
-        ∙ rw (ap (is_symbol close) t.is ∙ open_mark) refl
+        ∙ filled_in n t.head (t.tail ++ c.end ∷ f ∷ us) seen (ap (is_symbol close) t.is ∙ open_mark)
         ∙ terms_again n inner t.head t.tail c.end f us seen (omega arith) (omega arith) all (sym c.first ∙ ap words_of t.whole) c.is
 
   -- ---- terms

@@ -19,7 +19,7 @@ pub use Rattle.dac_tokens.specs.declared.fault.FaultKind.{FaultKind}
 pub use Rattle.dac_tokens.specs.Digits.{value_from}
 pub use Rattle.dac_tokens.specs.TokenGrammar.{AreTokensOf, AreSpelled, Spells, depth_after_word, Begins}
 pub use Rattle.dac_tokens.specs.TokenFaults.{StopAt}
-pub use Rattle.dac_shapes.specs.Shape.{State, fails, is_symbol, token, closed, room, is_text, IsEnough, names_at, milliseconds_of, app_at, permission_at, param_named, first_param, param_at, items_at, closing_of}
+pub use Rattle.dac_shapes.specs.Shape.{State, fails, is_symbol, token, closed, room, is_text, IsEnough, names_at, milliseconds_of, app_at, permission_at, param_named, first_param, param_at, items_at, byte_of, closing_of}
 unfoldable pub use Rattle.dac_shapes.specs.Shape.{symbol_at, more_at, comma_list, list_of, pair_at, terms_at, terms_in, texts_at, term_by, term_at, passed_at, atom_of, short_name_of, node_of, item_at, groups_at, timeout_at, wait_of, app_name_of, app_value_at, flag_of, permission_value_at, param_name_of, param_value_at, param_rest_at, names_kernel, kernel_at, section_rest_at, section_at, end_at, file_at, draft_at}
 pub use Rattle.dac_shapes.specs.Limits.{Seen, AllMay, steps, is_among, is_named, has_param, is_kernel, has_kernel, with_node, NodeKeeps, with_nodes, NodesKeep, ListKeeps, listing, with_list, with_app, AppKeeps, with_permission, PermissionKeeps, with_param, ValueKeeps, ParamKeeps, with_section, SectionKeeps, nothing, Every, with_name, with_groups, number_of, MaySections, GroupsKeep, with_apps, KernelKeeps, Keeps}
 pub use Rattle.dac_shapes.specs.Grammar.{Parted, PartedOrNone, IsListOf, between, AreBrackets, IsTerm, AreTerms, OfList, OfTuple, Atom, Integer, Strings, Empty, Between, One, More, IsNode, IsItem, IsNodeList, IsMs, IsFlag, IsPermission, strict, IsTimeout, IsApp, IsWait, IsParam, IsSection, IsFile, IsTextOf, IsPair, IsAppValue, Parts, IsOtherSection}

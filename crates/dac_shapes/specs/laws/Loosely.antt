@@ -1,6 +1,6 @@
 -- A file is also one of other parts, if each part is also the other.
 use Rattle.std.proofs.Common.{ℕ, List, [], ◌∷◌, inl, inr}
-use Rattle.dac_shapes.specs.laws.Common.{FaultKind, Word, SyncWait, Ms, App, Param, Distributed, Timeout, Section, Kernel, Parted, IsListOf, IsItem, IsNodeList, Parts, strict, IsTimeout, IsApp, IsWait, IsParam, IsSection, IsFile, IsLooseItem, IsLooseNodeList, loose, IsLooseFile}
+use Rattle.dac_shapes.specs.laws.Common.{FaultKind, Word, SyncWait, NoSync, Forever, Ms, App, Param, Distributed, Permissions, Mandatory, Optional, Timeout, Section, Kernel, Parted, IsListOf, IsItem, IsNodeList, Parts, strict, IsTimeout, IsApp, IsWait, IsParam, IsSection, IsFile, IsLooseItem, IsLooseNodeList, loose, IsLooseFile}
 
 module _ {A : Type 0} (Is Is' : List Word → A → Type 0) (to : (ws : List Word) (x : A) → Is ws x → Is' ws x) where
   pub parted_to : (ws : List Word) (xs : List A) → Parted Is ws xs → Parted Is' ws xs
