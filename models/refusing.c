@@ -10,14 +10,13 @@
 //
 // Where it did so, it writes "refused" to standard error.
 //
-//   COUNT=1                   growths that come there are counted. Behind them it writes "grew N kept M held B" to standard error: M
-//                             blocks more are there than before, or fewer, and at most B bytes more were there at once
+//   COUNT=1                   growths that come there are counted. Behind them it writes "grew N kept M" to standard error: M blocks
+//                             more are there than before, or fewer
 //
 // It is written for the GNU C library.
 
 #define _GNU_SOURCE
 #include <errno.h>
-#include <malloc.h>
 #include <stdatomic.h>
 #include <stdio.h>
 #include <stdlib.h>
@@ -38,7 +37,7 @@ static const char *const names[KINDS] = {"GROWTH", "CALLS_GROWTH", "READ", "WRIT
 static atomic_long left[KINDS];
 static atomic_int is_call;
 static int is_counting;
-static atomic_long grew, kept, held, most;
+static atomic_long grew, kept;
 
 __attribute__((constructor)) static void begin(void) {
     for (int kind = 0; kind < KINDS; kind++) {
@@ -56,20 +55,10 @@ static void count(long blocks) {
     }
 }
 
-// A block has its bytes now, where it had so many before.
-static void *hold(void *block, size_t before) {
-    if (atomic_load(&is_call)) {
-        long bytes = (long)malloc_usable_size(block) - (long)before, now = atomic_fetch_add(&held, bytes) + bytes;
-        for (long top = atomic_load(&most); now > top && !atomic_compare_exchange_weak(&most, &top, now);)
-            ;
-    }
-    return block;
-}
-
 // What was counted of a call.
 static void tell_counts(void) {
-    char line[96];
-    int length = snprintf(line, sizeof line, "grew %ld kept %ld held %ld\n", atomic_load(&grew), atomic_load(&kept), atomic_load(&most));
+    char line[64];
+    int length = snprintf(line, sizeof line, "grew %ld kept %ld\n", atomic_load(&grew), atomic_load(&kept));
     syscall(SYS_write, STDERR_FILENO, line, (size_t)length);
 }
 
@@ -89,22 +78,17 @@ static int is_growth_refused(long blocks) {
     return 1;
 }
 
-void *malloc(size_t size) { return is_growth_refused(1) ? NULL : hold(__libc_malloc(size), 0); }
+void *malloc(size_t size) { return is_growth_refused(1) ? NULL : __libc_malloc(size); }
 
-void *calloc(size_t items, size_t size) { return is_growth_refused(1) ? NULL : hold(__libc_calloc(items, size), 0); }
+void *calloc(size_t items, size_t size) { return is_growth_refused(1) ? NULL : __libc_calloc(items, size); }
 
-void *realloc(void *old, size_t size) {
-    size_t before = malloc_usable_size(old);
-    return is_growth_refused(!old) ? NULL : hold(__libc_realloc(old, size), before);
-}
+void *realloc(void *old, size_t size) { return is_growth_refused(!old) ? NULL : __libc_realloc(old, size); }
 
-void *memalign(size_t align, size_t size) { return is_growth_refused(1) ? NULL : hold(__libc_memalign(align, size), 0); }
+void *memalign(size_t align, size_t size) { return is_growth_refused(1) ? NULL : __libc_memalign(align, size); }
 
 void free(void *block) {
-    if (block && atomic_load(&is_call)) {
+    if (block && atomic_load(&is_call))
         atomic_fetch_sub(&kept, 1);
-        atomic_fetch_sub(&held, (long)malloc_usable_size(block));
-    }
     __libc_free(block);
 }
 

@@ -1,4 +1,3 @@
-pub mod Callers
 pub mod Causes
 pub mod Rooms
 pub use Rattle.dac_workers.specs.Compared

@@ -7,7 +7,7 @@
 
 pub use dac_workers::compare::{SHIPS_OF_PHASE, are_heard, are_ships, event_of, sent_by};
 pub use dac_workers::{Answer, CloseFault, Closed, Gate, Page, Record, RunFault};
-pub use phases::{Ask, CallerEvent, Line, Outcome, Phase, Seen};
+pub use phases::{Ask, Line, Outcome, Phase, Seen};
 pub use setup::{CALLERS, ROOM};
 pub use sites::{MAX_SITES, run_sites};
 

@@ -64,7 +64,10 @@ impl<L: SiteName> Caller<'_, L> {
 
     fn do_line<R: Wait>(&mut self, rt: &R, what: &Ask) -> Result<(), RunFault> {
         match what {
-            Ask::Do(event) => self.ask(rt, event.event()),
+            Ask::Do(event) => {
+                let event = event.copy()?;
+                self.ask(rt, event)
+            }
             Ask::Read => self.read(),
         }
     }

@@ -1,5 +1,4 @@
 mod Common
 mod Followed
-mod Joined
 mod Passed
 mod Repeated

@@ -7,7 +7,6 @@ pub use Rattle.dac_sites.specs.Sites
 pub use Rattle.dac_crews.specs.RunFault
 pub use Rattle.dac_crews.specs.RunFaults
 pub use Rattle.dac_crews.specs.declared.phases.Ask
-pub use Rattle.dac_crews.specs.declared.phases.CallerEvent
 pub use Rattle.dac_crews.specs.declared.phases.Line
 pub use Rattle.dac_crews.specs.declared.phases.Phase
 pub use Rattle.dac_phases.specs.Asks

@@ -1,6 +1,6 @@
 //! Compares the results in a caller's records with those of its lines.
 
-ghost use Rattle.std.specs.Prelude.{◌≡◌, ◌≤◌, ◌↔◌, map, length, IfOk, IsTrue, MatchOption};
+ghost use Rattle.std.specs.Prelude.{◌≡◌, ◌≤◌, ◌++◌, ◌∷◌, ◌↔◌, [], map, length, IfOk, OnOk, IsTrue, MatchOption};
 ghost use Rattle.std.specs.Option.{option_copied};
 ghost use Rattle.dac_base.specs.declared.limits.TheConstants.{MAX_NODES};
 ghost use Rattle.dac_crews.specs.Compared.{found};
@@ -16,7 +16,7 @@ use dac_phases::{are_asked, asked_by};
 use std::alloc::Global;
 
 /// The result in this record, if it is a record of this seat.
-pub(crate) fn answer_of(one: &Record, seat: u16) -> Option<&Answer>
+fn answer_of(one: &Record, seat: u16) -> Option<&Answer>
     ensures { option_copied result ≡ answer_one seat one.now }
 {
     if one.seat == seat {
@@ -26,8 +26,7 @@ pub(crate) fn answer_of(one: &Record, seat: u16) -> Option<&Answer>
     }
 }
 
-/// An equal result.
-pub(crate) fn copy_answer(answer: &Answer) -> Result<Answer, NoMemory>
+fn copy_answer(answer: &Answer) -> Result<Answer, NoMemory>
     ensures { IfOk result (λ copy. copy ≡ answer.now) }
 {
     match answer {
@@ -37,6 +36,29 @@ pub(crate) fn copy_answer(answer: &Answer) -> Result<Answer, NoMemory>
         }
         Err(why) => Ok(Err(*why)),
     }
+}
+
+fn put_answer(all: &mut Vec<Answer>, answer: &Answer) -> Result<(), NoMemory>
+    ensures { OnOk result (all.new.items ≡ all.old.items ++ answer.now ∷ []) }
+{
+    let copy = copy_answer(answer)?;
+    all.push(copy)?;
+    Ok(())
+}
+
+/// The results in this seat's records, in order.
+pub fn answers_of(alloc: Global, records: &[Record], seat: u16) -> Result<Vec<Answer>, NoMemory>
+    ensures { IfOk result (λ all. all.items ≡ found (answer_one seat) records.now) }
+{
+    let mut all = Vec::new(alloc);
+    for i in 0..records.len() {
+        let one = &records[i];
+        match answer_of(one, seat) {
+            Some(answer) => put_answer(&mut all, answer)?,
+            None => {}
+        }
+    }
+    Ok(all)
 }
 
 /// Returns whether this seat's records have these results, in order, and no others.

@@ -3,37 +3,21 @@
 ghost use Rattle.std.specs.Prelude.{◌≡◌, IfOk, reverse};
 ghost use Rattle.dac_live.specs.Lines.{seen_as, Handed, HandedReading};
 
-use crate::callers::{answer_of, copy_answer};
+use crate::callers::answers_of;
 use crate::lists::{AnswerList, BoxedPage, ReadList};
 use crate::report::LineAnswer;
 use dac_base::{NoMemory, NodeId};
-use dac_crews::{Answer, Ask, CloseFault, Closed, Line, Page, Phase, Record, RunFault, Seen};
+use dac_crews::{Answer, Ask, CloseFault, Closed, Line, Page, Phase, RunFault, Seen};
 use dac_workers::Reading;
 use std::alloc::Global;
 
-/// The results and reads of a caller that aren't assigned yet. The results are copied from the node's records one by
-/// one, so that those of all lines exist only once beside the journals.
+/// The results and reads of a caller that aren't assigned yet, the next one last.
 #[derive(Drop)]
-struct Rest<'a> {
+struct Rest {
     node: NodeId,
     caller: u16,
-    /// The records of the node.
-    records: &'a [Record],
-    /// The index after the caller's last record whose result is assigned.
-    done: usize,
-    /// The reads, the next one last.
+    answers: Vec<Answer>,
     reads: Vec<Reading>,
-}
-
-/// The result in this seat's first record from an index on, and the index after it.
-fn result_from(records: &[Record], seat: u16, from: usize) -> Option<(&Answer, usize)> {
-    for i in from..records.len() {
-        match answer_of(&records[i], seat) {
-            Some(answer) => return Some((answer, i + 1)),
-            None => {}
-        }
-    }
-    None
 }
 
 /// The result of a line that reads, and its page.
@@ -56,29 +40,24 @@ fn next_reading(reads: &mut Vec<Reading>) -> Option<(LineAnswer, Option<Page>)>
     }
 }
 
-impl Rest<'_> {
+impl Rest {
     /// The result of the caller's next line with this request, and the page of one that reads. `None` if the caller has
     /// no more results or reads.
-    fn next(&mut self, what: Ask) -> Result<Option<(LineAnswer, Option<Page>)>, NoMemory>
-        ensures { IfOk result
-            (λ told. Handed what self.old.reads.items self.new.reads.items told) }
+    fn next(&mut self, what: &Ask) -> Option<(LineAnswer, Option<Page>)>
+        ensures { Handed what.now self.old.reads.items self.new.reads.items result }
     {
         match what {
-            Ask::Do(_) => match result_from(self.records, self.caller, self.done) {
-                Some((answer, done)) => {
-                    self.done = done;
-                    let answer = copy_answer(answer)?;
-                    Ok(Some((LineAnswer::Done(answer), None)))
-                }
-                None => Ok(None),
+            Ask::Do(_) => match self.answers.pop() {
+                Some(answer) => Some((LineAnswer::Done(answer), None)),
+                None => None,
             },
-            Ask::Read => Ok(next_reading(&mut self.reads)),
+            Ask::Read => next_reading(&mut self.reads),
         }
     }
 }
 
 /// The results and reads to assign to a caller's lines.
-fn rest_of(closed: &[Closed], seen: Seen) -> Result<Rest<'_>, RunFault>
+fn rest_of(alloc: Global, closed: &[Closed], seen: Seen) -> Result<Rest, RunFault>
     ensures { IfOk result (λ rest. rest.reads.items ≡ reverse seen.reads.items) }
 {
     let Seen {
@@ -89,38 +68,36 @@ fn rest_of(closed: &[Closed], seen: Seen) -> Result<Rest<'_>, RunFault>
     let Some(one) = closed.get(usize::from(node.0)) else {
         return Err(RunFault::NoPage { node });
     };
+    let mut answers = answers_of(alloc, one.records(), caller)?;
+    answers.reverse();
     reads.reverse();
     Ok(Rest {
         node,
         caller,
-        records: one.records(),
-        done: 0,
+        answers,
         reads,
     })
 }
 
 /// The results and reads to assign to all callers' lines.
-fn rests_of(alloc: Global, closed: &[Closed], all: Vec<Seen>) -> Result<Vec<Rest<'_>>, RunFault> {
+fn rests_of(alloc: Global, closed: &[Closed], all: Vec<Seen>) -> Result<Vec<Rest>, RunFault> {
     let mut rests = Vec::new(alloc);
     for seen in all {
-        let rest = rest_of(closed, seen)?;
+        let rest = rest_of(alloc, closed, seen)?;
         rests.push(rest)?;
     }
     Ok(rests)
 }
 
 /// The result of the next line of its caller, and its page, or `None` if there is none.
-fn next_of(
-    rests: &mut [Rest<'_>],
-    line: &Line,
-) -> Result<Option<(LineAnswer, Option<Page>)>, NoMemory> {
+fn next_of(rests: &mut [Rest], line: &Line) -> Option<(LineAnswer, Option<Page>)> {
     for i in 0..rests.len() {
         let rest = &mut rests[i];
         if rest.node == line.node && rest.caller == u16::from(line.caller) {
-            return rest.next(line.what);
+            return rest.next(&line.what);
         }
     }
-    Ok(None)
+    None
 }
 
 /// The page in a box of its own, if there is one.
@@ -139,14 +116,14 @@ fn boxed(alloc: Global, read: Option<Page>) -> Result<Option<BoxedPage>, NoMemor
 /// The result of each line of a phase, and its page.
 fn told_in(
     alloc: Global,
-    rests: &mut [Rest<'_>],
+    rests: &mut [Rest],
     lines: &[Line],
 ) -> Result<(AnswerList, ReadList), RunFault> {
     let mut answers = Vec::new(alloc);
     let mut reads = Vec::new(alloc);
     for i in 0..lines.len() {
         let line = &lines[i];
-        let Some((answer, read)) = next_of(rests, line)? else {
+        let Some((answer, read)) = next_of(rests, line) else {
             return Err(mismatch(line.node));
         };
         answers.push(answer)?;

@@ -7,8 +7,8 @@
 //! no other. Lists with an item for each node are in order of name.
 #![tactic(auto)]
 
-pub use callers::{are_told, mismatched_node};
-pub use dac_crews::{Ask, CALLERS, CallerEvent, Closed, Gate, Line, Page, Phase, RunFault};
+pub use callers::{answers_of, are_told, mismatched_node};
+pub use dac_crews::{Ask, CALLERS, Closed, Gate, Line, Page, Phase, RunFault};
 pub use dac_phases::{
     are_asked, asked_by, is_of, lost_link, node_out_of_phase, seats_are_in_order,
 };

@@ -25,20 +25,25 @@ use std::alloc::Global;
 use std::sync::Wait;
 use std::thread::Threads;
 
-/// Fails if the journals don't consist of the phases: with `LinkLost` if those at the ends of a link don't match over
-/// the whole run, and otherwise with a fault that names no record, because one can be missing.
+/// Fails if the journals at the ends of a link don't match.
+fn check_links(alloc: Global, phases: usize, closed: &[Closed]) -> Result<(), RunFault>
+    requires { length closed.now ≤ MAX_NODES }
+    ensures { OnOk result (LinksHold phases closed.now) }
+{
+    match lost_link(alloc, phases, closed)? {
+        None => Ok(()),
+        Some((from, to)) => Err(RunFault::LinkLost { from, to }),
+    }
+}
+
+/// Fails if the journals don't consist of the phases. The fault names no record, because one can be missing.
 fn check_phases(alloc: Global, phases: &[Phase], closed: &[Closed]) -> Result<(), RunFault>
     requires { length closed.now ≤ MAX_NODES }
-    ensures phases { OnOk result (FallIntoPhases phases.now closed.now) }
-    // The links match over the run, because they match in each phase.
-    ensures links { OnOk result (LinksHold (length phases.now) closed.now) }
+    ensures { OnOk result (FallIntoPhases phases.now closed.now) }
 {
-    let Some(node) = node_out_of_phase(alloc, phases, closed)? else {
-        return Ok(());
-    };
-    match lost_link(alloc, phases.len(), closed)? {
-        Some((from, to)) => Err(RunFault::LinkLost { from, to }),
-        None => Err(mismatch(node)),
+    match node_out_of_phase(alloc, phases, closed)? {
+        None => Ok(()),
+        Some(node) => Err(mismatch(node)),
     }
 }
 
@@ -135,6 +140,7 @@ fn report_of(
     check_noted(phases, read)?;
     let pages = last_pages(alloc, config, phases, read, journals, pages.as_slice())?;
     check_seats(journals)?;
+    check_links(alloc, phases.len(), journals)?;
     check_phases(alloc, phases, journals)?;
     check_callers(alloc, phases, told, journals)?;
     check_reads(alloc, config, phases, told, read, journals)?;

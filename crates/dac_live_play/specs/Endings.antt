@@ -1,5 +1,5 @@
 -- The endings of `distac live`, and the lines of its faults.
-use Rattle.std.specs.Prelude.{◌≡◌, ℕ, List, [], ◌++◌, Option, Some, None, IfSome, codes}
+use Rattle.std.specs.Prelude.{◌≡◌, ℕ, List, [], ◌++◌, Option, IfSome, codes}
 use Rattle.std.specs.Fmt.{decimal}
 use Rattle.std.specs.Io.KnownBytes.{Appends}
 use Rattle.dac_base.specs.declared.NodeId.{NodeId}
@@ -56,28 +56,24 @@ abbrev pub closing_text : Table → NodeId → CloseFault → List ℕ
 closing_text table node closing.SeatMissing = cause_text table (codes "SeatMissing") node
 closing_text table node (closing.Mismatch place) = mismatch_text table node place
 
--- the details of a fault of the run, if it has any: its cause, and the node or the link
-abbrev pub where_text : Table → RunFault → Option (List ℕ)
-where_text table run.TooManyNodes = None
-where_text table run.NoThread = None
+-- The standard error after a fault of the run: its cause, and the node or the link. Faults without details print
+-- nothing.
+abbrev pub where_text : Table → RunFault → List ℕ
+where_text table run.TooManyNodes = []
+where_text table run.NoThread = []
 where_text table (run.LinkLost from to) =
-    Some (codes "LinkLost from " ++ (node_text table from ++ (codes " to " ++ node_text table to)))
-where_text table (run.Open why) = Some (opening_name why)
-where_text table (run.Site node why) = Some (cause_text table (call_name why) node)
-where_text table (run.Close node why) = Some (closing_text table node why)
-where_text table (run.NoPage node) = Some (cause_text table (codes "NoPage") node)
-where_text table run.NoMemory = None
+    codes "LinkLost from " ++ (node_text table from ++ (codes " to " ++ node_text table to))
+where_text table (run.Open why) = opening_name why
+where_text table (run.Site node why) = cause_text table (call_name why) node
+where_text table (run.Close node why) = closing_text table node why
+where_text table (run.NoPage node) = cause_text table (codes "NoPage") node
+where_text table run.NoMemory = []
 
--- the line of details on standard error, if there are any
-abbrev pub details_line : Option (List ℕ) → List ℕ
-details_line None = []
-details_line (Some details) = codes "distac: " ++ (details ++ codes "\n")
-
--- what a fault prints on standard error
+-- the standard error after a fault: the details of a fault of the run, or how many phases of a run fit into an input
 abbrev pub details_text : Table → PlayFault → List ℕ
-details_text table (fault.Run why) = details_line (where_text table why)
+details_text table (fault.Run why) = where_text table why
 details_text table (fault.Unwoven node place) = []
-details_text table fault.TooLong = []
+details_text table (fault.TooLong phases) = codes "the first " ++ (decimal phases ++ codes " phases fit")
 details_text table fault.Unspelled = []
 details_text table fault.NoMemory = []
 
@@ -85,7 +81,7 @@ details_text table fault.NoMemory = []
 abbrev pub fault_text : Table → PlayFault → List ℕ
 fault_text table (fault.Run why) = run_fault_text why
 fault_text table (fault.Unwoven node place) = weave_fault_text table node place
-fault_text table fault.TooLong = codes "record fault 1 TooLong\n"
+fault_text table (fault.TooLong phases) = codes "record fault 1 TooLong\n"
 fault_text table fault.Unspelled = codes "record fault 2 Unspelled\n"
 fault_text table fault.NoMemory = codes "out of memory\n"
 
@@ -103,13 +99,12 @@ IsRefusal failure (ending.Refused why) old new = (why ≡ failure) × Appends ol
 IsRefusal failure (ending.Faulted why) old new = ⊥
 IsRefusal failure ending.Stopped old new = Unit {0}
 
--- the line of this fault was printed, and its details on standard error, unless an allocation or a write failed
-abbrev pub IsGivenUp : Table → PlayFault → LiveEnding → Option (List ℕ) → Option (List ℕ) → Option (List ℕ) → Option (List ℕ) → Type 0
-IsGivenUp table found ending.Done old new said told = ⊥
-IsGivenUp table found (ending.Refused why) old new said told = ⊥
-IsGivenUp table found (ending.Faulted why) old new said told =
-    (why ≡ found) × Appends old new (fault_text table found) × Appends said told (details_text table found)
-IsGivenUp table found ending.Stopped old new said told = Unit {0}
+-- the line of this fault was printed, unless an allocation or a write failed
+abbrev pub IsGivenUp : Table → PlayFault → LiveEnding → Option (List ℕ) → Option (List ℕ) → Type 0
+IsGivenUp table found ending.Done old new = ⊥
+IsGivenUp table found (ending.Refused why) old new = ⊥
+IsGivenUp table found (ending.Faulted why) old new = (why ≡ found) × Appends old new (fault_text table found)
+IsGivenUp table found ending.Stopped old new = Unit {0}
 
 -- The source after each ending: as the failure determines after `Refused`, and read to its end after `Done` and
 -- `Faulted`.

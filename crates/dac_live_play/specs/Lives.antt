@@ -2,7 +2,7 @@
 use Rattle.std.specs.Prelude.{◌≡◌, ℕ, List, Option}
 use Rattle.std.specs.Io.KnownBytes.{Appends}
 use Rattle.dac_config.specs.Table.{Table}
-use Rattle.dac_events.specs.declared.WorldEvent.{WorldEvent}
+use Rattle.dac_weave.specs.declared.weaving.Woven.{Woven}
 use Rattle.dac_script.specs.declared.live_line.LiveLine.{LiveLine}
 use Rattle.dac_script.specs.LiveInputs.{SaysLiveScript, IsLiveFailureOf}
 use Rattle.dac_play.specs.Texts.{failure_text}
@@ -10,7 +10,7 @@ use Rattle.dac_live.specs.declared.report.LiveReport.{LiveReport}
 use Rattle.dac_live_play.specs.declared.fault.PlayFault.{PlayFault}
 use Rattle.dac_live_play.specs.declared.ending.LiveEnding.{LiveEnding}
 use Rattle.dac_live_play.specs.declared.ending.LiveEnding.TheVariants as ending
-use Rattle.dac_live_play.specs.Endings.{fault_text, details_text}
+use Rattle.dac_live_play.specs.Endings.{fault_text}
 use Rattle.dac_live_play.specs.Runs.{IsReportOf, IsWoven, IsFaultOf}
 use Rattle.dac_live_play.specs.Texts.{live_text}
 
@@ -18,16 +18,16 @@ use Rattle.dac_live_play.specs.Texts.{live_text}
 pub record IsPlayed (table : Table) (script : List LiveLine) (text : List ℕ) : Type 0 where
   pub report : LiveReport
   pub reported : IsReportOf table script report
-  pub woven : IsWoven table report
+  pub run : Woven
+  pub woven : IsWoven table reported.phases report run
   pub text_is : text ≡ live_text table script report
 
--- text is the output of a run of the script, and its journals are woven into these events, so the guarantees of every
--- run hold.
-pub record IsRunOf (table : Table) (script : List LiveLine) (text : List ℕ) (events : List WorldEvent) : Type 0 where
+-- text is the output of a run of the script, and its journals are woven into this run, so the guarantees of every run
+-- hold.
+pub record IsRunOf (table : Table) (script : List LiveLine) (text : List ℕ) (run : Woven) : Type 0 where
   pub report : LiveReport
   pub reported : IsReportOf table script report
-  pub woven : IsWoven table report
-  pub events_are : events ≡ woven.events
+  pub woven : IsWoven table reported.phases report run
   pub text_is : text ≡ live_text table script report
 
 -- the output of a run of the input's script was printed
@@ -39,20 +39,18 @@ pub record IsLived (bytes : List ℕ) (old new : Option (List ℕ)) : Type 0 whe
   pub played : IsPlayed table script text
   pub printed : Appends old new text
 
--- the input's script didn't run to its end, and only this fault's line was printed, and its details on standard error
-pub record IsFaulted (bytes : List ℕ) (why : PlayFault) (old new said told : Option (List ℕ)) : Type 0 where
+-- the input's script didn't run to its end, and only this fault's line was printed
+pub record IsFaulted (bytes : List ℕ) (why : PlayFault) (old new : Option (List ℕ)) : Type 0 where
   pub table : Table
   pub script : List LiveLine
   pub says : SaysLiveScript bytes table script
   pub fault_is : IsFaultOf table script why
   pub printed : Appends old new (fault_text table why)
-  pub detailed : Appends said told (details_text table why)
 
--- How `distac live` ends on an input with these bytes: `old` and `new` are the output before and after, `said` and
--- `told` the standard error. After `Stopped`, by a failed allocation or write, nothing is guaranteed.
-abbrev pub EndsLive : List ℕ → LiveEnding → Option (List ℕ) → Option (List ℕ) → Option (List ℕ) → Option (List ℕ) → Type 0
-EndsLive bytes ending.Done old new said told = IsLived bytes old new × (told ≡ said)
-EndsLive bytes (ending.Refused why) old new said told =
-    IsLiveFailureOf bytes why × Appends old new (failure_text why) × (told ≡ said)
-EndsLive bytes (ending.Faulted why) old new said told = IsFaulted bytes why old new said told
-EndsLive bytes ending.Stopped old new said told = Unit {0}
+-- How `distac live` ends on an input with these bytes. After `Stopped`, by a failed allocation or write, nothing is
+-- guaranteed.
+abbrev pub EndsLive : List ℕ → LiveEnding → Option (List ℕ) → Option (List ℕ) → Type 0
+EndsLive bytes ending.Done old new = IsLived bytes old new
+EndsLive bytes (ending.Refused why) old new = IsLiveFailureOf bytes why × Appends old new (failure_text why)
+EndsLive bytes (ending.Faulted why) old new = IsFaulted bytes why old new
+EndsLive bytes ending.Stopped old new = Unit {0}

@@ -5,9 +5,9 @@ use Rattle.dac_script.specs.declared.line.Request.{Request}
 use Rattle.dac_script.specs.declared.line.Request.TheVariants as request
 use Rattle.dac_script.specs.declared.live_line.LiveLine.{LiveLine}
 use Rattle.dac_script.specs.declared.live_line.LiveLine.TheVariants as says
+use Rattle.dac_messages.specs.declared.event.Event.{Event}
+use Rattle.dac_messages.specs.declared.event.Event.TheVariants as event
 use Rattle.dac_live.specs.Ask.TheVariants as ask
-use Rattle.dac_live.specs.CallerEvent.{CallerEvent}
-use Rattle.dac_live.specs.CallerEvent.TheVariants as event
 use Rattle.dac_live.specs.Line.{Line}
 use Rattle.dac_live.specs.Phase.{Phase}
 
@@ -22,8 +22,8 @@ ends_phase says.Phase = true
 abbrev pub parts_of : List LiveLine → List (List LiveLine)
 parts_of script = slice_split ends_phase script
 
--- the request as an event that its caller asks for
-abbrev pub event_of : Request → CallerEvent
+-- the request as an event of its node
+abbrev pub event_of : Request → Event
 event_of (request.Boot now) = event.Boot now
 event_of request.Crash = event.Crash
 event_of (request.Command command) = event.Command command

@@ -1,7 +1,6 @@
 //! The endings of `distac live` and `distac record`, and the lines of their faults.
 
-ghost use Rattle.std.specs.Prelude.{◌≡◌, ◌++◌, true, option_map, IfOk, OnOk};
-ghost use Rattle.std.specs.Io.KnownBytes.{Appends};
+ghost use Rattle.std.specs.Prelude.{◌≡◌, ◌++◌, IfOk, OnOk};
 ghost use Rattle.dac_live_play.specs.Endings.{status_of, run_fault_text, weave_fault_text, fault_text, cause_text, opening_name, call_name, mismatch_text, closing_text, where_text, details_text, IsRefusal, IsGivenUp};
 
 use crate::fault::PlayFault;
@@ -12,7 +11,7 @@ use dac_play::{Ending, OUT_OF_MEMORY, print, refuse};
 use dac_script::Failure;
 use dac_status::put_node;
 use std::alloc::Global;
-use std::io::Write;
+use std::io::{Eprint, Write};
 
 /// How `distac live` or `distac record` ended.
 #[derive(Clone, Copy, Debug, PartialEq, Eq)]
@@ -21,9 +20,9 @@ pub enum LiveEnding {
     Done,
     /// The input failed, so nothing was run, and only the failure's line was printed.
     Refused(Failure),
-    /// The script didn't run to its end, and only the fault's line was printed, and its details on the standard error.
+    /// The script didn't run to its end, and only the fault's line was printed.
     Faulted(PlayFault),
-    /// An allocation or a write failed, so the output and the standard error can be anything.
+    /// An allocation or a write failed, so the output can be anything.
     Stopped,
 }
 
@@ -135,14 +134,13 @@ fn put_closing(
     }
 }
 
-/// The details of a run's fault, if it has any: its cause, and the node or the link.
-pub fn where_of(alloc: Global, config: &Config, why: RunFault) -> Result<Option<Vec<u8>>, NoMemory>
-    ensures { IfOk result
-        (λ details. option_map (λ text. text.items) details ≡ where_text config.now why) }
+/// The details of a run's fault: its cause, and the node or the link. Empty for a fault without details.
+pub fn where_of(alloc: Global, config: &Config, why: RunFault) -> Result<Vec<u8>, NoMemory>
+    ensures { IfOk result (λ text. text.items ≡ where_text config.now why) }
 {
     let mut text = Vec::new(alloc);
     match why {
-        RunFault::TooManyNodes | RunFault::NoThread | RunFault::NoMemory => return Ok(None),
+        RunFault::TooManyNodes | RunFault::NoThread | RunFault::NoMemory => {}
         RunFault::LinkLost { from, to } => {
             text.extend_from_slice(b"LinkLost from ")?;
             put_node(alloc, &mut text, config, from)?;
@@ -156,33 +154,36 @@ pub fn where_of(alloc: Global, config: &Config, why: RunFault) -> Result<Option<
         RunFault::Close { node, why } => put_closing(alloc, &mut text, config, node, why)?,
         RunFault::NoPage { node } => put_cause(alloc, &mut text, config, b"NoPage", node)?,
     }
-    Ok(Some(text))
+    Ok(text)
 }
 
-/// The line of a fault on the standard error: its details. Empty for a fault without details.
-fn details_line(alloc: Global, config: &Config, fault: PlayFault) -> Result<Vec<u8>, NoMemory>
-    ensures { IfOk result (λ line. line.items ≡ details_text config.now fault) }
+/// The details of a fault: of a fault of the run its cause, and of a recorded run that is too long how many of its phases
+/// fit. Empty for a fault without details.
+pub fn details_of(alloc: Global, config: &Config, fault: PlayFault) -> Result<Vec<u8>, NoMemory>
+    ensures { IfOk result (λ text. text.items ≡ details_text config.now fault) }
 {
-    let PlayFault::Run(why) = fault else {
-        return Ok(Vec::new(alloc));
-    };
-    let Some(details) = where_of(alloc, config, why)? else {
-        return Ok(Vec::new(alloc));
-    };
-    let mut line = Vec::from_slice(alloc, b"distac: ")?;
-    line.extend_from_slice(&details)?;
-    line.extend_from_slice(b"\n")?;
-    Ok(line)
+    match fault {
+        PlayFault::Run(why) => where_of(alloc, config, why),
+        PlayFault::TooLong { phases } => {
+            let text = format!(in alloc; "the first {phases} phases fit")?;
+            Ok(text.into_bytes())
+        }
+        PlayFault::Unwoven { node: _, place: _ } | PlayFault::Unspelled | PlayFault::NoMemory => {
+            Ok(Vec::new(alloc))
+        }
+    }
 }
 
-/// Prints the details of a fault to the standard error. Returns whether an allocation or the write didn't fail.
-fn say_where<E: Write>(alloc: Global, config: &Config, fault: PlayFault, errors: &mut E) -> bool
-    ensures { result ≡ true → Appends (E.contents errors.old) (E.contents errors.new)
-        (details_text config.now fault) }
-{
-    match details_line(alloc, config, fault) {
-        Ok(line) => print(&line, errors),
-        Err(NoMemory) => false,
+/// Prints the details of a fault to the standard error. Prints nothing if they can't be allocated or aren't UTF-8,
+/// because the fault's line is already printed.
+fn say_details<T: Eprint>(rt: &T, alloc: Global, config: &Config, fault: PlayFault) {
+    let Ok(line) = details_of(alloc, config, fault) else {
+        return;
+    };
+    if let Ok(text) = str::from_utf8(&line) {
+        if !text.is_empty() {
+            let _said = eprintln!(rt; "distac: {text}");
+        }
     }
 }
 
@@ -193,7 +194,7 @@ fn fault_line(alloc: Global, config: &Config, fault: PlayFault) -> Result<Vec<u8
     match fault {
         PlayFault::Run(why) => run_fault_line(alloc, why),
         PlayFault::Unwoven { node, place } => weave_fault_line(alloc, config, node, place),
-        PlayFault::TooLong => {
+        PlayFault::TooLong { phases: _ } => {
             let line = Vec::from_slice(alloc, b"record fault 1 TooLong\n")?;
             Ok(line)
         }
@@ -219,15 +220,14 @@ pub(crate) fn refuse_live<W: Write>(alloc: Global, failure: Failure, output: &mu
 }
 
 /// Prints the line of a fault, and its details to the standard error.
-pub(crate) fn given_up<W: Write, E: Write>(
+pub(crate) fn given_up<T: Eprint, W: Write>(
+    rt: &T,
     alloc: Global,
     config: &Config,
     fault: PlayFault,
     output: &mut W,
-    errors: &mut E,
 ) -> LiveEnding
-    ensures { IsGivenUp config.now fault result (W.contents output.old) (W.contents output.new)
-        (E.contents errors.old) (E.contents errors.new) }
+    ensures { IsGivenUp config.now fault result (W.contents output.old) (W.contents output.new) }
 {
     let Ok(line) = fault_line(alloc, config, fault) else {
         let _printed = print(OUT_OF_MEMORY.as_bytes(), output);
@@ -236,8 +236,6 @@ pub(crate) fn given_up<W: Write, E: Write>(
     if !print(&line, output) {
         return LiveEnding::Stopped;
     }
-    if !say_where(alloc, config, fault, errors) {
-        return LiveEnding::Stopped;
-    }
+    say_details(rt, alloc, config, fault);
     LiveEnding::Faulted(fault)
 }

@@ -23,7 +23,7 @@ mod running;
 mod saying;
 mod texts;
 
-pub use ending::{LiveEnding, where_of};
+pub use ending::{LiveEnding, details_of, where_of};
 pub use fault::PlayFault;
 pub use phases::{parts_of, phases_of};
 pub use playing::{play_live, record_live};

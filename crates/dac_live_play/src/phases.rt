@@ -4,7 +4,8 @@ ghost use Rattle.std.specs.Prelude.{◌≡◌, IfOk, map};
 ghost use Rattle.dac_live_play.specs.Phases.{ends_phase, parts_of, event_of, asked_by, lines_in, AsksAs};
 
 use dac_base::NoMemory;
-use dac_live::{Ask, CallerEvent, Line, Phase};
+use dac_live::{Ask, Line, Phase};
+use dac_messages::Event;
 use dac_script::{LiveLine, Request};
 use std::alloc::Global;
 
@@ -26,15 +27,15 @@ pub fn parts_of(alloc: Global, script: &[LiveLine]) -> Result<Vec<&[LiveLine]>, 
     Ok(parts)
 }
 
-/// The request as an event that its caller asks for.
-fn event_of(request: Request) -> CallerEvent
+/// The request as an event of its node.
+fn event_of(request: Request) -> Event
     ensures { result ≡ event_of request }
 {
     match request {
-        Request::Boot { now } => CallerEvent::Boot { now },
-        Request::Crash => CallerEvent::Crash,
-        Request::Command(command) => CallerEvent::Command(command),
-        Request::Tick { now } => CallerEvent::Tick { now },
+        Request::Boot { now } => Event::Boot { now },
+        Request::Crash => Event::Crash,
+        Request::Command(command) => Event::Command(command),
+        Request::Tick { now } => Event::Tick { now },
     }
 }
 

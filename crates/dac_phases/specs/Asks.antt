@@ -2,7 +2,6 @@
 use Rattle.std.specs.Prelude.{ℕ, ◌==◌, ◌&&◌, Bool, List, Option, Some, None, flat_map, if◌then◌else◌}
 use Rattle.dac_messages.specs.declared.event.Event.{Event}
 use Rattle.dac_crews.specs.Compared.{found}
-use Rattle.dac_crews.specs.Callers.{event_of}
 use Rattle.dac_crews.specs.declared.phases.Ask.{Ask}
 use Rattle.dac_crews.specs.declared.phases.Ask.TheVariants.{Do, Read}
 use Rattle.dac_crews.specs.declared.phases.Line.{Line}
@@ -13,7 +12,7 @@ abbrev pub is_of : ℕ → ℕ → Line → Bool
 is_of node caller line = (line.node.0 == node) && (line.caller == caller)
 
 abbrev pub event_in : Ask → Option Event
-event_in (Do event) = Some (event_of event)
+event_in (Do event) = Some event
 event_in Read = None
 
 -- the event of the line, if it is this caller's and calls the node

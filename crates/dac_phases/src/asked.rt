@@ -1,12 +1,13 @@
 //! The events that callers' lines ask for.
 
-ghost use Rattle.std.specs.Prelude.{◌≡◌, ◌↔◌, ◌++◌, map, option_map, IfOk, IsTrue};
-ghost use Rattle.dac_crews.specs.Callers.{event_of};
+ghost use Rattle.std.specs.Prelude.{◌≡◌, ◌↔◌, ◌++◌, map, IfOk, IsTrue};
+ghost use Rattle.std.specs.Option.{option_copied};
 ghost use Rattle.dac_crews.specs.Compared.{found, event_one};
 ghost use Rattle.dac_phases.specs.Asks.{is_of, ask_one, asks_of};
 
 use dac_base::{NoMemory, NodeId};
-use dac_crews::{Ask, CallerEvent, Line, Phase, Record, event_of};
+use dac_crews::{Ask, Line, Phase, Record, event_of};
+use dac_messages::Event;
 use std::alloc::Global;
 
 /// Returns whether the line is for this caller of this node.
@@ -17,27 +18,27 @@ pub fn is_of(line: &Line, node: NodeId, caller: u8) -> bool
 }
 
 /// The event of the line, if it is this caller's and calls the node.
-fn event_in(line: &Line, node: NodeId, caller: u8) -> Option<CallerEvent>
-    ensures { option_map event_of result ≡ ask_one node.0 caller line.now }
+fn event_in(line: &Line, node: NodeId, caller: u8) -> Option<&Event>
+    ensures { option_copied result ≡ ask_one node.0 caller line.now }
 {
     if !is_of(line, node, caller) {
         return None;
     }
-    match line.what {
+    match &line.what {
         Ask::Do(event) => Some(event),
         Ask::Read => None,
     }
 }
 
 /// Appends the events of this caller's lines of a phase.
-pub(crate) fn with_events(
-    mut all: Vec<CallerEvent>,
-    lines: &[Line],
+pub(crate) fn with_events<'a>(
+    mut all: Vec<&'a Event>,
+    lines: &'a [Line],
     node: NodeId,
     caller: u8,
-) -> Result<Vec<CallerEvent>, NoMemory>
-    ensures { IfOk result (λ more. map event_of more.items
-        ≡ map event_of all.items ++ found (ask_one node.0 caller) lines.now) }
+) -> Result<Vec<&'a Event>, NoMemory>
+    ensures { IfOk result (λ more. map (λ e. e.now) more.items
+        ≡ map (λ e. e.now) all.entry.items ++ found (ask_one node.0 caller) lines.now) }
 {
     for i in 0..lines.len() {
         let line = &lines[i];
@@ -55,8 +56,8 @@ pub fn asked_by(
     phases: &[Phase],
     node: NodeId,
     caller: u8,
-) -> Result<Vec<CallerEvent>, NoMemory>
-    ensures { IfOk result (λ all. map event_of all.items ≡ asks_of node.0 caller phases.now) }
+) -> Result<Vec<&Event>, NoMemory>
+    ensures { IfOk result (λ all. map (λ e. e.now) all.items ≡ asks_of node.0 caller phases.now) }
 {
     let mut all = Vec::new(alloc);
     for i in 0..phases.len() {
@@ -67,9 +68,9 @@ pub fn asked_by(
 }
 
 /// Returns whether this seat's records have these events, in order, and no others.
-pub fn are_asked(asked: &[CallerEvent], records: &[Record], seat: u16) -> bool
+pub fn are_asked(asked: &[&Event], records: &[Record], seat: u16) -> bool
     ensures { IsTrue result
-        ↔ (found (event_one seat) records.now ≡ map event_of asked.now) }
+        ↔ (found (event_one seat) records.now ≡ map (λ e. e.now) asked.now) }
 {
     let mut next = 0;
     for i in 0..records.len() {
@@ -79,7 +80,8 @@ pub fn are_asked(asked: &[CallerEvent], records: &[Record], seat: u16) -> bool
                 if next >= asked.len() {
                     return false;
                 }
-                if !asked[next].is(event) {
+                let wanted = asked[next];
+                if !wanted.equal(event) {
                     return false;
                 }
                 next += 1;

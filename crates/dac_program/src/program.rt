@@ -1,4 +1,4 @@
-//! The whole program over a reader and two writers.
+//! The whole program over a reader and a writer.
 
 ghost use Rattle.std.specs.Prelude.{◌≡◌, ◌≤◌, map};
 ghost use Rattle.clap.specs.Words.{Text, kind_of};
@@ -42,20 +42,18 @@ fn refuse<T: Print + Eprint, W: Write>(rt: &T, error: &Error, output: &mut W) ->
 /// Runs the program on a command line, which begins with the program's name, and returns the exit status.
 ///
 /// `check`, `sim`, `live` and `record` return 0 if they succeed, and 1 if the input or the run has a fault, or an
-/// allocation or a write fails. They write only to `output`, except that `live` and `record` write the details of a
-/// fault of the run to `errors`, the standard error. Only these two start threads.
+/// allocation or a write fails. They write only to `output`, and only `live` and `record` start threads.
 ///
 /// `clap` handles other command lines, for which the contract guarantees only a status of at most 2. Help goes to the
 /// standard output, with status 0. Errors of the command line go to the standard error, with status 2. If either can't
 /// be written, the status is 1, and the standard error says why help wasn't printed.
 #[tactic(auto, using(crate::proofs::Reading::nothing_read))]
-pub fn run<'a, T: Print + Eprint + Threads + Wait + Sync, R: Read, W: Write, E: Write>(
+pub fn run<'a, T: Print + Eprint + Threads + Wait + Sync, R: Read, W: Write>(
     rt: &T,
     alloc: Global,
     words: &'a [&'a str],
     input: &mut R,
     output: &mut W,
-    errors: &mut E,
 ) -> u8
     ensures status { result ≤ 2 }
     // `distac check` prints the canonical text of its input, or the line of the input's failure.
@@ -68,19 +66,16 @@ pub fn run<'a, T: Print + Eprint + Threads + Wait + Sync, R: Read, W: Write, E: 
         → EndsWith
         (λ bytes ending. EndsSim bytes ending (W.contents output.old) (W.contents output.new))
         (R.remaining input.old) result }
-    // `distac live` prints the results of a run of its input's script, or the line of a failure or fault. The details of
-    // a fault of the run, and nothing else, go to standard error.
+    // `distac live` prints the results of a run of its input's script, or the line of a failure or fault.
     ensures live { (name : Text) → map (λ word. word.now) words.entry.now ≡ live_words name
         → EndsLiveWith
-        (λ bytes ending. EndsLive bytes ending (W.contents output.old) (W.contents output.new)
-        (E.contents errors.old) (E.contents errors.new))
+        (λ bytes ending. EndsLive bytes ending (W.contents output.old) (W.contents output.new))
         (R.remaining input.old) result }
     // `distac record` prints a run of its input's script as a script of `distac sim`, or the line of a failure or
-    // fault. The standard error is that of `distac live`.
+    // fault.
     ensures recorded { (name : Text) → map (λ word. word.now) words.entry.now ≡ record_words name
         → EndsLiveWith
-        (λ bytes ending. EndsRecord bytes ending (W.contents output.old) (W.contents output.new)
-        (E.contents errors.old) (E.contents errors.new))
+        (λ bytes ending. EndsRecord bytes ending (W.contents output.old) (W.contents output.new))
         (R.remaining input.old) result }
     // Whatever the result, at most one byte beyond the bound was read.
     ensures bound { IsReadWithinBound (R.remaining input.old) (R.remaining input.new) }
@@ -88,8 +83,8 @@ pub fn run<'a, T: Print + Eprint + Threads + Wait + Sync, R: Read, W: Write, E: 
     match read_request(alloc, words) {
         Ok(Some(Request::Check)) => check(alloc, input, output).status(),
         Ok(Some(Request::Sim)) => simulate(alloc, input, output).status(),
-        Ok(Some(Request::Live)) => live(rt, alloc, input, output, errors).status(),
-        Ok(Some(Request::Record)) => record_reader(rt, alloc, input, output, errors).status(),
+        Ok(Some(Request::Live)) => live(rt, alloc, input, output).status(),
+        Ok(Some(Request::Record)) => record_reader(rt, alloc, input, output).status(),
         Ok(None) => 2,
         Err(error) => refuse(rt, &error, output),
     }

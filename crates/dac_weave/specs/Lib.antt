@@ -1,9 +1,14 @@
 pub mod Woven
+pub mod Cut
+pub mod Seats
+pub mod Phased
 pub mod Recording
 pub mod Faults
 pub mod Converging
 pub mod Replay
 pub mod Indexing
+pub mod Copies
+pub mod Mails
 pub mod Labels
 pub mod Names
 pub mod Placing

@@ -4,18 +4,22 @@
 //! message is delivered after it was shipped, and each operation after it was issued. It returns that order as a list
 //! of world events, whose run has at each node exactly the records of its journal, so the guarantees of every run hold
 //! for the journals. If no such list exists, a [`WeaveFault`] names the node and the record at which every run stops.
+//! [`weave_phases`] also keeps the order of the phases of the journals.
 #![tactic(auto)]
 
+pub use ends::are_ends;
 pub use fault::WeaveFault;
-pub use weaving::weave;
+pub use weaving::{Woven, weave, weave_phases};
 
 mod buckets;
-mod copies;
 mod cursor;
+mod ends;
 mod fault;
 mod indexed_list;
 mod labels;
+mod mail;
 mod merge;
+mod part;
 mod replay;
 mod unfit;
 mod weaving;

@@ -1,5 +1,5 @@
 -- The effects of a link's two threads.
-use Rattle.std.specs.Prelude.{◌≡◌, ◌≤◌, ⊤, ℕ, zero, suc, List, [], ◌∷◌, ◌++◌, length, map, All, Some, None, Result, Ok, Err}
+use Rattle.std.specs.Prelude.{◌≡◌, ⊤, ℕ, zero, suc, List, [], ◌∷◌, ◌++◌, map, All, Some, None, Result, Ok, Err}
 use Rattle.dac_base.specs.declared.NodeId.{NodeId}
 use Rattle.dac_config.specs.Table.{Table}
 use Rattle.dac_messages.specs.declared.event.Event.{Event}
@@ -89,9 +89,3 @@ pub record Hears (t : Table) (old new : List Call) (taken now last : List Letter
   pub events : map (λ (c : Call). c.event) made ≡ map Hear heard
   pub letters : now ≡ (taken ++ papers) ++ last
   pub reads : AreRead t papers heard
-
--- Each letter received is heard before the next one is received: all are heard but at most the last one.
-pub record HearsInTurn (t : Table) (old new : List Call) (taken now : List LetterValue) : Type 0 where
-  pub last : List LetterValue
-  pub few : length last ≤ 1
-  pub hears : Hears t old new taken now last

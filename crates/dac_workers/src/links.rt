@@ -1,9 +1,9 @@
 //! The bodies of a link's two threads.
 
-ghost use Rattle.std.specs.Prelude.{◌≡◌, [], ◌∷◌, ◌++◌, OnOk, OnErr, IfErr, None};
+ghost use Rattle.std.specs.Prelude.{◌≡◌, [], ◌∷◌, ◌++◌, OnOk, IfErr, None};
 ghost use Rattle.crossbeam_channel.specs.Claims.{view};
 ghost use Rattle.crossbeam_channel.specs.Ends.{sends_on, receives_on};
-ghost use Rattle.dac_workers.specs.Links.{ShipsOne, Ships, HearsOne, Hears, HearsInTurn};
+ghost use Rattle.dac_workers.specs.Links.{ShipsOne, Ships, HearsOne, Hears};
 ghost use Rattle.dac_workers.specs.RunFaults.{IsLinkFault};
 
 use crate::faults::RunFault;
@@ -186,7 +186,6 @@ fn hear_once<L: SiteName, R: Wait>(
 ) -> Result<(), RunFault>
     ensures number { seat.new.number ≡ seat.old.number }
     ensures ok { OnOk result (HearsOne seat.old.calls seat.new.calls message) }
-    ensures none { OnErr result (seat.new.calls ≡ seat.old.calls) }
     ensures err { IfErr result (IsLinkFault ends.from ends.to ends.own) }
 {
     match site.call(rt, seat, Event::Hear(message)) {
@@ -199,7 +198,7 @@ fn hear_once<L: SiteName, R: Wait>(
     }
 }
 
-/// Receives letters until the end letter, and hears the message of each, in order, before it receives the next one.
+/// Receives letters until the end letter, and hears the message of each, in order.
 ///
 /// Fails with `LinkLost` of these two nodes if no letter can be received, or if one doesn't decode to a message; with
 /// `Site` of the node that hears if its journal is full or a call can't allocate; and with `NoMemory` if a message
@@ -219,9 +218,6 @@ pub fn hear_by<L: SiteName, H: Watch, R: Wait>(
     ensures link { receives_on link.new.end ≡ receives_on link.old.end }
     ensures ok { OnOk result (Hears config.now seat.old.calls seat.new.calls
         (view link.old.pass).taken (view link.new.pass).taken (None ∷ [])) }
-    // A call can fail, so a worker that had received two letters before it heard the first one couldn't promise this.
-    ensures turn { HearsInTurn config.now seat.old.calls seat.new.calls
-        (view link.old.pass).taken (view link.new.pass).taken }
     ensures err { IfErr result (IsLinkFault from to to) }
 {
     let ends = Ends { from, to, own: to };
@@ -259,8 +255,6 @@ pub fn hear_link<L: SiteName, G: Gate, R: Wait>(
     ensures link { receives_on link.new.end ≡ receives_on link.old.end }
     ensures ok { OnOk result (Hears config.now seat.old.calls seat.new.calls
         (view link.old.pass).taken (view link.new.pass).taken (None ∷ [])) }
-    ensures turn { HearsInTurn config.now seat.old.calls seat.new.calls
-        (view link.old.pass).taken (view link.new.pass).taken }
     ensures err { IfErr result (IsLinkFault from to to) }
 {
     hear_by(

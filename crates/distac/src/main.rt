@@ -3,7 +3,7 @@
 //! `distac check` reads a configuration and prints its canonical text. `distac sim` reads a configuration and a script,
 //! plays the script in a world of controllers, and prints the result of each line. `distac live` runs a script at
 //! controllers in threads, and `distac record` prints such a run as a script of `distac sim`. This crate is the process
-//! alone: `main` calls `run` of `dac_program`, which is the whole program over a reader and two writers.
+//! alone: `main` calls `run` of `dac_program`, which is the whole program over a reader and a writer.
 #![tactic(auto)]
 
 use dac_program::run;
@@ -84,15 +84,7 @@ fn main(rt: HostRuntime) -> anyhow::Result<ExitCode> {
         writer: rt.stdout(),
         why: None,
     };
-    let mut errors = rt.stderr();
-    let status = run(
-        &rt,
-        alloc,
-        &texts,
-        &mut rt.stdin(),
-        &mut output,
-        &mut errors,
-    );
+    let status = run(&rt, alloc, &texts, &mut rt.stdin(), &mut output);
     // A closed pipe isn't reported, because its reader has chosen to stop.
     if let Some(why) = &output.why {
         if why.kind() != ErrorKind::BrokenPipe {

@@ -1,6 +1,6 @@
 //! The table of all calls.
 use crate::nodes::{Happens, journal, node_copy, step};
-use crate::runs::{OfRun, OfScript, scripts, try_run};
+use crate::runs::{OfScript, scripts, try_run};
 use crate::sites::{opening, site_call};
 use crate::worlds::{OfClosed, OfWorld, journals, worlds};
 use std::alloc::Global;
@@ -59,7 +59,7 @@ pub enum Call {
     World(OfWorld),
     Closed(OfClosed),
     Script(OfScript),
-    Run(OfRun),
+    Run,
     NodeCopy,
     Open(bool),
 }
@@ -264,8 +264,7 @@ pub const CALLS: &[(&str, Call)] = &[
     ("replay", Call::Closed(OfClosed::Replay)),
     ("read_script", Call::Script(OfScript::Script)),
     ("read_live_script", Call::Script(OfScript::LiveScript)),
-    ("run_live", Call::Run(OfRun::Boot)),
-    ("run_live:ticks", Call::Run(OfRun::Ticks)),
+    ("run_live", Call::Run),
 ];
 
 /// Tries a call of states and messages.
@@ -326,7 +325,7 @@ pub fn try_listed<T: Print + Threads + Wait + Sync>(rt: &T, alloc: Global, call:
         Call::World(asked) => try_call(rt, worlds(alloc, asked)),
         Call::Closed(asked) => try_call(rt, journals(alloc, asked)),
         Call::Script(asked) => try_call(rt, scripts(alloc, asked)),
-        Call::Run(asked) => try_run(rt, alloc, asked),
+        Call::Run => try_run(rt, alloc),
         Call::NodeCopy => try_call(rt, node_copy(alloc)),
         Call::Open(opens) => try_call(rt, opening(rt, alloc, opens)),
         _ => try_lattice(rt, alloc, call).unwrap_or(Came::Wrong),

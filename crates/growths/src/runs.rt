@@ -1,8 +1,9 @@
 //! Reading scripts, and a run of sites in threads.
 use dac_base::NodeId;
-use dac_config::{Config, read_config};
-use dac_live::{Ask, CallerEvent, Gate, Line, Phase, are_runnable, run_live};
+use dac_config::Config;
+use dac_live::{Ask, Gate, Line, Phase, are_runnable, run_live};
 use dac_live_play::dac_script::{Failure, read_live_script, read_script};
+use dac_messages::Event;
 use std::alloc::Global;
 use std::io::Print;
 use std::sync::Wait;
@@ -73,44 +74,15 @@ impl Gate for Open {
     fn after(&self, _from: NodeId, _to: NodeId, _k: u64) {}
 }
 
-/// The run to try.
-#[derive(Clone, Copy, Debug, PartialEq, Eq)]
-pub enum OfRun {
-    /// The first of the nodes boots.
-    Boot,
-    /// A node without links is off, and ticks often.
-    Ticks,
-}
-
-/// One node, which therefore has no links.
-const ONE: &[u8] = b"[{kernel,[{distributed,[{a,[c1@h]}]}]}].";
-
-/// The number of ticks, enough that a page of room for each would show.
-const TICKS: usize = 128;
-
-/// The configuration of a run, the event that its caller asks for, and how many times.
-fn setting(alloc: Global, asked: OfRun) -> Option<(Config, CallerEvent, usize)> {
-    match asked {
-        OfRun::Boot => Some((config(alloc)?, CallerEvent::Boot { now: 0 }, 1)),
-        OfRun::Ticks => Some((
-            read_config(alloc, ONE).ok()?,
-            CallerEvent::Tick { now: 0 },
-            TICKS,
-        )),
-    }
-}
-
-/// A phase in which a caller of the first node asks for this event so many times.
-fn phases(alloc: Global, event: CallerEvent, times: usize) -> Option<Vec<Phase>> {
+/// A phase in which the first node boots.
+fn phases(alloc: Global) -> Option<Vec<Phase>> {
     let mut lines = Vec::new(alloc);
-    for _time in 0..times {
-        let line = Line {
-            node: NodeId(0),
-            caller: 1,
-            what: Ask::Do(event),
-        };
-        lines.push(line).ok()?;
-    }
+    let line = Line {
+        node: NodeId(0),
+        caller: 1,
+        what: Ask::Do(Event::Boot { now: 0 }),
+    };
+    lines.push(line).ok()?;
     let mut phases = Vec::new(alloc);
     phases.push(Phase { lines }).ok()?;
     Some(phases)
@@ -134,11 +106,11 @@ fn run_phases<T: Threads + Wait + Sync>(
 }
 
 /// Tries a run, which borrows its fixture.
-pub fn try_run<T: Print + Threads + Wait + Sync>(rt: &T, alloc: Global, asked: OfRun) -> Came {
-    let Some((config, event, times)) = setting(alloc, asked) else {
+pub fn try_run<T: Print + Threads + Wait + Sync>(rt: &T, alloc: Global) -> Came {
+    let Some(config) = config(alloc) else {
         return Came::SetUp;
     };
-    let Some(phases) = phases(alloc, event, times) else {
+    let Some(phases) = phases(alloc) else {
         return Came::SetUp;
     };
     print!(rt; ": ").ok();

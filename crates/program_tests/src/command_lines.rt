@@ -283,7 +283,7 @@ impl<T: Wait> Eprint for Streams<'_, T> {
     }
 }
 
-/// Whether the words yield this status, these texts on standard output and standard error, and nothing on the writers.
+/// Whether the words yield this status, these texts on standard output and standard error, and nothing on the output.
 fn answers<T: Threads + Wait + Sync>(
     rt: &T,
     alloc: Global,
@@ -298,22 +298,13 @@ fn answers<T: Threads + Wait + Sync>(
         error: Mutex::new(String::new(alloc)),
     };
     let mut written = Vec::new(alloc);
-    let mut detailed = Vec::new(alloc);
-    let answered = run(
-        &streams,
-        alloc,
-        words,
-        &mut b"".as_slice(),
-        &mut written,
-        &mut detailed,
-    );
+    let answered = run(&streams, alloc, words, &mut b"".as_slice(), &mut written);
     let Streams {
         rt: _,
         output,
         error,
     } = streams;
     written.is_empty()
-        && detailed.is_empty()
         && answered == status
         && output.into_inner().as_str() == printed
         && error.into_inner().as_str() == said

@@ -17,8 +17,7 @@ pub fn status_of<T: Print + Eprint + Threads + Wait + Sync, R: Read, W: Write>(
     input: &mut R,
     output: &mut W,
 ) -> u8 {
-    let mut errors = Vec::new(alloc);
-    run(rt, alloc, &["distac", word], input, output, &mut errors)
+    run(rt, alloc, &["distac", word], input, output)
 }
 
 /// The status and output of `distac WORD` on an input.

@@ -1,4 +1,4 @@
-//! Links alone: missing ends, letters without a message, a letter without another one behind it, capacity.
+//! Links alone: missing ends, letters without a message, capacity.
 ghost use Rattle.dac_workers.specs.Sites.{IsBlankOf};
 
 use crate::runs::Open;
@@ -103,20 +103,18 @@ fn links_with_one_end_are_lost(rt: HostRuntime) -> Result<(), Fail> {
     Ok(())
 }
 
-/// The content of a letter.
+/// The content of a letter without a message.
 #[derive(Clone, Copy)]
-enum Content {
+enum NoMessage {
     /// Bytes that aren't a packet.
     Bytes,
     /// A single operation.
     Operation,
-    /// A message, behind which nothing comes.
-    Alone,
 }
 
 /// The bytes of a letter without a message. Its operation is the boot.
-fn bytes_of(alloc: Global, config: &Config, what: Content, booted: Reply) -> Option<Vec<u8>> {
-    if let Content::Bytes = what {
+fn bytes_of(alloc: Global, config: &Config, what: NoMessage, booted: Reply) -> Option<Vec<u8>> {
+    if let NoMessage::Bytes = what {
         let mut bytes = Vec::new(alloc);
         bytes.extend_from_slice(b"DAC").ok()?;
         return Some(bytes);
@@ -142,7 +140,7 @@ fn hear_no_message<L: SiteName, R: Wait>(
     config: &Config,
     site: &Site<L>,
     seat: &mut Seat<L>,
-    what: Content,
+    what: NoMessage,
 ) -> Option<RunFault> {
     let (me, other) = (NodeId(0), NodeId(1));
     let booted = site.call(rt, seat, Event::Boot { now: 0 }).ok()?;
@@ -151,61 +149,26 @@ fn hear_no_message<L: SiteName, R: Wait>(
     hear_link(rt, alloc, config, other, me, site, seat, &mut into, &Open).err()
 }
 
-/// Boots the node, which ships a message. Its own link worker then receives this one, and the sender is gone.
-fn hear_alone<L: SiteName, R: Wait>(
-    rt: &R,
-    alloc: Global,
-    config: &Config,
-    site: &Site<L>,
-    seat: &mut Seat<L>,
-) -> Option<RunFault> {
-    let (me, other) = (NodeId(0), NodeId(1));
-    site.call(rt, seat, Event::Boot { now: 0 }).ok()?;
-    let bytes = match site.call(rt, seat, Event::Ship { to: other }).ok()?.reply {
-        Reply::Shipped(message) => encode(alloc, config, &Packet::Msg(message)).ok()?,
-        _ => return None,
-    };
-    let (mut out, mut into) = link(alloc, 64).ok()?;
-    out.put(rt, Letter::of(bytes)).ok()?;
-    drop(out);
-    hear_link(rt, alloc, config, other, me, site, seat, &mut into, &Open).err()
-}
-
-/// The fault of a link worker that receives a letter with this content.
-fn hear<L: SiteName, R: Wait>(
-    rt: &R,
-    alloc: Global,
-    config: &Config,
-    site: &Site<L>,
-    seat: &mut Seat<L>,
-    what: Content,
-) -> Option<RunFault> {
-    match what {
-        Content::Alone => hear_alone(rt, alloc, config, site, seat),
-        _ => hear_no_message(rt, alloc, config, site, seat, what),
-    }
-}
-
-/// Runs `hear` at a new site with one seat: the fault, and the number of journal records.
+/// Runs `hear_no_message` at a new site with one seat: the fault, and the number of journal records.
 fn hear_and_close<L: SiteName, R: Wait>(
     rt: &R,
     alloc: Global,
     config: &Config,
     blank: SiteBlank,
-    what: Content,
+    what: NoMessage,
 ) -> Option<(RunFault, usize)>
     requires { IsBlankOf blank L.name L.parts L.seats L.beginning }
 {
     let (site, mut seats, _readers) = open_site::<L, R>(rt, blank).ok()?;
     let fault = match seats.first_mut() {
-        Some(seat) => hear(rt, alloc, config, &site, seat, what),
+        Some(seat) => hear_no_message(rt, alloc, config, &site, seat, what),
         None => None,
     };
     let closed = site.close(rt, seats).ok()?;
     Some((fault?, closed.records().len()))
 }
 
-fn lost_by<R: Wait>(rt: &R, alloc: Global, what: Content) -> Option<(RunFault, usize)> {
+fn lost_by<R: Wait>(rt: &R, alloc: Global, what: NoMessage) -> Option<(RunFault, usize)> {
     let config = read_config(alloc, TWO).ok()?;
     let blank = blank_site(rt, alloc, &config, NodeId(0), 0, 1, 0).ok()?;
     hear_and_close::<Brand, R>(rt, alloc, &config, blank, what)
@@ -214,7 +177,7 @@ fn lost_by<R: Wait>(rt: &R, alloc: Global, what: Content) -> Option<(RunFault, u
 #[test]
 fn a_link_with_other_bytes_is_lost(rt: HostRuntime) -> Result<(), Fail> {
     assert_eq!(rt;
-        lost_by(&rt, rt.alloc(), Content::Bytes),
+        lost_by(&rt, rt.alloc(), NoMessage::Bytes),
         Some((LOST_IN, 1))
     );
     Ok(())
@@ -223,18 +186,8 @@ fn a_link_with_other_bytes_is_lost(rt: HostRuntime) -> Result<(), Fail> {
 #[test]
 fn a_link_with_an_operation_is_lost(rt: HostRuntime) -> Result<(), Fail> {
     assert_eq!(rt;
-        lost_by(&rt, rt.alloc(), Content::Operation),
+        lost_by(&rt, rt.alloc(), NoMessage::Operation),
         Some((LOST_IN, 1))
-    );
-    Ok(())
-}
-
-/// The journal has the boot, the ship, and the message that was heard before another letter was received.
-#[test]
-fn a_letter_is_heard_before_the_next_one_is_received(rt: HostRuntime) -> Result<(), Fail> {
-    assert_eq!(rt;
-        lost_by(&rt, rt.alloc(), Content::Alone),
-        Some((LOST_IN, 3))
     );
     Ok(())
 }

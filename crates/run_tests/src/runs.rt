@@ -3,9 +3,9 @@ use dac_base::{AppId, NodeId};
 use dac_config::read_config;
 use dac_events::Command;
 use dac_live::{
-    AnswerList, Ask, CallerEvent, Gate, Line, LineAnswer, LiveReport, Phase, RunFault,
-    are_runnable, run_live,
+    AnswerList, Ask, Gate, Line, LineAnswer, LiveReport, Phase, RunFault, are_runnable, run_live,
 };
+use dac_messages::Event;
 use std::alloc::Global;
 use std::sync::Wait;
 use std::sync::atomic::{AtomicU64, Ordering};
@@ -104,27 +104,27 @@ fn phase_of<const N: usize>(alloc: Global, lines: [(u8, u8, Ask); N]) -> Option<
     Some(Phase { lines: all })
 }
 
-fn ask(event: CallerEvent) -> Ask {
+fn ask(event: Event) -> Ask {
     Ask::Do(event)
 }
 
 pub(crate) fn boot(now: u64) -> Ask {
-    ask(CallerEvent::Boot { now })
+    ask(Event::Boot { now })
 }
 
 pub(crate) fn tick(now: u64) -> Ask {
-    ask(CallerEvent::Tick { now })
+    ask(Event::Tick { now })
 }
 
 fn start(node: u8) -> Ask {
-    ask(CallerEvent::Command(Command::Start {
+    ask(Event::Command(Command::Start {
         app: AppId(0),
         node: NodeId(node),
     }))
 }
 
 pub(crate) fn permit(node: u8, value: bool) -> Ask {
-    ask(CallerEvent::Command(Command::Permit {
+    ask(Event::Command(Command::Permit {
         app: AppId(0),
         node: NodeId(node),
         value,

@@ -7,9 +7,9 @@ use dac_core::{Event, WorldEvent};
 use dac_live::laws::{Recorded, add_record, same_calls};
 use dac_live::links::{Gone, Letter, LinkReceiver, LinkSender, hear_link, link, ship_link};
 use dac_live::{
-    Ask, CallerEvent, CloseFault, Closed, Gate, Line, LineAnswer, LiveFault, LiveReport, OpenFault,
-    Page, PageReader, PagedJournal, Phase, Reading, Receipt, Record, RunFault, Seat, Site,
-    SiteBlank, SiteName, are_runnable, blank_site, fresh_page, open_site, run_live,
+    Ask, CloseFault, Closed, Gate, Line, LineAnswer, LiveFault, LiveReport, OpenFault, Page,
+    PageReader, PagedJournal, Phase, Reading, Receipt, Record, RunFault, Seat, Site, SiteBlank,
+    SiteName, are_runnable, blank_site, fresh_page, open_site, run_live,
 };
 use dac_weave::{WeaveFault, weave};
 use std::alloc::Global;
@@ -118,7 +118,7 @@ fn is_carried<R: Wait>(rt: &R, alloc: Global) -> Option<bool> {
 /// A phase in which the first node is booted and its page read.
 fn phases(alloc: Global) -> Option<Vec<Phase>> {
     let mut lines = Vec::new(alloc);
-    for what in [Ask::Do(CallerEvent::Boot { now: 0 }), Ask::Read] {
+    for what in [Ask::Do(Event::Boot { now: 0 }), Ask::Read] {
         let line = Line {
             node: NodeId(0),
             caller: 1,

@@ -7,7 +7,7 @@ use dac_config::{FaultKind, NodeId, SyncWait};
 use dac_core::{Command, Event, Refusal, Reply, What, WorldFault};
 use dac_decide::{Opening, Verdict};
 use dac_lattice::Flag;
-use dac_live::{Ask, CallerEvent, CloseFault, LineAnswer, LiveFault, OpenFault, Reading, RunFault};
+use dac_live::{Ask, CloseFault, LineAnswer, LiveFault, OpenFault, Reading, RunFault};
 use dac_state::{Act, How, OpFault, StateFaultKind};
 use dac_status::Mark;
 use dac_weave::WeaveFault;
@@ -308,15 +308,6 @@ fn place_of_ask(value: &Ask) -> u8 {
     }
 }
 
-fn place_of_caller_event(value: &CallerEvent) -> u8 {
-    match value {
-        CallerEvent::Boot { .. } => 1,
-        CallerEvent::Crash => 2,
-        CallerEvent::Command(_) => 3,
-        CallerEvent::Tick { .. } => 4,
-    }
-}
-
 fn place_of_line_answer(value: &LineAnswer) -> u8 {
     match value {
         LineAnswer::Done(_) => 1,
@@ -463,7 +454,6 @@ fn variants_of_messages_and_events(rt: HostRuntime) {
 #[test]
 fn variants_of_live_runs(rt: HostRuntime) {
     assert!(rt; place_of_ask(&Ask::Read) == 2);
-    assert!(rt; place_of_caller_event(&CallerEvent::Crash) == 2);
     assert!(rt; place_of_line_answer(&LineAnswer::Stale) == 3);
     assert!(rt; place_of_reading(&Reading::Stale(None)) == 2);
     assert!(rt; place_of_open_fault(&OpenFault::NoMemory) == 2);

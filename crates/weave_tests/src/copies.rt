@@ -102,7 +102,7 @@ fn equal_messages_are_delivered_in_order(rt: HostRuntime) -> Result<(), Fail> {
 
 #[test]
 fn a_message_is_delivered_again_if_no_equal_one_is_left(rt: HostRuntime) -> Result<(), Fail> {
-    assert_eq!(rt; equal_ones(rt.alloc(), 2, 4), Some([1, 2, 2, 2]));
+    assert_eq!(rt; equal_ones(rt.alloc(), 2, 4), Some([1, 2, 1, 1]));
     Ok(())
 }
 

@@ -34,7 +34,7 @@ pub taken_more : {A B : Type 0} (g : A → B) (ys : List A) (n : ℕ) (y : A) �
 taken_more g ys n y lt at = let on : n + 1 ≡ suc n = omega arith in ap (λ k. take k (map g ys)) on ∙ taken_suc g ys n y lt at
 
 -- ---- a value among all that are found
-pub found_append : {A B : Type 0} (f : A → Option B) (xs ys : List A) → found f (xs ++ ys) ≡ found f xs ++ found f ys
+found_append : {A B : Type 0} (f : A → Option B) (xs ys : List A) → found f (xs ++ ys) ≡ found f xs ++ found f ys
 found_append f [] ys = refl
 found_append f (x ∷ xs) ys = ap (before (f x)) (found_append f xs ys) ∙ before_append (f x) (found f xs) (found f ys)
 
