@@ -1,4 +1,4 @@
--- Inserting dots into a sorted list: those of a span, of spans, and of a row.
+-- Inserting dots into a sorted list: those of a span, and of spans.
 use Rattle.std.proofs.Common.{◌≡◌, ℕ, suc, zero, ◌+◌, ◌-◌, ◌<◌, ◌≤◌, Bool, true, false, ◌||◌, ◌&&◌, nat_le, nat_lt, List, [], ◌∷◌, ◌++◌, length, take, get_or, refl, sym, ap, ◌∙◌, arith}
 use Rattle.std.specs.Ordering.{nat_cmp, eq_by_cmp, is_lt}
 use Rattle.std.specs.declared.cmp.Ordering.TheVariants.{Less}
@@ -14,15 +14,13 @@ use Rattle.dac_origins.specs.laws.KeyLaws.{below_at}
 use Rattle.dac_origins.specs.declared.dot.Origin.{Origin}
 use Rattle.dac_origins.specs.declared.dot.Dot.{Dot}
 use Rattle.dac_dots.specs.laws.CounterLaws.{is_eq-then}
-use Rattle.dac_dots.specs.Rows.{Row, row_of, has_counter, row_has}
 use Rattle.dac_dots.specs.Spans.{any_span, are_apart, counters_in, span_has}
 use Rattle.dac_dots.specs.declared.spans.Span.{Span}
-use Rattle.dac_dots.proofs.RowLemmas.{seen_counter}
 use Rattle.dac_dots.proofs.SpanLemmas.{any_more, has_now, further, before_next}
 
 -- ---- a dot above all in the list
 
-below_append : (x : Dot) (xs ys : List Dot) → is_below_all dot_cmp x xs ≡ true → is_below_all dot_cmp x ys ≡ true → is_below_all dot_cmp x (xs ++ ys) ≡ true
+pub below_append : (x : Dot) (xs ys : List Dot) → is_below_all dot_cmp x xs ≡ true → is_below_all dot_cmp x ys ≡ true → is_below_all dot_cmp x (xs ++ ys) ≡ true
 below_append x [] ys g h = h
 below_append x (y ∷ xs) ys g h = and_from _ _ (and_parts _ _ g).0 (below_append x xs ys (and_parts _ _ g).1 h)
 
@@ -94,11 +92,3 @@ pub spans_put : (o : Origin) (spans : List Span) → are_apart 0 spans ≡ true 
     → (q : Dot) → has_key dot_cmp new q ≡ ((eq_by_cmp origin_cmp q.origin o && has_key nat_cmp now q.n) || has_key dot_cmp old q)
 spans_put o spans h now view i end old new so_far q =
     so_far q ∙ ap (λ b. (eq_by_cmp origin_cmp q.origin o && b) || has_key dot_cmp old q) (ap (λ (l : List Span). any_span l q.n) (take_all i spans end) ∙ sym (has_now spans h now view q.n))
-
--- ---- the dots of a row
-
-pub row_put : (o : Origin) (ns : List ℕ) (row : Row) → row_of o ns ≡ row → (old new : List Dot) → ((q : Dot) → has_key dot_cmp new q ≡ ((eq_by_cmp origin_cmp q.origin o && has_key nat_cmp ns q.n) || has_key dot_cmp old q)) → (q : Dot) → has_key dot_cmp new q ≡ (row_has q row || has_key dot_cmp old q)
-row_put o ns row view old new all q =
-    all q
-    ∙ ap (λ k. (eq_by_cmp origin_cmp q.origin o && k) || has_key dot_cmp old q) (sym (seen_counter o ns row view q.n))
-    ∙ ap (λ p. (eq_by_cmp origin_cmp q.origin p && has_counter row q.n) || has_key dot_cmp old q) (ap (λ (r : Row). r.origin) view)

@@ -1,8 +1,8 @@
 -- The counters of the spans that begin above a number, index by index.
-use Rattle.std.proofs.Common.{◌≡◌, ℕ, zero, suc, ◌+◌, ◌-◌, ◌<◌, ◌≤◌, Bool, true, false, cond, if◌then◌else◌, ◌||◌, ◌&&◌, nat_lt, nat_eq, List, [], ◌∷◌, ◌++◌, length, drop, get_or, Option, Some, None, refl, sym, ap, ◌∙◌, arith, add-one}
+use Rattle.std.proofs.Common.{◌≡◌, ℕ, zero, suc, ◌+◌, ◌-◌, ◌<◌, ◌≤◌, ◌↔◌, Bool, true, false, not, IsTrue, cond, if◌then◌else◌, ◌||◌, ◌&&◌, nat_lt, nat_eq, List, [], ◌∷◌, ◌++◌, length, drop, get_or, Option, Some, None, refl, sym, ap, subst, ◌∙◌, arith, add-one}
 use Rattle.std.specs.Ordering.{nat_cmp, eq_by_cmp}
 use Rattle.std.specs.List.{slice_get}
-use Rattle.std.proofs.lemmas.Bool.{and_from, ltb-true, lt-ltb, le-ltb}
+use Rattle.std.proofs.lemmas.Bool.{and_from, ltb-true, lt-ltb, le-ltb, ne_eqb, true≢false}
 use Rattle.std.proofs.lemmas.List.Folds.{list_any-append}
 use Rattle.std.proofs.Math.Bool.{or_comm, and-false, and-true}
 use Rattle.dac_origins.specs.Keys.{is_below_all, IsRising, has_key}
@@ -209,3 +209,20 @@ after_first span spans = ap (λ ns. span.first ∷ ns) (elim (nat_lt span.first 
       let none : span.last - span.first ≡ 0 = omega (arith, last) in
       ap (λ k. from_on (suc span.first) k ++ counters_along spans) none
 ] refl)
+
+-- ---- whether there are counters along spans
+
+pub some_begun : (begun : Option Span) (spans : List Span) (ns : List ℕ) (span : Span) → counters_left begun spans ≡ ns → begun ≡ Some span → 1 ≤ length ns
+unfolding from_on
+some_begun begun spans ns span is some =
+    let all : ns ≡ counters_along (span ∷ spans) = sym is ∙ ap (λ b. counters_left b spans) some in
+    subst (λ (l : List ℕ). 1 ≤ length l) (sym all) (omega arith)
+
+pub some_along : (begun : Option Span) (spans : List Span) (ns : List ℕ) (b : Bool) → counters_left begun spans ≡ ns → begun ≡ None → b ≡ nat_eq (length spans) 0 → IsTrue (not b) ↔ (1 ≤ length ns)
+unfolding from_on
+some_along begun [] ns b is none empty =
+    let no : ns ≡ [] = sym is ∙ ap (λ b. counters_left b []) none in
+    (λ yes. absurd (true≢false (sym yes ∙ ap not empty)), λ some. absurd (let l = ap (λ (ks : List ℕ). length ks) no in omega (arith, some, l)))
+some_along begun (span ∷ spans) ns b is none empty =
+    let all : ns ≡ counters_along (span ∷ spans) = sym is ∙ ap (λ b. counters_left b (span ∷ spans)) none in
+    (λ _. subst (λ (l : List ℕ). 1 ≤ length l) (sym all) (omega arith), λ _. ap not (empty ∙ ne_eqb (length (span ∷ spans)) 0 (λ e. omega arith)))

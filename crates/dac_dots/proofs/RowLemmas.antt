@@ -1,130 +1,57 @@
--- The counters of one origin: extending a version-vector entry up to the first gap, inserting, and uniting.
-use Rattle.std.proofs.Common.{◌≡◌, ◌↔◌, ℕ, ◌+◌, ◌<◌, ◌≤◌, inl, inr, Bool, true, false, ◌||◌, ◌&&◌, nat_le, nat_lt, nat_eq, IsTrue, List, [], ◌∷◌, length, refl, sym, ap, ◌∙◌, subst, arith, take, get_or}
-use Rattle.std.specs.Ordering.{nat_cmp, eq_by_cmp}
-use Rattle.std.proofs.lemmas.Bool.{and_parts, and_from, or_cases, or_from, or_left, or_right, false≢true, cases_lt, leb-true, le-leb, ltb-true, eqb-true}
+-- The counters of one origin: their number, and those before the first gap and further ones that make a row.
+use Rattle.std.proofs.Common.{◌≡◌, ◌↔◌, ℕ, ◌+◌, ◌<◌, ◌≤◌, inl, inr, Bool, true, false, ◌||◌, ◌&&◌, nat_le, nat_lt, nat_eq, IsTrue, List, [], ◌∷◌, length, refl, sym, ap, ◌∙◌, arith, take, get_or, zero, suc, ◌-◌, ◌^◌, ◌++◌, cond, add-one, length-append}
+use Rattle.std.specs.Ordering.{nat_cmp, eq_by_cmp, is_eq, is_lt}
+use Rattle.std.proofs.lemmas.Bool.{and_parts, and_from, or_cases, or_from, or_left, or_right, false≢true, cases_lt, leb-true, le-leb, lt-ltb, le-ltb, ne_eqb, false_from_ne_true}
 use Rattle.std.proofs.lemmas.Bool.Decides.{nat_tests}
-use Rattle.std.proofs.lemmas.Cmp.{nat_cmp_total}
+use Rattle.std.proofs.lemmas.Cmp.{nat_cmp_total, tied_itself}
 use Rattle.std.proofs.lemmas.Map.Lookups.{exact_unsigned}
 use Rattle.std.proofs.lemmas.List.{take_all}
-use Rattle.std.proofs.lemmas.List.Folds.{list_any_more}
-use Rattle.std.proofs.Math.Bool.{or-false}
+use Rattle.std.proofs.lemmas.List.Folds.{list_any_more, list_any-append}
 use Rattle.dac_origins.specs.Keys.{is_below_all, is_rising, IsRising, has_key}
 use Rattle.dac_origins.specs.laws.InOrder.{same_rising, below_absent}
-use Rattle.dac_dots.specs.laws.CounterLaws.{grows, on_the_way, ends_there, has_key-filter, rising_filter, same, less as number_less, is_same}
-use Rattle.dac_dots.specs.laws.RowLaws.{splits}
-use Rattle.dac_dots.specs.laws.RowSets.{some_counter, or_turn}
-use Rattle.dac_dots.specs.Rows.{Row, row_of, reach_of, reach_from, further_of, has_counter, HasAlso, HasBoth, HasMore, HasSome, IsGreatest, IsKept, IsLastOf, IsOne, IsWithinRow}
-use Rattle.dac_origins.specs.declared.dot.Dot.{Dot}
+use Rattle.dac_dots.specs.laws.CounterLaws.{has_key-filter, rising_filter, same, less as number_less}
+use Rattle.dac_dots.specs.laws.RowSets.{or_turn, rises_to, has_one_to}
+use Rattle.dac_dots.specs.Rows.{Row, row_of, reach_of, further_of, HasSome, IsKept, rises_on, one_to}
 use Rattle.dac_origins.specs.declared.dot.Origin.{Origin}
-use Rattle.dac_dots.proofs.PlaceLemmas.{some_from}
 use Rattle.dac_dots.proofs.SpanLemmas.{reaches}
+use Rattle.std.specs.FinSet as set
+use Rattle.std.specs.declared.cmp.Ordering.{Ordering}
+use Rattle.std.specs.Cmp.{IsTotalOrder}
+use Rattle.dac_origins.specs.laws.KeyLaws.{has_is}
+use Rattle.dac_dots.specs.laws.EntryRows.{row_counter, row_kept}
 
--- ---- extended up to the first gap
+-- ---- further counters that can follow
 
-beyond : (v w n : ℕ) (k : Bool) → v ≤ w → ((nat_lt w n || nat_eq n 0) && ((nat_le 1 n && nat_le n v) || k)) ≡ ((nat_lt w n || nat_eq n 0) && k)
-beyond v w n k p = grind (arith, nat_tests)
+ascends_from : (low : ℕ) (ns : List ℕ) → IsRising nat_cmp (low ∷ ns) → rises_on low ns ≡ true
+ascends_from low [] h = refl
+ascends_from low (n ∷ ns) h =
+    let parts = and_parts (is_below_all nat_cmp low (n ∷ ns)) (is_rising nat_cmp (n ∷ ns)) h in
+    and_from _ _ (lt-ltb low n (number_less low n (and_parts (is_lt (nat_cmp low n)) (is_below_all nat_cmp low ns) parts.0).0)) (ascends_from n ns parts.1)
 
-module _ (o : Origin) (v : ℕ) (ns : List ℕ) where
-  abbrev pub settled : Row
-  settled = record { origin = o; upto = reach_from v ns; further = further_of (reach_from v ns) ns }
+pub rises_both : (low : ℕ) (ns : List ℕ) (b : Bool) → b ≡ rises_on low ns → IsTrue b ↔ IsRising nat_cmp (low ∷ ns)
+rises_both low ns b is = (λ yes. rises_to low ns (sym is ∙ yes), λ h. is ∙ ascends_from low ns h)
 
-  -- the extended row contains 1 to v and these counters
-  pub settled_has : (n : ℕ) → has_counter settled n ≡ ((nat_le 1 n && nat_le n v) || has_key nat_cmp ns n)
-  settled_has n =
-      let w = reach_from v ns in
-      let h = (nat_le 1 n && nat_le n v) || has_key nat_cmp ns n in
-      let way : (nat_le 1 n && nat_le n w) ≡ true → h ≡ true = λ inside.
-      let parts = and_parts _ _ inside in
-      let low = leb-true 1 n parts.0 in
-      let high = leb-true n w parts.1 in
-      elim (cases_lt v n) [
-        | inl past ↦ or_right _ _ (on_the_way v n ns past high)
-        | inr within ↦ or_left _ _ (and_from _ _ parts.0 (le-leb n v within))
-      ] in
-      sym (splits w n h way
-      ∙ ap (λ b. (nat_le 1 n && nat_le n w) || b) (beyond v w n (has_key nat_cmp ns n) (grows v ns) ∙ sym (has_key-filter (λ n. nat_lt w n || nat_eq n 0) ns n)))
+-- no number follows the greatest one
+pub rises_at_end : (u : ℕ) (ns : List ℕ) → (u + 1 < 2 ^ 64 → ⊥) → ((i : ℕ) → get_or ns i 0 < 2 ^ 64) → nat_eq (length ns) 0 ≡ rises_on (u + 1) ns
+rises_at_end u [] end fits = refl
+rises_at_end u (x ∷ ns) end fits =
+    let small : x < 2 ^ 64 = fits 0 in
+    let high : 2 ^ 64 ≤ u + 1 = elim (cases_lt (u + 1) (2 ^ 64)) [ inl low ↦ absurd (end low) | inr p ↦ p ] in
+    ne_eqb (length (x ∷ ns)) 0 (λ e. omega arith) ∙ sym (ap (λ b. b && rises_on x ns) (le-ltb (u + 1) x (omega arith)))
 
-  pub settled_kept : IsRising nat_cmp ns → IsKept settled
-  settled_kept rising = record {
-    rising = rising_filter (λ n. nat_lt (reach_from v ns) n || nat_eq n 0) ns rising;
-    apart = λ n e.
-        let w = reach_from v ns in
-        let parts = and_parts _ _ (sym (has_key-filter (λ n. nat_lt w n || nat_eq n 0) ns n) ∙ e) in
-        let other : n ≡ w + 1 → ⊥ = λ at. false≢true (sym (ends_there v ns rising) ∙ ap (has_key nat_cmp ns) (sym at) ∙ parts.1) in
-        elim (or_cases _ _ parts.0) [
-          | inl above ↦ inr (let p = ltb-true w n above in omega arith)
-          | inr none ↦ inl (eqb-true n 0 none)
-        ];
-  }
+pub no_counters : (o : Origin) (upto : ℕ) (further : List ℕ) → (upto ≡ 0) × (length further ≡ 0) → HasSome (record { origin = o; upto = upto; further = further }) → ⊥
+no_counters o upto further none p = grind arith
 
--- ---- the row of ascending counters
+pub some_counters : (o : Origin) (upto : ℕ) (further : List ℕ) (b : Bool) → b ≡ false → ((upto ≡ 0) × (length further ≡ 0) → b ≡ true) → HasSome (record { origin = o; upto = upto; further = further })
+some_counters o upto further b is says = elim (cases_lt 0 upto) [
+  | inl p ↦ inl p
+  | inr none ↦ elim (cases_lt 0 (length further)) [
+    | inl p ↦ inr p
+    | inr empty ↦ absurd (false≢true (sym is ∙ says (omega arith, omega arith)))
+  ]
+]
 
-pub no_range : (n : ℕ) (k : Bool) → ((nat_le 1 n && nat_le n 0) || k) ≡ k
-no_range n k = grind (arith, nat_tests)
-
-module _ (o : Origin) (ns : List ℕ) where
-  pub row_counter : (n : ℕ) → has_counter (row_of o ns) n ≡ has_key nat_cmp ns n
-  row_counter n = settled_has o 0 ns n ∙ no_range n (has_key nat_cmp ns n)
-
-  pub row_kept : IsRising nat_cmp ns → IsKept (row_of o ns)
-  row_kept rising = settled_kept o 0 ns rising
-
-  -- the facts about a row, for a value equal to it
-  module _ (seen : Row) (view : row_of o ns ≡ seen) where
-    pub seen_counter : (n : ℕ) → has_counter seen n ≡ has_key nat_cmp ns n
-    seen_counter n = ap (λ (r : Row). has_counter r n) (sym view) ∙ row_counter n
-
-    pub seen_also : (k : ℕ) (new : List ℕ) → IsRising nat_cmp new → ((n : ℕ) → has_key nat_cmp new n ≡ (eq_by_cmp nat_cmp n k || has_key nat_cmp ns n)) → HasAlso seen k (row_of o new)
-    seen_also k new rising more = record {
-      origin = ap (λ (r : Row). r.origin) view;
-      exact = λ n. settled_has o 0 new n ∙ no_range n (has_key nat_cmp new n) ∙ more n ∙ ap (λ b. eq_by_cmp nat_cmp n k || b) (sym (seen_counter n));
-      kept = settled_kept o 0 new rising;
-    }
-
-    pub seen_more : (new : List ℕ) → IsRising nat_cmp new → ((n : ℕ) → has_key nat_cmp ns n ≡ true → has_key nat_cmp new n ≡ true) → HasMore seen (row_of o new)
-    seen_more new rising more = record {
-      origin = ap (λ (r : Row). r.origin) view;
-      more = λ n e. settled_has o 0 new n ∙ no_range n (has_key nat_cmp new n) ∙ more n (sym (seen_counter n) ∙ e);
-      kept = settled_kept o 0 new rising;
-    }
-
-    pub seen_same : IsRising nat_cmp ns → HasMore seen seen
-    seen_same rising = record { origin = refl; more = λ n e. e; kept = subst IsKept view (settled_kept o 0 ns rising) }
-
-    pub seen_both : (other : Row) (ms new : List ℕ) → ((n : ℕ) → has_counter other n ≡ has_key nat_cmp ms n) → IsRising nat_cmp new → ((n : ℕ) → has_key nat_cmp new n ≡ (has_key nat_cmp ms n || has_key nat_cmp ns n)) → HasBoth seen other (row_of o new)
-    seen_both other ms new of_other rising both = record {
-      origin = ap (λ (r : Row). r.origin) view;
-      exact = λ n. settled_has o 0 new n ∙ no_range n (has_key nat_cmp new n) ∙ both n ∙ (λ i. sym (of_other n) i || sym (seen_counter n) i);
-      kept = settled_kept o 0 new rising;
-    }
-
-    pub seen_last : (last : ℕ) → IsGreatest ns last → IsLastOf seen last
-    seen_last last is = record {
-      above = λ n e. is.above n (sym (seen_counter n) ∙ e);
-      there = elim is.there [ inl none ↦ inl none | inr at ↦ inr (seen_counter last ∙ at) ];
-    }
-
-    pub seen_within : (other : Row) (ms : List ℕ) → ((n : ℕ) → has_counter other n ≡ has_key nat_cmp ms n) → (b : Bool) → IsTrue b ↔ ((n : ℕ) → has_key nat_cmp ns n ≡ true → has_key nat_cmp ms n ≡ true) → IsTrue b ↔ IsWithinRow seen other
-    seen_within other ms of_other b is = (λ e n h. of_other n ∙ is.0 e n (sym (seen_counter n) ∙ h), λ within. is.1 (λ n h. sym (of_other n) ∙ within n (seen_counter n ∙ h)))
-
-    pub seen_empty : (b : Bool) → IsTrue b ↔ (ns ≡ []) → IsTrue b ↔ (HasSome seen → ⊥)
-    seen_empty b is = (
-      λ e some. let found = some_counter seen some in false≢true (sym (ap (λ l. has_key nat_cmp l found.0) (is.0 e)) ∙ sym (seen_counter found.0) ∙ found.1),
-      λ none. is.1 (no_key ns (λ n h. none (some_from seen n (seen_counter n ∙ h)))),
-    )
-      where
-        no_key : (l : List ℕ) → ((n : ℕ) → has_key nat_cmp l n ≡ true → ⊥) → l ≡ []
-        no_key [] h = refl
-        no_key (x ∷ l) h = absurd (h x (or_left _ _ (is_same x x refl)))
-
-pub one_row : (d : Dot) (new : List ℕ) → IsRising nat_cmp new → ((n : ℕ) → has_key nat_cmp new n ≡ (eq_by_cmp nat_cmp n d.n || has_key nat_cmp [] n)) → IsOne d (row_of d.origin new)
-one_row d new rising is = record {
-  origin = refl;
-  exact = λ n. settled_has d.origin 0 new n ∙ no_range n (has_key nat_cmp new n) ∙ is n ∙ or-false (eq_by_cmp nat_cmp n d.n);
-  kept = settled_kept d.origin 0 new rising;
-}
-
--- ---- the row of 1 to upto and counters that ascend from above upto + 1
+-- ---- the counters 1 to upto and others that ascend from above upto + 1
 
 pub above_low : (low : ℕ) (ns : List ℕ) (n : ℕ) → is_below_all nat_cmp low ns ≡ true → has_key nat_cmp ns n ≡ true → low < n
 above_low low [] n h e = absurd (false≢true e)
@@ -133,21 +60,21 @@ above_low low (x ∷ ns) n h e = elim (or_cases (eq_by_cmp nat_cmp n x) (has_key
   | inr past ↦ above_low low ns n (and_parts _ _ h).1 past
 ]
 
-module _ (o : Origin) (upto : ℕ) (further counters : List ℕ) (can : IsRising nat_cmp ((upto + 1) ∷ further)) (rising : IsRising nat_cmp counters) (all : (n : ℕ) → has_key nat_cmp counters n ≡ (has_key nat_cmp further n || (nat_le 1 n && nat_le n upto))) where
+module _ (upto : ℕ) (further counters : List ℕ) (can : IsRising nat_cmp ((upto + 1) ∷ further)) (rising : IsRising nat_cmp counters) (all : (n : ℕ) → has_key nat_cmp counters n ≡ (has_key nat_cmp further n || (nat_le 1 n && nat_le n upto))) where
   beyond_upto : is_below_all nat_cmp (upto + 1) further ≡ true
   beyond_upto = (and_parts (is_below_all nat_cmp (upto + 1) further) (is_rising nat_cmp further) can).0
 
   apart_from : (n : ℕ) → has_key nat_cmp further n ≡ true → upto + 1 < n
   apart_from n e = above_low (upto + 1) further n beyond_upto e
 
-  goes_to : reach_of counters ≡ upto
+  pub goes_to : reach_of counters ≡ upto
   goes_to = sym (reaches counters rising upto (λ n p q. all n ∙ or_right _ _ (and_from _ _ (le-leb 1 n p) (le-leb n upto q)))
       (all (upto + 1) ∙ or_from _ _ (below_absent nat_cmp_total (upto + 1) further beyond_upto) (out upto)))
     where
       out : (u : ℕ) → (nat_le 1 (u + 1) && nat_le (u + 1) u) ≡ false
       out u = grind (arith, nat_tests)
 
-  rest_is : further_of upto counters ≡ further
+  pub rest_is : further_of upto counters ≡ further
   rest_is = same_rising nat_cmp_total exact_unsigned (further_of upto counters) further (rising_filter (λ n. nat_lt upto n || nat_eq n 0) counters rising) (and_parts (is_below_all nat_cmp (upto + 1) further) (is_rising nat_cmp further) can).1
       (λ n. has_key-filter (λ n. nat_lt upto n || nat_eq n 0) counters n ∙ ap (λ b. (nat_lt upto n || nat_eq n 0) && b) (all n) ∙ alone n (has_key nat_cmp further n) (apart_from n))
     where
@@ -161,10 +88,6 @@ module _ (o : Origin) (upto : ℕ) (further counters : List ℕ) (can : IsRising
       alone n true h = alone_true upto n (h refl)
       alone n false h = alone_false upto n
 
-  pub row_of_parts : row_of o counters ≡ record { origin = o; upto = upto; further = further }
-  row_of_parts =
-      ap (λ u. record { origin = o; upto = u; further = further_of u counters }) goes_to ∙ ap (λ ns. record { origin = o; upto = upto; further = ns }) rest_is
-
 -- one more further counter is inserted
 pub parts_more : (further : List ℕ) (upto i : ℕ) (old new : List ℕ) → i < length further → ((n : ℕ) → has_key nat_cmp old n ≡ (has_key nat_cmp (take i further) n || (nat_le 1 n && nat_le n upto))) → ((n : ℕ) → has_key nat_cmp new n ≡ (eq_by_cmp nat_cmp n (get_or further i 0) || has_key nat_cmp old n))
     → (n : ℕ) → has_key nat_cmp new n ≡ (has_key nat_cmp (take (i + 1) further) n || (nat_le 1 n && nat_le n upto))
@@ -174,6 +97,70 @@ parts_more further upto i old new p so_far one n =
     one n ∙ ap (λ b. here || b) (so_far n) ∙ or_turn here (has_key nat_cmp (take i further) n) inside ∙ ap (λ b. b || inside) (sym (list_any_more (eq_by_cmp nat_cmp n) further i 0 p))
 
 -- all further counters are inserted
-pub parts_done : (o : Origin) (upto : ℕ) (further counters : List ℕ) (i : ℕ) → length further ≤ i → IsRising nat_cmp ((upto + 1) ∷ further) → IsRising nat_cmp counters → ((n : ℕ) → has_key nat_cmp counters n ≡ (has_key nat_cmp (take i further) n || (nat_le 1 n && nat_le n upto)))
-    → row_of o counters ≡ record { origin = o; upto = upto; further = further }
-parts_done o upto further counters i end can rising so_far = row_of_parts o upto further counters can rising (λ n. so_far n ∙ ap (λ ns. has_key nat_cmp ns n || (nat_le 1 n && nat_le n upto)) (take_all i further end))
+pub all_parts : (upto : ℕ) (further counters : List ℕ) (i : ℕ) → length further ≤ i → ((n : ℕ) → has_key nat_cmp counters n ≡ (has_key nat_cmp (take i further) n || (nat_le 1 n && nat_le n upto)))
+    → (n : ℕ) → has_key nat_cmp counters n ≡ (has_key nat_cmp further n || (nat_le 1 n && nat_le n upto))
+all_parts upto further counters i end so_far n = so_far n ∙ ap (λ ns. has_key nat_cmp ns n || (nat_le 1 n && nat_le n upto)) (take_all i further end)
+
+-- ---- lists without repeats
+
+module _ {K : Type 0} (R : K → K → Ordering) where
+  -- no key occurs twice
+  abbrev AreApart : List K → Type 0
+  AreApart [] = Unit {0}
+  AreApart (k ∷ ks) = (has_key R ks k ≡ false) × AreApart ks
+
+  apart-append : (xs ys : List K) → AreApart xs → AreApart ys → ((k : K) → has_key R xs k ≡ true → has_key R ys k ≡ false) → IsTotalOrder R → AreApart (xs ++ ys)
+  apart-append [] ys g h other o = h
+  apart-append (x ∷ xs) ys g h other o =
+      (list_any-append (eq_by_cmp R x) xs ys ∙ or_from _ _ g.0 (other x (or_left _ _ (ap is_eq (tied_itself o x)))), apart-append xs ys g.1 h (λ k e. other k (or_right _ _ e)) o)
+
+  apart_rising : (ks : List K) → IsTotalOrder R → IsRising R ks → AreApart ks
+  apart_rising [] o h = tt
+  apart_rising (k ∷ ks) o h = let parts = and_parts (is_below_all R k ks) (is_rising R ks) h in (below_absent o k ks parts.0, apart_rising ks o parts.1)
+
+  -- the length of a list without repeats is the size of its set
+  len_apart : (ks : List K) → IsTotalOrder R → AreApart ks → length ks ≡ set.len (set.from_list {R = R} ks)
+  len_apart [] o h = sym (set.len-empty R)
+  len_apart (k ∷ ks) o h =
+      let rest = set.len (set.from_list {R = R} ks) in
+      sym (set.len-insert o (set.from_list ks) k
+      ∙ ap (λ b. cond b rest (rest + 1)) (sym (has_is o ks (set.from_list ks) (λ i. set.from_list ks) k) ∙ h.0)
+      ∙ ap (λ n. n + 1) (sym (len_apart ks o h.1))
+      ∙ add-one (length ks))
+
+-- ---- the number of counters
+
+apart_one_to : (u : ℕ) → AreApart nat_cmp (one_to u)
+unfolding one_to
+apart_one_to zero = tt
+apart_one_to (suc u) = apart-append nat_cmp (one_to u) (suc u ∷ []) (apart_one_to u) (refl, tt) (λ k e. past u k (sym (has_one_to u k) ∙ e)) nat_cmp_total
+  where
+    past : (u k : ℕ) → (nat_le 1 k && nat_le k u) ≡ true → has_key nat_cmp (suc u ∷ []) k ≡ false
+    past u k e = grind (arith, nat_tests)
+
+length_one_to : (u : ℕ) → length (one_to u) ≡ u
+unfolding one_to
+length_one_to zero = refl
+length_one_to (suc u) = length-append (one_to u) (suc u ∷ []) ∙ ap (λ n. n + 1) (length_one_to u) ∙ add-one u
+
+apart_counters : (row : Row) → IsKept row → AreApart nat_cmp (one_to row.upto ++ row.further)
+apart_counters row is = apart-append nat_cmp (one_to row.upto) row.further (apart_one_to row.upto) (apart_rising nat_cmp row.further nat_cmp_total is.rising)
+    (λ k e. false_from_ne_true (has_key nat_cmp row.further k) (λ there.
+    let parts = and_parts (nat_le 1 k) (nat_le k row.upto) (sym (has_one_to row.upto k) ∙ e) in
+    let low : 1 ≤ k = leb-true 1 k parts.0 in
+    let high : k ≤ row.upto = leb-true k row.upto parts.1 in
+    elim (is.apart k there) [ inl none ↦ omega arith | inr past ↦ omega arith ])) nat_cmp_total
+
+-- ascending counters are those before the first gap and the further ones
+pub further_length : (ns further : List ℕ) → IsRising nat_cmp ns → further_of (reach_of ns) ns ≡ further → length ns ≡ reach_of ns + length further
+further_length ns further rising view =
+    let o : Origin = record { node = record { 0 = 0 }; inc = 0 } in
+    let own = row_of o ns in
+    let all = one_to own.upto ++ own.further in
+    len_apart nat_cmp ns nat_cmp_total (apart_rising nat_cmp ns nat_cmp_total rising)
+    ∙ ap (λ (s : set.FinSet nat_cmp). set.len s) (set.same_set nat_cmp_total exact_unsigned (set.from_list ns) (set.from_list all) (λ n.
+    set.contains-from_list nat_cmp_total ns n ∙ sym (row_counter o ns n) ∙ sym (list_any-append (eq_by_cmp nat_cmp n) (one_to own.upto) own.further ∙ ap (λ b. b || has_key nat_cmp own.further n) (has_one_to own.upto n))
+    ∙ sym (set.contains-from_list nat_cmp_total all n)))
+    ∙ sym (len_apart nat_cmp all nat_cmp_total (apart_counters own (row_kept o ns rising)))
+    ∙ length-append (one_to own.upto) own.further ∙ ap (λ n. n + length own.further) (length_one_to own.upto)
+    ∙ ap (λ (l : List ℕ). reach_of ns + length l) view

@@ -1,5 +1,5 @@
 -- The counters of spans, and of joined spans.
-use Rattle.std.proofs.Common.{◌≡◌, ℕ, zero, suc, ◌+◌, ◌-◌, ◌<◌, ◌≤◌, inl, inr, Bool, true, false, cond, ◌||◌, ◌&&◌, nat_le, nat_lt, nat_eq, IsTrue, List, [], ◌∷◌, ◌++◌, length, take, drop, get_or, min, max, refl, sym, ap, ◌∙◌, subst, arith, take-append-drop, length-append, length-drop}
+use Rattle.std.proofs.Common.{◌≡◌, ℕ, zero, suc, ◌+◌, ◌-◌, ◌<◌, ◌≤◌, inl, inr, Bool, true, false, cond, ◌||◌, ◌&&◌, nat_le, nat_lt, nat_eq, List, [], ◌∷◌, ◌++◌, length, take, drop, get_or, min, max, refl, sym, ap, ◌∙◌, subst, arith, take-append-drop, length-append, length-drop}
 use Rattle.std.specs.Ordering.{nat_cmp, eq_by_cmp}
 use Rattle.std.specs.List.{flat_map, AllWithin}
 use Rattle.std.specs.List.Sorted.{IsPartitionedBy}
@@ -479,15 +479,6 @@ module _ (spans : List Span) (h : are_apart 0 spans ≡ true) (now : List ℕ) (
 pub no_spans : counters_in [] ≡ []
 unfolding counters_in
 no_spans = refl
-
-pub empty_spans : (spans : List Span) (now : List ℕ) → counters_in spans ≡ now → are_apart 0 spans ≡ true → (b : Bool) → b ≡ nat_eq (length spans) 0 → (IsTrue b → now ≡ []) × (now ≡ [] → IsTrue b)
-empty_spans [] now view h b is = (λ e. sym view ∙ no_spans, λ e. is)
-empty_spans (span ∷ spans) now view h b is = (
-  λ e. absurd (let some : nat_eq (length (span ∷ spans)) 0 ≡ true = sym is ∙ e in let none = eqb-true _ _ some in omega arith),
-  λ e.
-      let valid : span.first ≤ span.last = (apart_first 0 span spans h).1.0 in
-      absurd (false≢true (sym (ap (λ ns. has_key nat_cmp ns span.first) (view ∙ e)) ∙ has_counters (span ∷ spans) span.first ∙ or_left _ _ (and_from _ _ (le-leb span.first span.first (omega arith)) (le-leb span.first span.last valid)))),
-)
 
 -- no span is empty
 pub valid_spans : (low : ℕ) (spans : List Span) → are_apart low spans ≡ true → AreSpans spans

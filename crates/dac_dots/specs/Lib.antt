@@ -1,7 +1,6 @@
 pub mod DotFilters
 pub mod Rows
+pub mod Entries
 pub mod Spans
-pub mod Parts
-pub mod Sharing
 pub mod Walking
 pub mod laws

@@ -1,8 +1,7 @@
 -- A context by origin: for each one the counters before its first gap, and the further ones.
-use Rattle.std.specs.Prelude.{◌≡◌, ℕ, zero, suc, ◌+◌, ◌<◌, ◌≤◌, ◌⊎◌, ◌==◌, ◌&&◌, ◌||◌, nat_lt, nat_le, Bool, true, false, if◌then◌else◌, List, [], ◌∷◌, ◌++◌, length, map, Result, MatchResult, refl}
-use Rattle.std.specs.List.{filter, flat_map, fold, list_any, AllByRecursion, AllWithin, HoldsAt}
-use Rattle.std.specs.Coded.{Coded, code_by, coded×, coded_ℕ, coded_list}
-use Rattle.std.specs.declared.cmp.Ordering.TheVariants.{Less, Greater}
+use Rattle.std.specs.Prelude.{◌≡◌, ℕ, zero, suc, ◌+◌, ◌<◌, ◌≤◌, ◌⊎◌, ◌==◌, ◌&&◌, ◌||◌, nat_lt, nat_le, Bool, true, false, if◌then◌else◌, List, [], ◌∷◌, ◌++◌, length, map}
+use Rattle.std.specs.List.{filter, flat_map, fold, list_any, AllByRecursion}
+use Rattle.std.specs.declared.cmp.Ordering.TheVariants.{Less}
 use Rattle.std.specs.Ordering.{nat_cmp, eq_by_cmp}
 use Rattle.std.specs.FinSet as set
 use Rattle.dac_origins.specs.Keys.{IsRising, has_key}
@@ -17,13 +16,6 @@ pub record Row : Type 0 where
   pub origin : Origin
   pub upto : ℕ
   pub further : List ℕ
-
--- a row encoded as four components
-abbrev pub coded_row : Coded Row
-coded_row = code_by (ℕ × (ℕ × (ℕ × List ℕ))) (coded× coded_ℕ (coded× coded_ℕ (coded× coded_ℕ (coded_list coded_ℕ))))
-    (λ row. (row.origin.node.0, (row.origin.inc, (row.upto, row.further))))
-    (λ p. record { origin = record { node = record { 0 = p.0 }; inc = p.1.0 }; upto = p.1.1.0; further = p.1.1.1 })
-    (λ _. refl)
 
 -- the origins of the dots, in ascending order
 abbrev pub origins_of : List Dot → List Origin
@@ -116,16 +108,6 @@ pub record IsKept (row : Row) : Type 0 where
 abbrev pub HasSome : Row → Type 0
 HasSome row = (1 ≤ row.upto) ⊎ (1 ≤ length row.further)
 
--- the result of a search for an origin: the index of its row, or of its insertion point
-abbrev pub IsPlaceOf : List Row → Origin → Result ℕ ℕ → Type 0
-IsPlaceOf rows o r = MatchResult r
-    (λ i. (i < length rows) × HoldsAt (λ row. row.origin ≡ o) rows i)
-    (λ i. (i ≤ length rows) × AllWithin (λ row. origin_cmp row.origin o ≡ Less) rows 0 i × AllWithin (λ row. origin_cmp row.origin o ≡ Greater) rows i (length rows))
-
--- each dot of the row is in the set
-abbrev pub IsRowIn : Row → Dots → Type 0
-IsRowIn row dots = (n : ℕ) → has_counter row n ≡ true → set.contains dots (dot row.origin n) ≡ true
-
 -- whether the numbers ascend strictly from above low
 abbrev pub rises_on : ℕ → List ℕ → Bool
 rises_on low [] = true
@@ -136,43 +118,10 @@ pub record AreKept (rows : List Row) : Type 0 where
   pub each : AllByRecursion (λ row. IsKept row × HasSome row) rows
   pub rising : IsRising origin_cmp (origins rows)
 
--- the new row has the counters of the old one and k
-pub record HasAlso (old : Row) (k : ℕ) (new : Row) : Type 0 where
-  pub origin : new.origin ≡ old.origin
-  pub exact : (n : ℕ) → has_counter new n ≡ (eq_by_cmp nat_cmp n k || has_counter old n)
-  pub kept : IsKept new
-
--- the new row is the union of a and b
-pub record HasBoth (a b new : Row) : Type 0 where
-  pub origin : new.origin ≡ a.origin
-  pub exact : (n : ℕ) → has_counter new n ≡ (has_counter b n || has_counter a n)
-  pub kept : IsKept new
-
--- the row of one dot
-pub record IsOne (d : Dot) (row : Row) : Type 0 where
-  pub origin : row.origin ≡ d.origin
-  pub exact : (n : ℕ) → has_counter row n ≡ eq_by_cmp nat_cmp n d.n
-  pub kept : IsKept row
-
--- `last` is the greatest counter of the row, or 0 if it has none
-pub record IsLastOf (row : Row) (last : ℕ) : Type 0 where
-  pub above : (n : ℕ) → has_counter row n ≡ true → n ≤ last
-  pub there : (last ≡ 0) ⊎ (has_counter row last ≡ true)
-
 -- `last` is the greatest counter of the list, or 0 if it is empty
 pub record IsGreatest (counters : List ℕ) (last : ℕ) : Type 0 where
   pub above : (n : ℕ) → has_key nat_cmp counters n ≡ true → n ≤ last
   pub there : (last ≡ 0) ⊎ (has_key nat_cmp counters last ≡ true)
-
--- each counter of the first row is in the second
-abbrev pub IsWithinRow : Row → Row → Type 0
-IsWithinRow a b = (n : ℕ) → has_counter a n ≡ true → has_counter b n ≡ true
-
--- the new row is a superset of the old one
-pub record HasMore (old new : Row) : Type 0 where
-  pub origin : new.origin ≡ old.origin
-  pub more : IsWithinRow old new
-  pub kept : IsKept new
 
 -- the origin is above those of all the rows
 abbrev pub EndBefore : List Row → Origin → Type 0

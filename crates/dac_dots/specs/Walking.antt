@@ -1,6 +1,6 @@
 -- Iteration over the further counters of a row.
 use Rattle.std.specs.Prelude.{ℕ, suc, ◌-◌, Option, Some, None, List, [], ◌++◌, ◌∷◌}
-use Rattle.dac_dots.specs.declared.row.FurtherIter.{FurtherIter}
+use Rattle.dac_dots.specs.declared.further.FurtherIter.{FurtherIter}
 use Rattle.dac_dots.specs.declared.spans.Span.{Span}
 use Rattle.dac_dots.specs.Spans.{from_on}
 

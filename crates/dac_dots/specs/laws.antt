@@ -1,3 +1,4 @@
 pub mod CounterLaws
 pub mod RowLaws
 pub mod RowSets
+pub mod EntryRows

@@ -1,68 +1,56 @@
 //! Causal contexts: sets of dots.
 ghost use Rattle.std.specs.Prelude.{◌≡◌, ◌↔◌, ◌≤◌, ◌<◌, ◌^◌, ◌∷◌, ◌++◌, [], length, slice_get, Some, false, if◌then◌else◌, IsTrue, IfOk, OnOk, OnErr, MatchOption};
 ghost use Rattle.std.specs.FinSet as set;
-ghost use Rattle.std.specs.Arc.{arc_value};
 ghost use Rattle.dac_origins.specs.Dots.{dot_cmp, IsNext, IsSubset, IsUsedUp, IsVector};
 ghost use Rattle.dac_origins.specs.InOrder.{in_order};
 ghost use Rattle.dac_origins.specs.Keys.{IsRising};
 ghost use Rattle.dac_dots.specs.DotFilters.{MayHaveAll};
 ghost use Rattle.dac_dots.specs.Rows.{AreRowsOf, CanFollow, rows_of};
 
+use crate::counters::Counters;
 use crate::filter::DotFilter;
-use crate::parts::{MOST, Parts};
-use crate::row::Further;
-use crate::rows::OriginRows;
-use dac_base::NoMemory;
+use crate::further::Further;
+use crate::rows::{Rows, Unite, ascends_from, has_no_dots};
+use dac_base::{MAX_COUNTER, NoMemory};
 use dac_origins::{Dot, Origin};
+use dac_sorted::SortedMap;
 use std::alloc::Global;
 use std::marker::Model;
-use std::sync::Arc;
+
+/// The greatest number of origins for which a filter is filled.
+const MOST_FILLED: usize = 128;
 
 /// A causal context: the set of dots that a replica has received. Contracts treat it as a finite set.
 ///
 /// Dots can arrive in any order, so a context need not be a version vector: it can contain the fourth dot of an origin
 /// without the third.
 ///
-/// Copies share memory, so a copy only increments a reference count. The rows form one list, which a change first
-/// copies if another context shares it. A union of more than 128 rows stores them in shared parts, so that a change
-/// copies only one part, and splits it in two if it has more than 128 rows.
+/// Copies share memory, so a copy only increments a reference count. The counters of each origin are the values of a
+/// sorted map, so a change copies only a block of origins if another context shares it.
 pub struct Context {
-    alloc: Global,
-    kept: Kept,
-}
-
-/// The representation of a set.
-#[derive(Drop)]
-enum Kept {
-    /// No dots.
-    Nothing,
-    /// All rows in one list.
-    One(Arc<OriginRows, Global>),
-    /// Rows in shared parts.
-    Many(Arc<Parts, Global>),
+    rows: SortedMap<Origin, Counters, Rows>,
 }
 
 /// Explicit, so that a proof treats each drop as one call.
 impl Drop for Context {
     #[inline(always)]
     fn drop(self) {
-        let Context {
-            alloc: _alloc,
-            kept: _kept,
-        } = self;
+        let Context { rows: _rows } = self;
     }
 }
 
 impl Model for Context {
     ghost use Rattle.std.specs.FinSet as set;
     ghost use Rattle.dac_origins.specs.Dots.{dot_cmp, coded_dot};
-    ghost use Rattle.dac_dots.specs.Sharing.{dots_kept};
+    ghost use Rattle.dac_dots.specs.Entries.{AreRows, dots_of};
 
     ghost Value = { set.FinSet dot_cmp };
 
     ghost coded = { set.code coded_dot };
 
-    ghost view = { λ a. dots_kept a.kept };
+    ghost view = { λ a. dots_of a.rows };
+
+    ghost invariant = { λ a. AreRows a.rows };
 }
 
 impl Context {
@@ -71,48 +59,25 @@ impl Context {
         ensures { result ≡ set.empty }
     {
         Context {
-            alloc,
-            kept: Kept::Nothing,
+            rows: SortedMap::empty(alloc),
         }
-    }
-
-    /// The set of the dots of these rows, which copies will share.
-    fn of(alloc: Global, rows: OriginRows) -> Result<Self, NoMemory>
-        ensures { IfOk result (λ context. context ≡ rows) }
-    {
-        let part = Arc::new(alloc, rows)?;
-        if part.rows() <= MOST {
-            return Ok(Context {
-                alloc,
-                kept: Kept::One(part),
-            });
-        }
-        Context::of_parts(alloc, Parts::of_part(alloc, &part)?)
     }
 
     /// An equal set, which shares memory with this one until either changes.
     pub fn copy(&self) -> Result<Self, NoMemory>
         ensures { IfOk result (λ copied. copied ≡ self.now) }
     {
-        let kept = match &self.kept {
-            Kept::Nothing => Kept::Nothing,
-            Kept::One(rows) => Kept::One(Arc::try_clone(rows)?),
-            Kept::Many(parts) => Kept::Many(Arc::try_clone(parts)?),
-        };
-        Ok(Context {
-            alloc: self.alloc,
-            kept,
-        })
+        let rows = self.rows.copy()?;
+        Ok(Context { rows })
     }
 
     /// Whether the set contains the dot.
     pub fn contains(&self, dot: Dot) -> bool
         ensures { result ≡ set.contains self.now dot }
     {
-        match &self.kept {
-            Kept::One(rows) => rows.contains(dot),
-            Kept::Many(parts) => parts.contains(dot),
-            Kept::Nothing => false,
+        match self.rows.get(dot.origin) {
+            Some(counters) => counters.contains(dot.n),
+            None => false,
         }
     }
 
@@ -123,14 +88,12 @@ impl Context {
         ensures err { OnErr result (self.new ≡ self.old) }
         ensures first { OnErr result (set.contains self.old dot ≡ false) }
     {
-        if self.contains(dot) {
-            return Ok(());
-        }
-        match &mut self.kept {
-            Kept::Nothing => self.kept = Kept::One(first_row(self.alloc, dot)?),
-            Kept::One(rows) => Arc::make_mut(rows)?.insert(dot)?,
-            Kept::Many(parts) => self.kept = Kept::Many(with_dot(self.alloc, parts, dot)?),
-        }
+        let counters = match self.rows.get(dot.origin) {
+            Some(counters) if counters.contains(dot.n) => return Ok(()),
+            Some(counters) => counters.with(dot.n)?,
+            None => Counters::one(self.rows.allocator(), dot.n),
+        };
+        self.rows.put(dot.origin, counters)?;
         Ok(())
     }
 
@@ -139,52 +102,14 @@ impl Context {
     pub fn union(&self, other: &Self) -> Result<Self, NoMemory>
         ensures { IfOk result (λ both. both ≡ set.union self.now other.now) }
     {
-        match &self.kept {
-            Kept::Nothing => other.copy(),
-            Kept::One(mine) => self.union_one(mine, other),
-            Kept::Many(mine) => self.union_many(mine, other),
+        if self.rows.len() == 0 {
+            return other.copy();
         }
-    }
-
-    /// The union; `mine` is the representation of this set.
-    fn union_one(&self, mine: &OriginRows, other: &Self) -> Result<Self, NoMemory>
-        requires { mine.now ≡ self.now }
-        ensures { IfOk result (λ both. both ≡ set.union self.now other.now) }
-    {
-        match &other.kept {
-            Kept::Nothing => self.copy(),
-            Kept::One(theirs) => Context::of(self.alloc, mine.union(theirs)?),
-            Kept::Many(theirs) => {
-                let both = theirs.copy()?;
-                Context::of_parts(self.alloc, both.union_rows(mine)?)
-            }
+        if other.rows.len() == 0 {
+            return self.copy();
         }
-    }
-
-    /// The union; `mine` is the representation of this set.
-    fn union_many(&self, mine: &Parts, other: &Self) -> Result<Self, NoMemory>
-        requires { mine.now ≡ self.now }
-        ensures { IfOk result (λ both. both ≡ set.union self.now other.now) }
-    {
-        match &other.kept {
-            Kept::Nothing => self.copy(),
-            Kept::One(theirs) => {
-                let both = mine.copy()?;
-                Context::of_parts(self.alloc, both.union_rows(theirs)?)
-            }
-            Kept::Many(theirs) => Context::of_parts(self.alloc, mine.union(theirs)?),
-        }
-    }
-
-    /// The set of the dots of these parts, which copies will share.
-    fn of_parts(alloc: Global, parts: Parts) -> Result<Self, NoMemory>
-        ensures { IfOk result (λ context. context ≡ parts) }
-    {
-        let kept = Arc::new(alloc, parts)?;
-        Ok(Context {
-            alloc,
-            kept: Kept::Many(kept),
-        })
+        let rows = self.rows.merge(&Unite, &other.rows)?;
+        Ok(Context { rows })
     }
 
     /// Whether this set is a subset of the other one.
@@ -192,33 +117,15 @@ impl Context {
     pub fn is_subset(&self, other: &Self) -> bool
         ensures { IsTrue result ↔ IsSubset self.now other.now }
     {
-        match &self.kept {
-            Kept::Nothing => true,
-            Kept::One(rows) => other.has_rows(rows),
-            Kept::Many(parts) => other.has_parts(parts),
+        let mut theirs = other.rows.entries();
+        let mut mine = self.rows.entries();
+        while let Some((origin, counters)) = mine.next() {
+            match theirs.seek(*origin) {
+                Some(others) if counters.is_subset(others) => {}
+                _ => return false,
+            }
         }
-    }
-
-    /// Whether the set contains each dot of these rows.
-    fn has_rows(&self, rows: &OriginRows) -> bool
-        ensures { IsTrue result ↔ IsSubset rows.now self.now }
-    {
-        match &self.kept {
-            Kept::Nothing => rows.is_subset(&OriginRows::empty(self.alloc)),
-            Kept::One(own) => rows.is_subset(own),
-            Kept::Many(own) => own.has_all(rows),
-        }
-    }
-
-    /// Whether the set contains each dot of these parts.
-    fn has_parts(&self, parts: &Parts) -> bool
-        ensures { IsTrue result ↔ IsSubset parts.now self.now }
-    {
-        match &self.kept {
-            Kept::Nothing => parts.is_within(&OriginRows::empty(self.alloc)),
-            Kept::One(own) => parts.is_within(own),
-            Kept::Many(own) => parts.is_subset(own),
-        }
+        true
     }
 
     /// The dot of the origin's next operation: one above its greatest counter in the set, or 1 if it has none. `None`
@@ -227,10 +134,17 @@ impl Context {
     pub fn next(&self, origin: Origin) -> Option<Dot>
         ensures { MatchOption result (IsUsedUp self.now origin) (IsNext self.now origin) }
     {
-        match &self.kept {
-            Kept::One(rows) => rows.next(origin),
-            Kept::Many(parts) => parts.next(origin),
-            Kept::Nothing => OriginRows::empty(self.alloc).next(origin),
+        let last = match self.rows.get(origin) {
+            Some(counters) => counters.last(),
+            None => 0,
+        };
+        if last < MAX_COUNTER {
+            Some(Dot {
+                origin,
+                n: last + 1,
+            })
+        } else {
+            None
         }
     }
 
@@ -238,22 +152,28 @@ impl Context {
     pub fn is_vector(&self) -> bool
         ensures { IsTrue result ↔ IsVector self.now }
     {
-        match &self.kept {
-            Kept::One(rows) => rows.is_vector(),
-            Kept::Many(parts) => parts.is_vector(),
-            Kept::Nothing => OriginRows::empty(self.alloc).is_vector(),
+        let mut entries = self.rows.entries();
+        while let Some((_, counters)) = entries.next() {
+            if counters.has_gap() {
+                return false;
+            }
         }
+        true
     }
 
     /// The number of dots.
     pub fn len(&self) -> u128
         ensures { result ≡ set.len self.now }
     {
-        match &self.kept {
-            Kept::One(rows) => rows.len(),
-            Kept::Many(parts) => parts.len(),
-            Kept::Nothing => 0,
+        if self.rows.len() == 0 {
+            return 0;
         }
+        let mut len = 0;
+        let mut entries = self.rows.entries();
+        while let Some((_, counters)) = entries.next() {
+            len += counters.len();
+        }
+        len
     }
 
     /// Whether the set has at most `most` dots. Its time grows with `most`, not with the number of origins.
@@ -261,21 +181,32 @@ impl Context {
     pub fn has_at_most(&self, most: usize) -> bool
         ensures { IsTrue result ↔ (set.len self.now ≤ most) }
     {
-        match &self.kept {
-            Kept::One(rows) => rows.has_at_most(most),
-            Kept::Many(parts) => parts.has_at_most(most),
-            Kept::Nothing => true,
+        // Each origin has a dot.
+        if self.rows.len() > most {
+            return false;
         }
+        let mut len = 0;
+        let mut entries = self.rows.entries();
+        while let Some((_, counters)) = entries.next() {
+            len += counters.len();
+            if len > most as u128 {
+                return false;
+            }
+        }
+        true
     }
 
     /// Sets the slot of each dot.
     pub(crate) fn fill(&self, filter: &mut DotFilter)
         ensures { MayHaveAll filter.new.slots self.now }
     {
-        match &self.kept {
-            Kept::Many(_) => *filter = DotFilter::all(),
-            Kept::One(rows) => rows.fill(filter),
-            Kept::Nothing => {}
+        if self.rows.len() > MOST_FILLED {
+            *filter = DotFilter::all();
+            return;
+        }
+        let mut entries = self.rows.entries();
+        while let Some((origin, counters)) = entries.next() {
+            counters.fill(*origin, filter);
         }
     }
 
@@ -285,22 +216,19 @@ impl Context {
         ensures rising { IfOk result (λ dots. IsRising dot_cmp dots.items) }
         ensures same { IfOk result (λ dots. set.from_list dots.items ≡ self.now) }
     {
-        match &self.kept {
-            Kept::Many(parts) => parts.all()?.dots(),
-            Kept::One(rows) => rows.dots(),
-            Kept::Nothing => OriginRows::empty(self.alloc).dots(),
+        let mut dots = Vec::new(self.rows.allocator());
+        let mut entries = self.rows.entries();
+        while let Some((origin, counters)) = entries.next() {
+            counters.put_dots(*origin, &mut dots)?;
         }
+        Ok(dots)
     }
 
     /// The number of origins with dots.
     pub fn rows(&self) -> usize
         ensures { result ≡ length (rows_of self.now) }
     {
-        match &self.kept {
-            Kept::One(rows) => rows.rows(),
-            Kept::Many(parts) => parts.rows(),
-            Kept::Nothing => OriginRows::empty(self.alloc).rows(),
-        }
+        self.rows.len()
     }
 
     /// The `i`-th origin that has dots, in the order of origins: the origin, the last counter before its first gap, and
@@ -314,11 +242,11 @@ impl Context {
         // The rows describe the set exactly.
         ensures rows { AreRowsOf self.now (rows_of self.now) }
     {
-        match &self.kept {
-            Kept::One(rows) => rows.row(i),
-            Kept::Many(parts) => parts.row(i),
-            Kept::Nothing => None,
+        if i >= self.rows.len() {
+            return None;
         }
+        let (origin, counters) = self.rows.nth(i)?;
+        Some((*origin, counters.upto(), Further { counters }))
     }
 
     /// Appends the dots of an origin above all origins in the set: the counters 1 to `upto`, and further ones, which
@@ -341,21 +269,9 @@ impl Context {
         if !self.can_follow(origin, upto, further) {
             return Ok(false);
         }
-        match &mut self.kept {
-            Kept::One(rows) => Arc::make_mut(rows)?.push_row(origin, upto, further),
-            Kept::Many(parts) => {
-                let mut rows = parts.all()?;
-                let pushed = rows.push_row(origin, upto, further)?;
-                self.kept = Kept::One(Arc::new(self.alloc, rows)?);
-                Ok(pushed)
-            }
-            Kept::Nothing => {
-                let mut rows = OriginRows::empty(self.alloc);
-                let pushed = rows.push_row(origin, upto, further)?;
-                self.kept = Kept::One(Arc::new(self.alloc, rows)?);
-                Ok(pushed)
-            }
-        }
+        let counters = Counters::of(self.rows.allocator(), upto, further)?;
+        self.rows.push(origin, counters)?;
+        Ok(true)
     }
 
     /// Whether `push_row` accepts these dots of an origin.
@@ -364,28 +280,12 @@ impl Context {
             ↔ CanFollow (rows_of self.now)
             (record { origin = origin; upto = upto; further = further.now }) }
     {
-        match &self.kept {
-            Kept::Many(parts) => parts.can_follow(origin, upto, further),
-            Kept::One(rows) => rows.can_follow(origin, upto, further),
-            Kept::Nothing => OriginRows::empty(self.alloc).can_follow(origin, upto, further),
+        if has_no_dots(upto, further) {
+            return false;
         }
+        if !self.rows.ends_below(origin) {
+            return false;
+        }
+        ascends_from(upto, further)
     }
-}
-
-/// Rows of one dot.
-fn first_row(alloc: Global, dot: Dot) -> Result<Arc<OriginRows, Global>, NoMemory>
-    ensures { IfOk result (λ rows. arc_value rows ≡ set.insert set.empty dot) }
-{
-    let rows = OriginRows::one(alloc, dot)?;
-    let shared = Arc::new(alloc, rows)?;
-    Ok(shared)
-}
-
-/// These parts with a dot inserted.
-fn with_dot(alloc: Global, parts: &Parts, dot: Dot) -> Result<Arc<Parts, Global>, NoMemory>
-    ensures { IfOk result (λ more. arc_value more ≡ set.insert parts.now dot) }
-{
-    let more = parts.with_dot(alloc, dot)?;
-    let shared = Arc::new(alloc, more)?;
-    Ok(shared)
 }

@@ -1,5 +1,5 @@
 //! Sets of counters, stored as spans of consecutive counters.
-ghost use Rattle.std.specs.Prelude.{◌≡◌, ◌↔◌, ◌^◌, ◌<◌, ◌≤◌, ◌||◌, ◌&&◌, ◌∷◌, [], false, true, length, nat_le, IfOk, IsTrue, OnErr, OnOk};
+ghost use Rattle.std.specs.Prelude.{◌≡◌, ◌↔◌, ◌+◌, ◌^◌, ◌<◌, ◌≤◌, ◌||◌, ◌&&◌, ◌∷◌, [], false, true, length, nat_le, IfOk, IsTrue, OnErr, OnOk};
 ghost use Rattle.std.specs.Ordering.{eq_by_cmp, nat_cmp};
 ghost use Rattle.dac_origins.specs.Dots.{dot, dot_cmp, origin_cmp};
 ghost use Rattle.dac_origins.specs.Keys.{IsRising, has_key};
@@ -195,18 +195,58 @@ impl Counters {
 
     /// An equal set. With a gap it reserves room for one more span; without one it allocates nothing.
     #[inline(always)]
-    pub(crate) fn copy(&self, alloc: Global) -> Result<Self, NoMemory>
-        ensures { IfOk result (λ copied. copied ≡ self.now) }
+    pub(crate) fn copy(&self) -> Result<Self, NoMemory>
+        ensures value { IfOk result (λ copied. copied ≡ self.now) }
+        ensures rising { IfOk result (λ copied. IsRising nat_cmp copied) }
     {
-        let spans = self.spans.copy(alloc)?;
-        Ok(Counters { alloc, spans })
+        let spans = self.spans.copy(self.alloc)?;
+        Ok(Counters {
+            alloc: self.alloc,
+            spans,
+        })
     }
 
-    /// Whether the set is empty.
-    pub(crate) fn is_empty(&self) -> bool
-        ensures { IsTrue result ↔ (self.now ≡ []) }
+    /// The set with a counter inserted, which shares nothing.
+    pub(crate) fn with(&self, n: u64) -> Result<Self, NoMemory>
+        ensures rising { IfOk result (λ more. IsRising nat_cmp more) }
+        ensures has { IfOk result (λ more. (m : _)
+            → has_key nat_cmp more m ≡ (eq_by_cmp nat_cmp m n || has_key nat_cmp self.now m)) }
     {
-        self.spans().is_empty()
+        let mut more = self.copy()?;
+        more.insert(n)?;
+        Ok(more)
+    }
+
+    /// The counters 1 to `upto` and further ones, which ascend from above `upto + 1`.
+    pub(crate) fn of(alloc: Global, upto: u64, further: &[u64]) -> Result<Self, NoMemory>
+        requires { IsRising nat_cmp ((upto + 1) ∷ further.now) }
+        ensures rising { IfOk result (λ counters. IsRising nat_cmp counters) }
+        ensures upto { IfOk result (λ counters. reach_of counters ≡ upto) }
+        ensures further { IfOk result (λ counters. further_of upto counters ≡ further.now) }
+    {
+        let mut counters = Counters::empty(alloc);
+        counters.insert_upto(upto)?;
+        for n in further {
+            counters.insert(*n)?;
+        }
+        Ok(counters)
+    }
+
+    /// States that the counters ascend, for proofs; does nothing at run time.
+    pub(crate) fn tells_rising(&self)
+        ensures { IsRising nat_cmp self.now }
+    {
+        let _spans = &self.spans;
+    }
+
+    /// Whether there are counters outside 1 to `upto`.
+    pub(crate) fn has_gap(&self) -> bool
+        ensures { IsTrue result ↔ (1 ≤ length (further_of (reach_of self.now) self.now)) }
+    {
+        match self.further_spans() {
+            (Some(_), _) => true,
+            (None, spans) => !spans.is_empty(),
+        }
     }
 
     /// Whether the set contains each counter of a span.
@@ -285,31 +325,20 @@ impl Counters {
         Ok(())
     }
 
-    /// Whether there are so few spans that `absorb` is faster than `union`.
-    pub(crate) fn are_few(&self) -> bool {
-        self.spans().len() <= FEW
-    }
-
-    /// Inserts the counters of the other set. After [`NoMemory`] this set can contain some of them.
-    pub(crate) fn absorb(&mut self, other: &Self) -> Result<(), NoMemory>
-        ensures rising { IsRising nat_cmp self.old → IsRising nat_cmp self.new }
-        ensures ok { OnOk result ((n : _)
-            → has_key nat_cmp self.new n
-            ≡ (has_key nat_cmp other.now n || has_key nat_cmp self.old n)) }
-        ensures err { OnErr result
-            ((n : _) → has_key nat_cmp self.old n ≡ true → has_key nat_cmp self.new n ≡ true) }
-    {
-        self.put_all(other.spans())
-    }
-
-    /// The union of both sets.
-    pub(crate) fn union(&self, alloc: Global, other: &Self) -> Result<Self, NoMemory>
-        ensures { IfOk result (λ both. IsRising nat_cmp both
-            × ((n : _)
+    /// The union of both sets, which shares nothing.
+    pub(crate) fn union(&self, other: &Self) -> Result<Self, NoMemory>
+        ensures rising { IfOk result (λ both. IsRising nat_cmp both) }
+        ensures has { IfOk result (λ both. (n : _)
             → has_key nat_cmp both n
-            ≡ (has_key nat_cmp other.now n || has_key nat_cmp self.now n))) }
+            ≡ (has_key nat_cmp other.now n || has_key nat_cmp self.now n)) }
     {
-        merge_spans(alloc, self.spans(), other.spans())
+        let theirs = other.spans();
+        if theirs.len() <= FEW {
+            let mut both = self.copy()?;
+            both.put_all(theirs)?;
+            return Ok(both);
+        }
+        merge_spans(self.alloc, self.spans(), theirs)
     }
 
     /// Whether this set is a subset of the other one.

@@ -16,13 +16,12 @@ pub use context::Context;
 pub use dac_origins::{Dot, MapKey, NoMemory, Origin, keys};
 pub use filter::DotFilter;
 pub use filtered::FilteredContext;
-pub use row::{Further, FurtherIter};
+pub use further::{Further, FurtherIter};
 
 mod context;
 mod counters;
 mod filter;
 mod filtered;
-mod parts;
-mod row;
+mod further;
 mod rows;
 mod spans;

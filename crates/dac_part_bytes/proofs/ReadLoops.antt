@@ -10,8 +10,9 @@ use Rattle.std.proofs.lemmas.List.{nil_from_length}
 use Rattle.std.proofs.lemmas.Bool.{and_parts}
 use Rattle.dac_origins.specs.laws.InOrder.{in_order-rising, tie}
 use Rattle.dac_lattice.specs.Lattices.{join_options}
-use Rattle.dac_store.specs.Appending.{is_above_dots, is_above_entries}
-use Rattle.dac_store.specs.laws.Appending.{rising_appended, sorted_appended}
+use Rattle.dac_sorted.specs.Appending.{is_above_entries}
+use Rattle.dac_sorted.specs.laws.Appending.{rising_appended, sorted_appended}
+use Rattle.dac_store.specs.Appending.{is_above_dots}
 use Rattle.dac_chains.specs.laws.Greatest.{get-greater}
 
 with_none : {X : Type 0} (read : Field (List X)) → with_front [] read ≡ read

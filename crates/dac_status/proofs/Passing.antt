@@ -17,9 +17,9 @@ use Rattle.dac_origins.specs.declared.dot.Dot.{Dot}
 use Rattle.dac_origins.specs.Dots.{Dots, dot_cmp}
 use Rattle.dac_lattice.specs.declared.flags.Flag.{Flag}
 use Rattle.dac_lattice.specs.Chains.{IsAny}
+use Rattle.dac_sorted.specs.Parts.{HasSameFrom}
 use Rattle.dac_store.specs.DotMaps.{IsKept, store_at}
 use Rattle.dac_store.specs.DotSets.{is_empty_set}
-use Rattle.dac_store.specs.Parts.{HasSameFrom}
 use Rattle.dac_store.specs.laws.DotSets.{set_laws}
 use Rattle.dac_wishes.specs.declared.key.Key.{Key}
 use Rattle.dac_wishes.specs.laws.Keys.{exact_keys, keys_total}

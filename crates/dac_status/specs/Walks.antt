@@ -5,7 +5,7 @@ use Rattle.std.specs.FinSet as set
 use Rattle.dac_origins.specs.Dots.{Dots, coded_dot}
 use Rattle.dac_lattice.specs.Flags.{coded_flag}
 use Rattle.dac_meaning.specs.StateValue.{StateValue, coded_state}
-use Rattle.dac_store.specs.Parts.{HasSameFrom}
+use Rattle.dac_sorted.specs.Parts.{HasSameFrom}
 use Rattle.dac_wishes.specs.declared.key.Key.{Key}
 use Rattle.dac_wishes.specs.Keys.{coded_key, key_cmp}
 use Rattle.dac_wishes.specs.StoredPermits.{DotFlags}

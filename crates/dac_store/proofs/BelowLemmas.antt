@@ -1,70 +1,24 @@
 -- A walk through two maps at once: searches in one for the keys of the other, which skip entries below these keys.
-use Rattle.std.proofs.Common.{◌≡◌, ◌∙◌, ℕ, ◌+◌, ◌<◌, ◌≤◌, zero, suc, true, false, cond, T, List, [], ◌∷◌, ◌++◌, None, Some, length, get_or, take, drop, refl, sym, ap, subst, arith, true≢false}
+use Rattle.std.proofs.Common.{◌≡◌, ◌∙◌, ℕ, ◌+◌, ◌<◌, ◌≤◌, zero, suc, true, List, [], ◌∷◌, ◌++◌, Some, length, get_or, take, refl, sym, ap, subst, arith}
 use Rattle.std.specs.declared.cmp.Ordering.{Ordering}
-use Rattle.std.specs.declared.cmp.Ordering.TheVariants.{Less, Equal, Greater}
-use Rattle.std.specs.Ordering.{is_eq, is_lt, eq_by_cmp, ordering_reverse}
+use Rattle.std.specs.Ordering.{is_lt, ordering_reverse}
 use Rattle.std.specs.Cmp.{IsTotalOrder}
-use Rattle.std.specs.FinMap.{find, is_sorted}
-use Rattle.std.specs.FinMap.Entries.{below_all}
+use Rattle.std.specs.FinMap.{find}
 use Rattle.std.proofs.lemmas.Bool.{and_from, and_parts}
-use Rattle.std.proofs.lemmas.Cmp.{tied_itself}
 use Rattle.std.proofs.lemmas.List.{take_all}
 use Rattle.std.proofs.lemmas.List.Folds.{list_all_more}
 use Rattle.std.proofs.lemmas.Map.Lookups.{CmpEqualImpliesEq}
 use Rattle.dac_origins.specs.Dots.{Dots}
-use Rattle.dac_origins.specs.laws.InOrder.{tie, less}
+use Rattle.dac_origins.specs.laws.InOrder.{less}
 use Rattle.dac_lattice.specs.Search.{AtEachEntry, IsInOrder}
-use Rattle.dac_lattice.specs.laws.Entries.{find_below, below_more}
 use Rattle.dac_lattice.specs.laws.EntryLaws.{above_at, first, second}
-use Rattle.dac_store.specs.Appending.{is_above_entries}
+use Rattle.dac_sorted.specs.Appending.{is_above_entries}
+use Rattle.dac_sorted.specs.Parts.{HasSameFrom}
+use Rattle.dac_store.specs.Below.{HasLaterKeys, IsBelowAt}
 use Rattle.dac_store.specs.DotMaps.{store_at}
-use Rattle.dac_store.specs.Parts.{HasLaterKeys, HasSameFrom, IsBelowAt}
-use Rattle.dac_store.proofs.PartLemmas.{IsLeft, each_splits, rest_last, rest_of, rest_step, sorted_left, sorted_right, walk_here, walk_next, walk_start, below_right}
-
-module _ {K : Type 0} {R : K → K → Ordering} (o : IsTotalOrder R) (exact : CmpEqualImpliesEq R) where
-  -- an entry below a key isn't at any key from that one on
-  apart : (x key k : K) → R x key ≡ Less → is_lt (R k key) ≡ false → eq_by_cmp R k x ≡ false
-  apart x key k below not = elim (eq_by_cmp R k x) as (λ t. eq_by_cmp R k x ≡ t → t ≡ false) [
-    | true ↦ λ t. absurd (true≢false (sym (ap is_lt (ap (λ y. R y key) (exact k x (tie (R k x) t)) ∙ below)) ∙ not))
-    | false ↦ λ t. refl
-  ] refl
-
-  own : (key : K) → is_lt (R key key) ≡ false
-  own key = ap is_lt (tied_itself o key)
+use Rattle.dac_store.proofs.ChunkLemmas.{IsLeft, below_right, each_splits, sorted_left, sorted_right, walk_end, walk_here, walk_next, walk_start}
 
 module _ {K X : Type 0} {R : K → K → Ordering} (o : IsTotalOrder R) (exact : CmpEqualImpliesEq R) where
-  -- after skipping an entry below the key
-  pub same_past : (key : K) (old now next : List (K × X)) (e : K × X) → now ≡ e ∷ drop 1 now → next ≡ drop 1 now → R e.0 key ≡ Less → HasSameFrom R key old now → HasSameFrom R key old next
-  same_past key old now next e is passed below same k not =
-      ap (find R k) passed
-      ∙ sym (ap (λ t. cond t (Some e.1) (find R k (drop 1 now))) (apart o exact e.0 key k below not))
-      ∙ sym (ap (find R k) is)
-      ∙ same k not
-
-  pub sorted_past : (now next : List (K × X)) (e : K × X) → now ≡ e ∷ drop 1 now → next ≡ drop 1 now → IsInOrder R now → IsInOrder R next
-  sorted_past now next e is passed s = subst (IsInOrder R) (sym passed) (second (below_all R e.0 (drop 1 now)) (is_sorted R (drop 1 now)) (subst (IsInOrder R) is s))
-
-  -- the entry is at the key
-  pub found_at : (key : K) (old now : List (K × X)) (e : K × X) → now ≡ e ∷ drop 1 now → R e.0 key ≡ Equal → HasSameFrom R key old now → Some e.1 ≡ find R key old
-  found_at key old now e is at same =
-      sym (ap (λ r. cond (is_eq r) (Some e.1) (find R key (drop 1 now))) (o.antisymm key e.0 ∙ ap ordering_reverse at))
-      ∙ sym (ap (find R key) is)
-      ∙ same key (own o exact key)
-
-  -- all remaining entries are above the key
-  pub found_none : (key : K) (old now : List (K × X)) (e : K × X) → now ≡ e ∷ drop 1 now → R e.0 key ≡ Greater → IsInOrder R now → HasSameFrom R key old now → None ≡ find R key old
-  found_none key old now e is past s same =
-      let lower : R key e.0 ≡ Less = o.antisymm key e.0 ∙ ap ordering_reverse past in
-      let sorted : T (is_sorted R (e ∷ drop 1 now)) = subst (IsInOrder R) is s in
-      let under = below_more o exact key e.0 (drop 1 now) lower (first (below_all R e.0 (drop 1 now)) (is_sorted R (drop 1 now)) sorted) in
-      sym (find_below o exact key (drop 1 now) under)
-      ∙ sym (ap (λ r. cond (is_eq r) (Some e.1) (find R key (drop 1 now))) lower)
-      ∙ sym (ap (find R key) is)
-      ∙ same key (own o exact key)
-
-  pub found_end : (key : K) (old now : List (K × X)) → now ≡ [] → HasSameFrom R key old now → None ≡ find R key old
-  found_end key old now none same = sym (ap (find R key) none) ∙ same key (own o exact key)
-
   -- each entry before an index is below the one there
   pub above_before : (es : List (K × X)) (i : ℕ) (d : K × X) → IsInOrder R es → i < length es → is_above_entries R (take i es) (get_or es i d).0 ≡ true
   above_before [] i d s p = absurd (omega arith)
@@ -96,7 +50,7 @@ module _ {K X : Type 0} {R : K → K → Ordering} (o : IsTotalOrder R) (exact :
   above_next (x ∷ xs) ys s i d p =
       and_from _ _ (ap is_lt (above_at o exact x.0 ys i d (below_right R x.0 xs ys (first _ _ s)) p)) (above_next xs ys (second _ _ s) i d p)
 
--- ---- the walk through the blocks of the other map
+-- ---- the walk through the chunks of the other map
 
 module _ {K S : Type 0} (R : K → K → Ordering) (nothing : S) (below : S → Dots → S → Dots → Type 0) (c d : Dots) where
   -- stores are below those of another map if both maps have the same values at their keys
@@ -121,47 +75,32 @@ module _ {K S : Type 0} (R : K → K → Ordering) (nothing : S) (below : S → 
     same = λ i x p. ap (find R (get_or rest i x).0) e;
   }
 
-  module _ {B : Type 0} (value : B → List (K × S)) (blocks : List B) (last : List (K × S)) (i : ℕ) (b : B) (whole other mine : List (K × S)) (p : i < length blocks) (is : b ≡ get_or blocks i b) (before : IsWalking whole other mine (rest_of value blocks last i)) where
-    split_part : rest_of value blocks last i ≡ value b ++ rest_of value blocks last (i + 1)
-    split_part = rest_step value blocks last i b p is
+  module _ (whole other mine rest part next : List (K × S)) (split : rest ≡ part ++ next) (before : IsWalking whole other mine rest) where
+    parts_in_order : IsInOrder R (part ++ next)
+    parts_in_order = subst (IsInOrder R) split before.rest_in_order
 
-    parts_in_order : IsInOrder R (value b ++ rest_of value blocks last (i + 1))
-    parts_in_order = subst (IsInOrder R) split_part before.rest_in_order
+    same_parts : AtEachEntry (λ k _. find R k mine ≡ find R k whole) (part ++ next)
+    same_parts = subst (AtEachEntry (λ k _. find R k mine ≡ find R k whole)) split before.same
 
-    same_parts : AtEachEntry (λ k _. find R k mine ≡ find R k whole) (value b ++ rest_of value blocks last (i + 1))
-    same_parts = subst (AtEachEntry (λ k _. find R k mine ≡ find R k whole)) split_part before.same
+    pub part_in_order : IsInOrder R part
+    part_in_order = sorted_left R part next parts_in_order
 
-    pub block_in_order : IsInOrder R (value b)
-    block_in_order = sorted_left R (value b) (rest_of value blocks last (i + 1)) parts_in_order
-
-    pub walking_next : IsTotalOrder R → CmpEqualImpliesEq R → (left : List (K × S)) → AtEachEntry (IsBelowAt R nothing below mine c d) (value b) → IsInOrder R left → HasLaterKeys R (value b) mine left → IsWalking whole other left (rest_of value blocks last (i + 1))
+    pub walking_next : IsTotalOrder R → CmpEqualImpliesEq R → (left : List (K × S)) → AtEachEntry (IsBelowAt R nothing below mine c d) part → IsInOrder R left → HasLaterKeys R part mine left → IsWalking whole other left next
     walking_next o exact left here s later =
-        let rest = rest_of value blocks last (i + 1) in
         let found = (each_splits (λ (e : K × S). find R e.0 mine ≡ find R e.0 whole)) in
         record {
-          walk = walk_next value (AtEachEntry (IsBelowAt R nothing below whole c d)) (each_splits (λ (e : K × S). IsBelowAt R nothing below whole c d e.0 (Some e.1))) blocks last i b other p is before.walk
-              (each_found mine whole (value b) (found.left (value b) rest same_parts) here);
+          walk = walk_next (AtEachEntry (IsBelowAt R nothing below whole c d)) (each_splits (λ (e : K × S). IsBelowAt R nothing below whole c d e.0 (Some e.1))) rest part next other split before.walk
+              (each_found mine whole part (found.left part next same_parts) here);
           mine_in_order = s;
-          rest_in_order = sorted_right R (value b) rest parts_in_order;
-          same = λ j e q. later (get_or rest j e).0 (above_next o exact (value b) rest parts_in_order j e q) ∙ found.right (value b) rest same_parts j e q;
+          rest_in_order = sorted_right R part next parts_in_order;
+          same = λ j e q. later (get_or next j e).0 (above_next o exact part next parts_in_order j e q) ∙ found.right part next same_parts j e q;
         }
 
-    pub walking_here : AtEachEntry (IsBelowAt R nothing below whole c d) other → AtEachEntry (IsBelowAt R nothing below mine c d) (value b)
+    pub walking_here : AtEachEntry (IsBelowAt R nothing below whole c d) other → AtEachEntry (IsBelowAt R nothing below mine c d) part
     walking_here all =
-        let rest = rest_of value blocks last (i + 1) in
         let found = (each_splits (λ (e : K × S). find R e.0 mine ≡ find R e.0 whole)) in
-        each_turned mine whole (value b) (found.left (value b) rest same_parts)
-        (walk_here value (AtEachEntry (IsBelowAt R nothing below whole c d)) (each_splits (λ (e : K × S). IsBelowAt R nothing below whole c d e.0 (Some e.1))) blocks last i b other p is before.walk all)
+        each_turned mine whole part (found.left part next same_parts)
+        (walk_here (AtEachEntry (IsBelowAt R nothing below whole c d)) (each_splits (λ (e : K × S). IsBelowAt R nothing below whole c d e.0 (Some e.1))) rest part next other split before.walk all)
 
-  module _ {B : Type 0} (value : B → List (K × S)) (blocks : List B) (last : List (K × S)) (i : ℕ) (whole other mine : List (K × S)) (p : length blocks ≤ i) (before : IsWalking whole other mine (rest_of value blocks last i)) where
-    last_walking : IsWalking whole other mine last
-    last_walking = subst (IsWalking whole other mine) (rest_last value blocks last i p) before
-
-    pub last_in_order : IsInOrder R last
-    last_in_order = last_walking.rest_in_order
-
-    pub walked_up : AtEachEntry (IsBelowAt R nothing below mine c d) last → AtEachEntry (IsBelowAt R nothing below whole c d) other
-    walked_up h = last_walking.walk.up (each_found mine whole last last_walking.same h)
-
-    pub walked_down : AtEachEntry (IsBelowAt R nothing below whole c d) other → AtEachEntry (IsBelowAt R nothing below mine c d) last
-    walked_down h = each_turned mine whole last last_walking.same (last_walking.walk.down h)
+  pub walked : (whole other mine rest : List (K × S)) → rest ≡ [] → IsWalking whole other mine rest → AtEachEntry (IsBelowAt R nothing below whole c d) other
+  walked whole other mine rest none before = walk_end (AtEachEntry (IsBelowAt R nothing below whole c d)) rest other none (λ i e p. absurd (omega arith)) before.walk

@@ -1,7 +1,5 @@
 pub mod Passing
-mod PartLemmas
+mod ChunkLemmas
 mod EntryLemmas
 mod JoinLemmas
-mod AbsorbLemmas
-mod RemoveLemmas
 mod BelowLemmas

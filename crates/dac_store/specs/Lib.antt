@@ -4,8 +4,8 @@ pub mod AtDot
 pub mod DotFuns
 pub mod DotMaps
 pub mod Appending
-pub mod Parts
-pub mod Joining
+pub mod Chunks
+pub mod Below
 pub mod Absorbing
 pub mod Few
 pub mod FewEntries

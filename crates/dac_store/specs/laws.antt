@@ -1,4 +1,3 @@
-pub mod Appending
 pub mod AtDot
 pub mod DotSets
 pub mod SameDots

@@ -1,7 +1,7 @@
 //! Whether a key can be appended to a list of entries in key order.
 ghost use Rattle.std.specs.Prelude.{◌≡◌, ◌-◌, drop, length};
 ghost use Rattle.dac_lattice.specs.Search.{IsInOrder};
-ghost use Rattle.dac_store.specs.Appending.{is_above_entries};
+ghost use Rattle.dac_sorted.specs.Appending.{is_above_entries};
 
 use dac_origins::MapKey;
 

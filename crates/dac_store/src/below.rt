@@ -4,12 +4,10 @@ ghost use Rattle.std.specs.Option.{option_copied};
 ghost use Rattle.std.specs.FinMap.{find};
 ghost use Rattle.dac_origins.specs.Dots.{Dots};
 ghost use Rattle.dac_lattice.specs.Search.{AtEachEntry, IsInOrder};
+ghost use Rattle.dac_store.specs.Below.{HasLaterKeys, IsBelowAt};
 ghost use Rattle.dac_store.specs.DotMaps.{store_at};
-ghost use Rattle.dac_store.specs.Parts.{HasLaterKeys, IsBelowAt};
 
-use crate::DotStore;
-use crate::block::Block;
-use crate::entries::Entries;
+use crate::{DotStore, Entries};
 use dac_dots::{Context, FilteredContext};
 use dac_origins::MapKey;
 
@@ -80,25 +78,4 @@ pub(crate) fn are_below<K: MapKey, S: DotStore>(
         }
     }
     true
-}
-
-/// Whether, at each key of a block, the store here is below the one in the block. Skips the block without a search if
-/// the filters prove all its dots unheard.
-pub(crate) fn block_below<K: MapKey, S: DotStore>(
-    left: &mut Entries<'_, K, S>,
-    heard: &FilteredContext<'_>,
-    block: &Block<K, S>,
-    other_heard: &Context,
-) -> bool
-    requires left { IsInOrder K.cmp left.old }
-    requires part { IsInOrder K.cmp block.now }
-    ensures below { IsTrue result ↔ AtEachEntry
-        (IsBelowAt K.cmp S.nothing S.below left.old heard.now other_heard.now) block.now }
-    ensures in_order { IsInOrder K.cmp left.new }
-    ensures later { result ≡ true → HasLaterKeys K.cmp block.now left.old left.new }
-{
-    if block.is_apart(heard) {
-        return true;
-    }
-    are_below(left, heard, block.entries(), other_heard)
 }

@@ -4,7 +4,7 @@ ghost use Rattle.std.specs.FinSet as set;
 ghost use Rattle.std.specs.Option.{option_copied};
 ghost use Rattle.std.specs.FinMap.{find};
 ghost use Rattle.dac_origins.specs.Dots.{dot_cmp};
-ghost use Rattle.dac_store.specs.Appending.{is_above_entries};
+ghost use Rattle.dac_sorted.specs.Appending.{is_above_entries};
 ghost use Rattle.dac_store.specs.AtDot.{StandsBelow};
 
 use crate::DotStore;

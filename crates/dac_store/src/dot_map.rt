@@ -1,48 +1,44 @@
 //! Maps from keys to dot stores.
-ghost use Rattle.std.specs.Prelude.{◌≡◌, ◌≤◌, ◌&&◌, [], ◌∷◌, ◌++◌, length, not, false, true, IfOk, IfSome, OnOk, OnErr, if◌then◌else◌};
-ghost use Rattle.std.specs.Arc.{arc_value};
-ghost use Rattle.std.specs.List.{flat_map};
+ghost use Rattle.std.specs.Prelude.{◌≡◌, ◌≤◌, ◌&&◌, [], ◌∷◌, ◌++◌, length, not, false, true, IfOk, IfSome, OnErr, if◌then◌else◌};
 ghost use Rattle.std.specs.Option.{option_copied};
 ghost use Rattle.std.specs.FinMap.{find};
 ghost use Rattle.dac_lattice.specs.Entries.{keep};
-ghost use Rattle.dac_store.specs.Appending.{is_above_entries};
-ghost use Rattle.dac_store.specs.DotMaps.{IsKeyed, join_keyed};
+ghost use Rattle.dac_sorted.specs.Appending.{is_above_entries};
+ghost use Rattle.dac_store.specs.Absorbing.{AreOthersUnheard};
+ghost use Rattle.dac_store.specs.DotMaps.{join_keyed};
 
-use crate::DotStore;
-use crate::below::{are_below, block_below};
-use crate::block::Block;
-use crate::counted::Counted;
-use crate::entries::Entries;
-use crate::joining::{JoinStores, join_parts};
-use crate::part::{are_unheard, are_within, entries_have, fill_each};
-use crate::parts::Parts;
+use crate::chunk::{
+    chunk_below, chunk_first_heard, chunk_has, chunk_others_unheard, chunk_unheard,
+};
+use crate::digest::StoreFilter;
+use crate::joining::{JoinStores, join_at};
+use crate::part::{are_within, fill_each};
+use crate::{DotStore, Entries};
 use dac_dots::{Context, DotFilter, FilteredContext};
 use dac_origins::{Dot, MapKey, NoMemory};
+use dac_sorted::SortedMap;
 use std::alloc::Global;
 use std::marker::Model;
-use std::sync::Arc;
 
 /// A map from keys to dot stores. A key without dots is absent, so equal maps are equal values. Contracts treat it as
 /// the list of its entries in key order.
 ///
-/// The entries are stored in blocks, and the last ones in a list after them. A join shares the blocks of its own side
-/// that it is known to leave unchanged. Blocks that maps share never change; a block of one map alone can.
-///
-/// Copies share all entries, so a copy only increments a reference count. Appending to shared entries first copies
-/// those in no block. An empty map needs no allocation.
+/// Copies share all entries, so a copy only increments a reference count. A join shares the blocks of its own side that
+/// it is known to leave unchanged. An empty map needs no allocation.
 #[derive(Drop)]
 pub struct DotMap<K: MapKey, S: DotStore> {
-    alloc: Global,
-    kept: Option<Arc<Counted<K, S>, Global>>,
+    map: SortedMap<K, S, StoreFilter>,
 }
 
 impl<K: MapKey, S: DotStore> Model for DotMap<K, S> {
     ghost use Rattle.std.specs.Prelude.{List};
-    ghost use Rattle.dac_store.specs.Parts.{stores_kept};
+    ghost use Rattle.dac_store.specs.DotMaps.{IsKeyed};
 
     ghost Value = { List (K × S) };
 
-    ghost view = { λ a. stores_kept a.kept };
+    ghost view = { λ a. a.map };
+
+    ghost invariant = { λ a. IsKeyed K.cmp S.is_store S.is_empty a.map };
 }
 
 impl<K: MapKey, S: DotStore> DotMap<K, S> {
@@ -67,85 +63,36 @@ impl<K: MapKey, S: DotStore> DotMap<K, S> {
             ((is_above_entries K.cmp self.old key && not (S.is_empty store)) ≡ true) }
     {
         store.tells_invariant();
-        if !self.end_below(key) || store.is_empty() {
+        if !self.map.ends_below(key) || store.is_empty() {
             return Ok(false);
         }
-        self.append(key, store)?;
+        self.map.push(key, store)?;
         Ok(true)
-    }
-
-    /// Whether each key is below this one.
-    fn end_below(&self, key: K) -> bool
-        ensures { result ≡ is_above_entries K.cmp self.now key }
-    {
-        match &self.kept {
-            Some(kept) => kept.end_below(key),
-            None => true,
-        }
-    }
-
-    /// Appends an entry, whose key is above all others. After [`NoMemory`] the map is unchanged.
-    fn append(&mut self, key: K, store: S) -> Result<(), NoMemory>
-        requires above { is_above_entries K.cmp self.old key ≡ true }
-        requires store { S.is_store store }
-        requires dots { S.is_empty store ≡ false }
-        ensures ok { OnOk result (self.new ≡ self.old ++ (key, store) ∷ []) }
-        ensures err { OnErr result (self.new ≡ self.old) }
-    {
-        match &mut self.kept {
-            Some(kept) => Arc::make_mut(kept)?.push(key, store)?,
-            None => self.kept = Some(first_entry(self.alloc, key, store)?),
-        }
-        Ok(())
-    }
-
-    /// The map of these entries.
-    fn of(parts: Parts<K, S>) -> Result<Self, NoMemory>
-        requires { IsKeyed K.cmp S.is_store S.is_empty parts }
-        ensures { IfOk result (λ map. map ≡ parts) }
-    {
-        let alloc = parts.allocator();
-        let counted = Counted::of(parts)?;
-        if counted.is_empty() {
-            return Ok(Self::empty(alloc));
-        }
-        let kept = Arc::new(alloc, counted)?;
-        Ok(DotMap {
-            alloc,
-            kept: Some(kept),
-        })
-    }
-
-    /// The blocks, and the entries after them.
-    fn pieces(&self) -> (&[Arc<Block<K, S>, Global>], &[(K, S)])
-        ensures { self.now ≡ flat_map arc_value result.0.now ++ result.1.now }
-    {
-        match &self.kept {
-            Some(kept) => kept.pieces(),
-            None => (&[], &[]),
-        }
     }
 
     /// The store at a key, if any; it has dots.
     pub fn get(&self, key: K) -> Option<&S>
         ensures { option_copied result ≡ find K.cmp key self.now }
     {
-        match &self.kept {
-            Some(kept) => kept.get(key),
-            None => None,
-        }
+        self.map.get(key)
     }
 
     /// An iterator over the entries, in key order.
     pub fn entries(&self) -> Entries<'_, K, S>
         ensures { result ≡ self.now }
     {
-        let (blocks, last) = self.pieces();
-        Entries::of(blocks, last)
+        self.map.entries()
     }
 
-    /// Joins the other map into this one by changing one entry in place, if the other map has at most one key and the
-    /// join changes no other entry, and if no other map shares the entry. Otherwise returns false and changes nothing.
+    /// The number of keys.
+    pub fn len(&self) -> usize
+        ensures { result ≡ length self.now }
+    {
+        self.map.len()
+    }
+
+    /// Joins the other map into this one by changing one entry, if the other map has at most one key and the join
+    /// changes no other entry. Otherwise returns false and changes nothing.
     fn absorb_one(
         &mut self,
         heard: &Context,
@@ -159,29 +106,23 @@ impl<K: MapKey, S: DotStore> DotMap<K, S> {
         ensures left { IfOk result (λ done. done ≡ false → self.new ≡ self.old) }
         ensures err { OnErr result (self.new ≡ self.old) }
     {
-        if other.len() > 1 {
+        if other.len() > 1 || self.is_empty() {
             return Ok(false);
         }
-        let Some(kept) = &mut self.kept else {
-            return Ok(false);
-        };
-        let Some(own) = Arc::get_mut(kept) else {
-            return Ok(false);
-        };
         let how = JoinStores {
-            alloc: self.alloc,
+            alloc: self.allocator(),
             mine: &FilteredContext::of(heard, 1),
-            theirs: &FilteredContext::of(other_heard, own.len()),
+            theirs: &FilteredContext::of(other_heard, self.len()),
         };
-        match other.key_to_join(own, how.theirs) {
-            Some(key) => own.absorb_one(&how, key, other.get(key)),
+        match other.key_to_join(self, how.theirs) {
+            Some(key) => self.absorb_at(&how, key, other.get(key)),
             None => Ok(false),
         }
     }
 
     /// The map's only key. If it is empty, the first key of `own` whose store has a dot of this context: an empty map
     /// most often withdraws the dots of one key.
-    fn key_to_join(&self, own: &Counted<K, S>, heard: &FilteredContext<'_>) -> Option<K>
+    fn key_to_join(&self, own: &Self, heard: &FilteredContext<'_>) -> Option<K>
         requires { length self.now ≤ 1 }
         ensures { IfSome result (λ key. self.now ≡ keep key (find K.cmp key self.now) []) }
     {
@@ -191,31 +132,57 @@ impl<K: MapKey, S: DotStore> DotMap<K, S> {
         }
     }
 
-    /// The number of keys.
-    pub fn len(&self) -> usize
-        ensures { result ≡ length self.now }
-    {
-        match &self.kept {
-            Some(kept) => kept.len(),
-            None => 0,
+    /// The first key whose store has a dot of the context, if any.
+    fn first_heard(&self, heard: &FilteredContext<'_>) -> Option<K> {
+        let mut chunks = self.map.chunks();
+        while let Some(chunk) = chunks.next() {
+            if let Some(key) = chunk_first_heard(&chunk, heard) {
+                return Some(key);
+            }
         }
+        None
     }
-}
 
-/// The single entry, whose store must have dots.
-fn first_entry<K: MapKey, S: DotStore>(
-    alloc: Global,
-    key: K,
-    store: S,
-) -> Result<Arc<Counted<K, S>, Global>, NoMemory>
-    requires store { S.is_store store }
-    requires dots { S.is_empty store ≡ false }
-    ensures { IfOk result (λ counted. arc_value counted ≡ (key, store) ∷ []) }
-{
-    let mut counted = Counted::empty(alloc);
-    counted.push(key, store)?;
-    let kept = Arc::new(alloc, counted)?;
-    Ok(kept)
+    /// Joins a map that has at most this key, and `theirs` there, by changing the entry at that key: the entry is
+    /// removed if the joined store has no dots. Returns false, and changes nothing, if the join can change others too.
+    fn absorb_at(
+        &mut self,
+        how: &JoinStores<'_>,
+        key: K,
+        theirs: Option<&S>,
+    ) -> Result<bool, NoMemory>
+        ensures joined { IfOk result (λ done. done ≡ true
+            → self.new
+            ≡ join_keyed K.cmp S.nothing S.is_empty S.join self.old how.now.mine.now
+            (keep key (option_copied theirs.entry) []) how.now.theirs.now) }
+        ensures left { IfOk result (λ done. done ≡ false → self.new ≡ self.old) }
+        ensures err { OnErr result (self.new ≡ self.old) }
+    {
+        if !self.are_others_unheard(key, how.theirs) {
+            return Ok(false);
+        }
+        let joined = join_at(how, self.get(key), theirs)?;
+        joined.tells_invariant();
+        if joined.is_empty() {
+            self.map.remove(key)?;
+            return Ok(true);
+        }
+        self.map.put(key, joined)?;
+        Ok(true)
+    }
+
+    /// Whether the context contains no dot of the stores at other keys than this one.
+    fn are_others_unheard(&self, key: K, heard: &FilteredContext<'_>) -> bool
+        ensures { result ≡ true → AreOthersUnheard K.cmp S.has key heard.now self.now }
+    {
+        let mut chunks = self.map.chunks();
+        while let Some(chunk) = chunks.next() {
+            if !chunk_others_unheard(&chunk, key, heard) {
+                return false;
+            }
+        }
+        true
+    }
 }
 
 impl<K: MapKey, S: DotStore> DotStore for DotMap<K, S> {
@@ -239,28 +206,22 @@ impl<K: MapKey, S: DotStore> DotStore for DotMap<K, S> {
     ghost laws = { keyed_laws K.total K.exact S.laws };
 
     fn tells_invariant(&self) {
-        if let Some(kept) = &self.kept {
-            kept.tells_invariant();
-        }
+        let _map = &self.map;
     }
 
     fn empty(alloc: Global) -> Self {
-        DotMap { alloc, kept: None }
+        DotMap {
+            map: SortedMap::empty(alloc),
+        }
     }
 
     fn allocator(&self) -> Global {
-        self.alloc
+        self.map.allocator()
     }
 
     fn copy(&self) -> Result<Self, NoMemory> {
-        let kept = match &self.kept {
-            Some(kept) => Some(Arc::try_clone(kept)?),
-            None => None,
-        };
-        Ok(DotMap {
-            alloc: self.alloc,
-            kept,
-        })
+        let map = self.map.copy()?;
+        Ok(DotMap { map })
     }
 
     fn join_in(
@@ -271,17 +232,13 @@ impl<K: MapKey, S: DotStore> DotStore for DotMap<K, S> {
     ) -> Result<Self, NoMemory> {
         self.tells_invariant();
         other.tells_invariant();
-        let mine = FilteredContext::of(heard, other.len());
-        let theirs = FilteredContext::of(other_heard, self.len());
         let how = JoinStores {
-            alloc: self.alloc,
-            mine: &mine,
-            theirs: &theirs,
+            alloc: self.allocator(),
+            mine: &FilteredContext::of(heard, other.len()),
+            theirs: &FilteredContext::of(other_heard, self.len()),
         };
-        let (blocks, last) = self.pieces();
-        let parts = join_parts(&how, blocks, last, other.entries())?;
-        let joined = Self::of(parts)?;
-        Ok(joined)
+        let map = self.map.merge(&how, &other.map)?;
+        Ok(DotMap { map })
     }
 
     fn absorb_in(
@@ -303,44 +260,44 @@ impl<K: MapKey, S: DotStore> DotStore for DotMap<K, S> {
         other.tells_invariant();
         let filtered = FilteredContext::of(heard, other.len());
         let mut mine = self.entries();
-        let (blocks, last) = other.pieces();
-        for block in blocks {
-            if !block_below(&mut mine, &filtered, block, other_heard) {
+        let mut chunks = other.map.chunks();
+        while let Some(chunk) = chunks.next() {
+            if !chunk_below(&mut mine, &filtered, &chunk, other_heard) {
                 return false;
             }
         }
-        are_below(&mut mine, &filtered, last, other_heard)
+        true
     }
 
     fn has(&self, dot: Dot) -> bool {
-        let (blocks, last) = self.pieces();
-        for block in blocks {
-            if block.has(dot) {
+        let mut chunks = self.map.chunks();
+        while let Some(chunk) = chunks.next() {
+            if chunk_has(&chunk, dot) {
                 return true;
             }
         }
-        entries_have(last, dot)
+        false
     }
 
     fn within(&self, context: &Context) -> bool {
-        let (blocks, last) = self.pieces();
-        for block in blocks {
-            if !are_within(block.entries(), context) {
+        let mut chunks = self.map.chunks();
+        while let Some(chunk) = chunks.next() {
+            if !are_within(chunk.entries, context) {
                 return false;
             }
         }
-        are_within(last, context)
+        true
     }
 
     #[inline(always)]
     fn is_unheard(&self, heard: &FilteredContext<'_>) -> bool {
-        let (blocks, last) = self.pieces();
-        for block in blocks {
-            if !block.is_unheard(heard) {
+        let mut chunks = self.map.chunks();
+        while let Some(chunk) = chunks.next() {
+            if !chunk_unheard(&chunk, heard) {
                 return false;
             }
         }
-        are_unheard(last, heard)
+        true
     }
 
     fn is_same(&self, other: &Self) -> bool {
@@ -361,17 +318,13 @@ impl<K: MapKey, S: DotStore> DotStore for DotMap<K, S> {
     }
 
     fn fill(&self, filter: &mut DotFilter) {
-        let (blocks, last) = self.pieces();
-        for block in blocks {
-            fill_each(block.entries(), filter);
+        let mut chunks = self.map.chunks();
+        while let Some(chunk) = chunks.next() {
+            fill_each(chunk.entries, filter);
         }
-        fill_each(last, filter);
     }
 
     fn is_empty(&self) -> bool {
-        match &self.kept {
-            Some(kept) => kept.is_empty(),
-            None => true,
-        }
+        self.len() == 0
     }
 }

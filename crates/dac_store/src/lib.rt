@@ -17,24 +17,25 @@
 
 pub use causal::Causal;
 pub use dac_dots::{Context, DotFilter, FilteredContext};
+pub use digest::StoreFilter;
 pub use dot_fun::DotFun;
 pub use dot_map::DotMap;
 pub use dot_set::DotSet;
 pub use dot_store::DotStore;
-pub use entries::Entries;
+
+/// An iterator over the entries of a map of stores, in key order.
+pub type Entries<'a, K, S> = dac_sorted::Entries<'a, K, S, StoreFilter>;
 
 mod appending;
 mod below;
-mod block;
 mod causal;
-mod counted;
+mod chunk;
+mod digest;
 mod dot_fun;
 mod dot_map;
 mod dot_set;
 mod dot_store;
-mod entries;
 mod few;
 mod few_entries;
 mod joining;
 mod part;
-mod parts;

@@ -29,13 +29,13 @@ splits v n h way = elim (cases_Bool (nat_le 1 n && nat_le n v)) [
 ]
 
 module _ (counters : List ℕ) where
-  counters_split : (n : ℕ) → has_key nat_cmp counters n ≡ ((nat_le 1 n && nat_le n (reach_of counters)) || has_key nat_cmp (further_of (reach_of counters) counters) n)
+  pub counters_split : (n : ℕ) → has_key nat_cmp counters n ≡ ((nat_le 1 n && nat_le n (reach_of counters)) || has_key nat_cmp (further_of (reach_of counters) counters) n)
   counters_split n =
       let v = reach_of counters in
       splits v n (has_key nat_cmp counters n) (λ w. let parts = and_parts _ _ w in let low = leb-true 1 n parts.0 in let high = leb-true n v parts.1 in on_the_way 0 n counters (omega arith) high)
       ∙ ap (λ h. (nat_le 1 n && nat_le n v) || h) (sym (has_key-filter (λ n. nat_lt v n || nat_eq n 0) counters n))
 
-  apart_of : IsRising nat_cmp counters → (n : ℕ) → has_key nat_cmp (further_of (reach_of counters) counters) n ≡ true → (n ≡ 0) ⊎ (reach_of counters + 1 < n)
+  pub apart_of : IsRising nat_cmp counters → (n : ℕ) → has_key nat_cmp (further_of (reach_of counters) counters) n ≡ true → (n ≡ 0) ⊎ (reach_of counters + 1 < n)
   apart_of rising n e =
       let v = reach_of counters in
       let parts = and_parts _ _ (sym (has_key-filter (λ n. nat_lt v n || nat_eq n 0) counters n) ∙ e) in

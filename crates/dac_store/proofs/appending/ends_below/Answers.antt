@@ -1,5 +1,5 @@
 use Rattle.std.proofs.Common.{◌∙◌}
-use Rattle.dac_store.specs.laws.Appending.{above_last_entry}
+use Rattle.dac_sorted.specs.laws.Appending.{above_last_entry}
 use Rattle.dac_store.proofs.appending.ends_below.Goals as goal
 
 pub returns : goal.returns

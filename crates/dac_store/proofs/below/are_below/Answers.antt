@@ -4,7 +4,7 @@ use Rattle.std.proofs.lemmas.List.{take_all}
 use Rattle.dac_lattice.specs.Search.{AtEachEntry}
 use Rattle.dac_lattice.specs.laws.EntryLaws.{one_more}
 use Rattle.dac_store.specs.DotMaps.{store_at}
-use Rattle.dac_store.specs.Parts.{IsBelowAt}
+use Rattle.dac_store.specs.Below.{IsBelowAt}
 use Rattle.dac_store.proofs.BelowLemmas.{found_before, later_all, later_more, later_same}
 use Rattle.dac_store.proofs.below.are_below.Goals as goal
 

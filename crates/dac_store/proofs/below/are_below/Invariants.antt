@@ -1,6 +1,6 @@
 use Rattle.std.proofs.Common.{take}
 use Rattle.dac_lattice.specs.Search.{AtEachEntry, IsInOrder}
-use Rattle.dac_store.specs.Parts.{HasLaterKeys, IsBelowAt}
+use Rattle.dac_store.specs.Below.{HasLaterKeys, IsBelowAt}
 use Rattle.dac_store.proofs.below.are_below.Given as goal
 
 abbrev pub invariant-loop-key : goal.invariant-loop-key

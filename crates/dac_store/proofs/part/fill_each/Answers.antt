@@ -1,6 +1,6 @@
 use Rattle.std.proofs.Common.{◌+◌, ◌∙◌, [], ◌∷◌, ap, drop, refl, subst, sym}
 use Rattle.std.proofs.lemmas.List.{drop_all, drop_more}
-use Rattle.dac_store.proofs.PartLemmas.{IsFilling, all_filled, filling_more, filling_start, one_has}
+use Rattle.dac_store.proofs.ChunkLemmas.{IsFilling, all_filled, filling_more, filling_start, one_has}
 use Rattle.dac_store.proofs.part.fill_each.Goals as goal
 
 pub loop-store-init : goal.loop-store-init

@@ -1,5 +1,5 @@
 use Rattle.std.proofs.Common.{drop}
-use Rattle.dac_store.proofs.PartLemmas.{IsFilling}
+use Rattle.dac_store.proofs.ChunkLemmas.{IsFilling}
 use Rattle.dac_store.proofs.part.fill_each.Given as goal
 
 abbrev pub invariant-loop-store : goal.invariant-loop-store

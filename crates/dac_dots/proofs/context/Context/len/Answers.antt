@@ -1,6 +1,18 @@
-use Rattle.std.proofs.Common.{sym}
-use Rattle.dac_dots.proofs.NothingLemmas.{no_dots, counts_none}
+use Rattle.std.proofs.Common.{◌∙◌, ap, arith, subst, sym}
+use Rattle.dac_dots.specs.Entries.{AreRows, dots_of}
+use Rattle.dac_dots.proofs.SetLemmas.{counted, counted_is, no_count}
 use Rattle.dac_dots.proofs.context.Context.len.Goals as goal
 
-pub returns-in-Nothing : goal.returns-in-Nothing
-returns-in-Nothing c = sym (counts_none c.args.self.now (no_dots c.self.inside.kept c.args.self.now c.self.view_is c.in-Nothing.is))
+pub returns-then-len-eq0 : goal.returns-then-len-eq0
+returns-then-len-eq0 c =
+    let none = c.if-len-eq0.true in
+    let long = c.len.ensures.value in
+    let counts = no_count c.self.inside.rows (omega (arith, none, long)) in
+    sym counts ∙ counted_is c.self.inside.rows c.args.self.now c.self.view_is c.self.invariant
+
+pub returns : goal.returns
+returns c =
+    let none = ap counted c.in_default.ensures.0 in
+    let so_far = c.loop-counters.invariant.so_far in
+    let all = counted_is c.entries-entries.result c.args.self.now (ap dots_of c.entries-entries.ensures ∙ c.self.view_is) (subst AreRows (sym c.entries-entries.ensures) c.self.invariant) in
+    omega (arith, none, so_far, all)

@@ -6,8 +6,8 @@ use Rattle.dac_origins.specs.declared.dot.Dot.{Dot}
 use Rattle.dac_origins.specs.laws.Basics.{fails_so}
 use Rattle.dac_lattice.specs.Lattices.{IsOptionOf}
 use Rattle.dac_lattice.specs.Maps.{IsMap}
-use Rattle.dac_store.specs.Appending.{is_above_entries}
-use Rattle.dac_store.specs.laws.Appending.{sorted_appended, find_appended}
+use Rattle.dac_sorted.specs.Appending.{is_above_entries}
+use Rattle.dac_sorted.specs.laws.Appending.{sorted_appended, find_appended}
 use Rattle.dac_store.specs.FewEntries.{entries_of}
 use Rattle.dac_store.proofs.dot_fun.DotFun.push.Goals as goal
 

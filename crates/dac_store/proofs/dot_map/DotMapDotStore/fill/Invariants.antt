@@ -1,6 +1,9 @@
-use Rattle.std.specs.Arc.{arc_value}
-use Rattle.dac_store.proofs.PartLemmas.{IsFilling, rest_of}
+use Rattle.std.proofs.Common.{length}
+use Rattle.dac_store.proofs.ChunkLemmas.{IsFilling}
 use Rattle.dac_store.proofs.dot_map.DotMapDotStore.fill.Given as goal
 
-abbrev pub invariant-loop-block : goal.invariant-loop-block
-invariant-loop-block g l = IsFilling g.S.DotStore.has l.self (rest_of arc_value l.blocks l.last l.block-index) l.fn.filter.slots l.filter.slots
+abbrev pub invariant-loop-chunk : goal.invariant-loop-chunk
+invariant-loop-chunk g l = IsFilling g.S.DotStore.has l.self l.chunks l.fn.filter.slots l.filter.slots
+
+abbrev pub decreases-loop-chunk : goal.decreases-loop-chunk
+decreases-loop-chunk g l = length l.chunks

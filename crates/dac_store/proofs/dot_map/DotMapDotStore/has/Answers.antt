@@ -1,26 +1,26 @@
-use Rattle.std.proofs.Common.{◌∙◌, sym, ap}
-use Rattle.std.specs.Arc.{arc_value}
+use Rattle.std.proofs.Common.{◌∙◌, ap, sym}
 use Rattle.dac_store.specs.DotMaps.{has_in}
-use Rattle.dac_store.proofs.PartLemmas.{has_here, has_next, rest_last}
+use Rattle.dac_store.proofs.ChunkLemmas.{fewer, has_here, has_next}
 use Rattle.dac_store.proofs.dot_map.DotMapDotStore.has.Goals as goal
 
-pub loop-block-init : goal.loop-block-init
-loop-block-init g c = ap (λ m. has_in g.S.DotStore.has m c.args.dot) (sym c.pieces.ensures)
+pub loop-chunk-init : goal.loop-chunk-init
+loop-chunk-init g c = ap (λ m. has_in g.S.DotStore.has m c.args.dot) (rw c.self.view_is at c.chunks-chunks.ensures)
 
-pub loop-block-preserved : goal.loop-block-preserved
-loop-block-preserved g c =
-    let has = g.S.DotStore.has in
-    has_next arc_value has c.args.dot c.pieces.result.0.now c.pieces.result.1.now c.loop-block.block-index c.block-item.result c.args.self.now c.loop-block-test.true c.block-item.is c.loop-block.invariant
-    (ap (λ m. has_in has m c.args.dot) (sym c.deref.ensures) ∙ sym c.has.ensures ∙ c.if-has.false)
+pub chunk_has-requires : goal.chunk_has-requires
+chunk_has-requires g c = c.in-Some.ensures.said
 
-pub returns-then-has : goal.returns-then-has
-returns-then-has g c =
-    let has = g.S.DotStore.has in
-    sym (has_here arc_value has c.args.dot c.pieces.result.0.now c.pieces.result.1.now c.loop-block.block-index c.block-item.result c.args.self.now c.loop-block-test.true c.block-item.is c.loop-block.invariant
-    (ap (λ m. has_in has m c.args.dot) (sym c.deref.ensures) ∙ sym c.has.ensures ∙ c.if-has.true))
+pub loop-chunk-preserved : goal.loop-chunk-preserved
+loop-chunk-preserved g c =
+    has_next g.S.DotStore.has c.args.dot c.loop-chunk.chunks c.in-Some.chunk.entries.now c.next.new.self c.args.self.now c.in-Some.ensures.parted c.loop-chunk.invariant
+    (sym c.chunk_has.ensures ∙ c.if-chunk_has.false)
+
+pub loop-chunk-smaller : goal.loop-chunk-smaller
+loop-chunk-smaller g c = fewer c.loop-chunk.chunks c.in-Some.chunk.entries.now c.next.new.self c.in-Some.ensures.parted c.in-Some.ensures.some
+
+pub returns-then-chunk_has : goal.returns-then-chunk_has
+returns-then-chunk_has g c =
+    sym (has_here g.S.DotStore.has c.args.dot c.loop-chunk.chunks c.in-Some.chunk.entries.now c.next.new.self c.args.self.now c.in-Some.ensures.parted c.loop-chunk.invariant
+    (sym c.chunk_has.ensures ∙ c.if-chunk_has.true))
 
 pub returns : goal.returns
-returns g c =
-    c.entries_have.ensures
-    ∙ ap (λ m. has_in g.S.DotStore.has m c.args.dot) (sym (rest_last arc_value c.pieces.result.0.now c.pieces.result.1.now c.loop-block.block-index c.loop-block-test.false))
-    ∙ c.loop-block.invariant
+returns g c = ap (λ m. has_in g.S.DotStore.has m c.args.dot) (sym c.in_default.ensures.0) ∙ c.loop-chunk.invariant

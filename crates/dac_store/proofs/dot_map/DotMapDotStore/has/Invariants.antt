@@ -1,8 +1,9 @@
-use Rattle.std.proofs.Common.{◌≡◌}
-use Rattle.std.specs.Arc.{arc_value}
+use Rattle.std.proofs.Common.{◌≡◌, length}
 use Rattle.dac_store.specs.DotMaps.{has_in}
-use Rattle.dac_store.proofs.PartLemmas.{rest_of}
 use Rattle.dac_store.proofs.dot_map.DotMapDotStore.has.Given as goal
 
-abbrev pub invariant-loop-block : goal.invariant-loop-block
-invariant-loop-block g l = has_in g.S.DotStore.has (rest_of arc_value l.blocks l.last l.block-index) l.dot ≡ has_in g.S.DotStore.has l.self l.dot
+abbrev pub invariant-loop-chunk : goal.invariant-loop-chunk
+invariant-loop-chunk g l = has_in g.S.DotStore.has l.chunks l.dot ≡ has_in g.S.DotStore.has l.self l.dot
+
+abbrev pub decreases-loop-chunk : goal.decreases-loop-chunk
+decreases-loop-chunk g l = length l.chunks

@@ -1,29 +1,35 @@
-use Rattle.std.proofs.Common.{◌∙◌, List, sym, subst}
+use Rattle.std.proofs.Common.{◌∙◌, List, refl, sym}
 use Rattle.std.proofs.lemmas.Bool.{false≢true}
-use Rattle.std.specs.Arc.{arc_value}
 use Rattle.dac_store.specs.DotMaps.{has_in}
 use Rattle.dac_store.specs.Stores.{IsUnheard}
-use Rattle.dac_store.proofs.PartLemmas.{unheard_splits, rest_of, walk_end, walk_here, walk_next, walk_start}
+use Rattle.dac_store.proofs.ChunkLemmas.{fewer, unheard_splits, walk_end, walk_here, walk_next, walk_start}
 use Rattle.dac_store.proofs.dot_map.DotMapDotStore.is_unheard.Goals as goal
 
-pub loop-block-init : goal.loop-block-init
-loop-block-init g c = walk_start (λ m. IsUnheard (has_in g.S.DotStore.has m) c.args.heard.now) (rest_of arc_value c.pieces.result.0.now c.pieces.result.1.now 0) c.args.self.now (sym c.pieces.ensures)
+pub loop-chunk-init : goal.loop-chunk-init
+loop-chunk-init g c = walk_start (λ m. IsUnheard (has_in g.S.DotStore.has m) c.args.heard.now) c.chunks-chunks.result c.args.self.now (rw c.self.view_is at c.chunks-chunks.ensures)
 
-pub loop-block-preserved : goal.loop-block-preserved
-loop-block-preserved g c =
+pub chunk_unheard-requires : goal.chunk_unheard-requires
+chunk_unheard-requires g c = c.in-Some.ensures.said
+
+pub loop-chunk-preserved : goal.loop-chunk-preserved
+loop-chunk-preserved g c =
     let P = (λ (m : List (g.row.K.Denot × g.row.S.Denot)). IsUnheard (has_in g.S.DotStore.has m) c.args.heard.now) in
-    walk_next arc_value P (unheard_splits g.S.DotStore.has c.args.heard.now) c.pieces.result.0.now c.pieces.result.1.now c.loop-block.block-index c.block-item.result c.args.self.now c.loop-block-test.true c.block-item.is c.loop-block.invariant
-    (subst P c.deref.ensures (c.is_unheard.ensures.0 c.if-not-is_unheard.false))
+    walk_next P (unheard_splits g.S.DotStore.has c.args.heard.now) c.loop-chunk.chunks c.in-Some.chunk.entries.now c.next.new.self c.args.self.now c.in-Some.ensures.parted c.loop-chunk.invariant
+    (c.chunk_unheard.ensures.0 c.if-not-chunk_unheard.false)
 
-pub returns-then-not-is_unheard : goal.returns-then-not-is_unheard
-returns-then-not-is_unheard g c =
+pub loop-chunk-smaller : goal.loop-chunk-smaller
+loop-chunk-smaller g c = fewer c.loop-chunk.chunks c.in-Some.chunk.entries.now c.next.new.self c.in-Some.ensures.parted c.in-Some.ensures.some
+
+pub returns-then-not-chunk_unheard : goal.returns-then-not-chunk_unheard
+returns-then-not-chunk_unheard g c =
     let P = (λ (m : List (g.row.K.Denot × g.row.S.Denot)). IsUnheard (has_in g.S.DotStore.has m) c.args.heard.now) in (
       λ e. absurd (false≢true e),
-      λ all. absurd (false≢true (sym c.if-not-is_unheard.true ∙ c.is_unheard.ensures.1 (subst P (sym c.deref.ensures)
-          (walk_here arc_value P (unheard_splits g.S.DotStore.has c.args.heard.now) c.pieces.result.0.now c.pieces.result.1.now c.loop-block.block-index c.block-item.result c.args.self.now c.loop-block-test.true c.block-item.is c.loop-block.invariant all)))),
+      λ all. absurd (false≢true (sym c.if-not-chunk_unheard.true ∙ c.chunk_unheard.ensures.1
+          (walk_here P (unheard_splits g.S.DotStore.has c.args.heard.now) c.loop-chunk.chunks c.in-Some.chunk.entries.now c.next.new.self c.args.self.now c.in-Some.ensures.parted c.loop-chunk.invariant all))),
     )
 
 pub returns : goal.returns
-returns g c =
-    let all = walk_end arc_value (λ m. IsUnheard (has_in g.S.DotStore.has m) c.args.heard.now) c.pieces.result.0.now c.pieces.result.1.now c.loop-block.block-index c.args.self.now c.loop-block-test.false c.loop-block.invariant in
-    (λ e. all.up (c.are_unheard.ensures.0 e), λ p. c.are_unheard.ensures.1 (all.down p))
+returns g c = (
+  λ _. walk_end (λ m. IsUnheard (has_in g.S.DotStore.has m) c.args.heard.now) c.loop-chunk.chunks c.args.self.now c.in_default.ensures.0 (λ x h. absurd (false≢true h)) c.loop-chunk.invariant,
+  λ _. refl,
+)

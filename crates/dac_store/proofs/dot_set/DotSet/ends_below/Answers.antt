@@ -2,7 +2,7 @@ use Rattle.std.proofs.Common.{sym, arith}
 use Rattle.dac_origins.specs.laws.Dots.{dots_total, exact_dots}
 use Rattle.dac_origins.specs.InOrder.{in_order}
 use Rattle.dac_origins.specs.laws.InOrder.{in_order-rising}
-use Rattle.dac_store.specs.laws.Appending.{above_last_key, all_without_last}
+use Rattle.dac_sorted.specs.laws.Appending.{above_last_key, all_without_last}
 use Rattle.dac_store.proofs.dot_set.DotSet.ends_below.Goals as goal
 
 pub returns-in-Some : goal.returns-in-Some

@@ -1,8 +1,0 @@
-use Rattle.std.proofs.Common.{take}
-use Rattle.std.specs.Arc.{arc_value}
-use Rattle.std.specs.List.{All}
-use Rattle.dac_origins.specs.Dots.{IsVector}
-use Rattle.dac_dots.proofs.parts.Parts.is_vector.Given as goal
-
-abbrev pub invariant-loop-part : goal.invariant-loop-part
-invariant-loop-part l = All (λ part. IsVector (arc_value part)) (take l.part-index l.part-items)

@@ -1,7 +1,0 @@
-use Rattle.std.proofs.Common.{◌∙◌, ap}
-use Rattle.dac_dots.specs.Rows.{dots_in}
-use Rattle.dac_dots.proofs.PlaceLemmas.{none_in}
-use Rattle.dac_dots.proofs.rows.OriginRows.empty.Goals as goal
-
-pub returns : goal.returns
-returns c = ap dots_in c.new.ensures.items ∙ none_in

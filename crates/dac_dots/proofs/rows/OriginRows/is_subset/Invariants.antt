@@ -1,7 +1,0 @@
-use Rattle.std.proofs.Common.{take}
-use Rattle.std.specs.List.{All}
-use Rattle.dac_dots.specs.Rows.{Row, IsRowIn}
-use Rattle.dac_dots.proofs.rows.OriginRows.is_subset.Given as goal
-
-abbrev pub invariant-loop-row : goal.invariant-loop-row
-invariant-loop-row l = All (λ (row : Row). IsRowIn row l.other) (take l.row-index l.row-items)

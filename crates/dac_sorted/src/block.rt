@@ -1,0 +1,90 @@
+//! Blocks of entries, which maps share.
+ghost use Rattle.std.specs.Prelude.{◌≡◌, IfOk, OnOk, OnErr};
+ghost use Rattle.std.specs.Arc.{arc_value};
+ghost use Rattle.std.specs.FinMap.{put};
+ghost use Rattle.dac_lattice.specs.Search.{IsInOrder, without};
+ghost use Rattle.dac_sorted.specs.Digests.{SaysAll};
+
+use crate::digest::Digest;
+use dac_lattice::merging::{put_entry, remove_entry};
+use dac_origins::{MapKey, NoMemory};
+use std::alloc::Global;
+use std::marker::Model;
+use std::sync::Arc;
+
+/// A list of entries with their digest. It changes only while no other map shares it. Contracts treat it as its
+/// entries.
+#[derive(Drop)]
+pub(crate) struct Block<K: MapKey, V: Drop, D: Digest<K, V>> {
+    digest: D,
+    entries: Vec<(K, V)>,
+}
+
+impl<K: MapKey, V: Drop, D: Digest<K, V>> Model for Block<K, V, D> {
+    ghost use Rattle.std.specs.Prelude.{List};
+    ghost use Rattle.dac_sorted.specs.Digests.{SaysAll};
+
+    ghost Value = { List (K × V) };
+
+    ghost view = { λ a. a.entries.items };
+
+    ghost invariant = { λ a. SaysAll (D.says a.digest) a.entries.items };
+}
+
+impl<K: MapKey, V: Drop, D: Digest<K, V>> Block<K, V, D> {
+    /// A block of these entries, without spare capacity.
+    pub(crate) fn of(alloc: Global, mut entries: Vec<(K, V)>) -> Result<Arc<Self, Global>, NoMemory>
+        ensures { IfOk result (λ block. arc_value block ≡ entries.items) }
+    {
+        entries.shrink_to_fit();
+        let digest = digest_of(&entries);
+        let block = Arc::new(alloc, Block { digest, entries })?;
+        Ok(block)
+    }
+
+    /// The entries.
+    pub(crate) fn entries(&self) -> &[(K, V)]
+        ensures { result.now ≡ self.now }
+    {
+        self.entries.as_slice()
+    }
+
+    /// Their digest.
+    pub(crate) fn digest(&self) -> &D
+        ensures { SaysAll (D.says result.now) self.now }
+    {
+        &self.digest
+    }
+
+    /// Puts a value at a key, in place. After [`NoMemory`] the block is unchanged.
+    pub(crate) fn put(&mut self, key: K, value: V) -> Result<(), NoMemory>
+        requires { IsInOrder K.cmp self.old }
+        ensures ok { OnOk result (self.new ≡ put K.cmp key value self.old) }
+        ensures err { OnErr result (self.new ≡ self.old) }
+    {
+        put_entry(&mut self.entries, key, value)?;
+        // A digest only gains entries, so the one of the new entries is made anew.
+        self.digest = digest_of(&self.entries);
+        Ok(())
+    }
+
+    /// Removes a key's entry, if it is there, in place.
+    pub(crate) fn remove(&mut self, key: K)
+        requires { IsInOrder K.cmp self.old }
+        ensures { self.new ≡ without K.cmp key self.old }
+    {
+        remove_entry(&mut self.entries, key);
+        self.digest = digest_of(&self.entries);
+    }
+}
+
+/// The digest of these entries.
+fn digest_of<K: MapKey, V: Drop, D: Digest<K, V>>(entries: &[(K, V)]) -> D
+    ensures { SaysAll (D.says result) entries.now }
+{
+    let mut digest = D::none();
+    for (key, value) in entries {
+        digest.put(*key, value);
+    }
+    digest
+}

@@ -1,0 +1,29 @@
+//! Sorted maps whose copies share memory.
+//!
+//! A [`SortedMap`] stores its entries in blocks that maps share, and the last ones in a list after them; a small map is
+//! that list alone. Contracts treat a map as the list of its entries in key order and say nothing about blocks. One
+//! merge ([`SortedMap::merge`]) combines two maps key by key, as a [`Sharing`] says, and shares the blocks that stay.
+//! Each block has a [`Digest`] of its entries, by which a search or a merge passes over it.
+//!
+//! Functions that don't return `Result<_, NoMemory>` allocate nothing. A function that fails, only ever with
+//! `NoMemory`, leaves its borrowed arguments unchanged.
+#![tactic(auto)]
+
+pub use chunks::{Chunk, Chunks};
+pub use dac_lattice::merging::Combine;
+pub use dac_origins::{MapKey, NoMemory};
+pub use digest::Digest;
+pub use entries::Entries;
+pub use map::SortedMap;
+pub use sharing::Sharing;
+
+mod appending;
+mod block;
+mod chunks;
+mod counted;
+mod digest;
+mod entries;
+mod map;
+mod merging;
+mod parts;
+mod sharing;

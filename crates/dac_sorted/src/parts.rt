@@ -1,0 +1,564 @@
+//! Entries in blocks, which maps share, with a few entries after them.
+ghost use Rattle.std.specs.Prelude.{◌≡◌, ◌<◌, ◌≤◌, ◌^◌, [], ◌∷◌, ◌++◌, length, take, drop, IfOk, IfSome, OnOk, OnErr, if◌then◌else◌};
+ghost use Rattle.std.specs.Arc.{arc_value};
+ghost use Rattle.std.specs.List.{flat_map};
+ghost use Rattle.std.specs.Option.{option_copied};
+ghost use Rattle.std.specs.FinMap.{find, put};
+ghost use Rattle.dac_lattice.specs.Search.{IsInOrder, without};
+ghost use Rattle.dac_sorted.specs.Appending.{is_above_entries};
+ghost use Rattle.dac_sorted.specs.Parts.{HaveEntries, IsPartAt, IsPlaceOf, IsPutUnless, IsReplaced};
+
+use crate::appending::{ends_below, last_is_below};
+use crate::block::Block;
+use crate::digest::Digest;
+use dac_lattice::merging::{put_entry, remove_entry, value_at};
+use dac_origins::{MapKey, NoMemory};
+use std::alloc::Global;
+use std::marker::Model;
+use std::mem::replace;
+use std::sync::Arc;
+
+/// A removal leaves more than this many entries in a block, or joins it with the next one, so that maps don't fall apart
+/// into small blocks.
+const FEW: usize = 5;
+
+/// The greatest number of entries in a block. After a merge, fewer than this are in no block.
+fn most<K: MapKey, V: Drop, D: Digest<K, V>>() -> usize
+    ensures { (0 < result) × (result < 2 ^ 17) }
+{
+    D::least() * 2
+}
+
+/// Entries in blocks, and those after them. Contracts treat all entries as one list.
+#[derive(Drop)]
+pub(crate) struct Parts<K: MapKey, V: Drop, D: Digest<K, V>> {
+    blocks: Vec<Arc<Block<K, V, D>, Global>>,
+    last: Vec<(K, V)>,
+}
+
+impl<K: MapKey, V: Drop, D: Digest<K, V>> Model for Parts<K, V, D> {
+    ghost use Rattle.std.specs.Prelude.{List, ◌++◌};
+    ghost use Rattle.std.specs.List.{flat_map};
+    ghost use Rattle.std.specs.Arc.{arc_value};
+    ghost use Rattle.dac_sorted.specs.Parts.{HaveEntries};
+
+    ghost Value = { List (K × V) };
+
+    ghost view = { λ a. flat_map arc_value a.blocks.items ++ a.last.items };
+
+    // An empty block would hide those before it from a search.
+    ghost invariant = { λ a. HaveEntries arc_value a.blocks.items };
+}
+
+impl<K: MapKey, V: Drop, D: Digest<K, V>> Parts<K, V, D> {
+    /// Copies of these entries, with room for one more.
+    pub(crate) fn copied(alloc: Global, entries: &[(K, V)]) -> Result<Self, NoMemory>
+        ensures { IfOk result (λ parts. parts ≡ entries.now) }
+    {
+        let last = copy_entries::<K, V, D>(alloc, entries)?;
+        Ok(Parts {
+            blocks: Vec::new(alloc),
+            last,
+        })
+    }
+
+    /// The empty list, with room for `blocks` blocks and two more, or with no room if `blocks` is 0.
+    pub(crate) fn with_room(alloc: Global, blocks: usize) -> Result<Self, NoMemory>
+        ensures { IfOk result (λ parts. parts ≡ []) }
+    {
+        let mut room = Vec::new(alloc);
+        if blocks > 0 {
+            room.reserve_exact(blocks.saturating_add(2))?;
+        }
+        Ok(Parts {
+            blocks: room,
+            last: Vec::new(alloc),
+        })
+    }
+
+    /// The allocator of the entries' memory.
+    pub(crate) fn allocator(&self) -> Global {
+        *self.last.allocator()
+    }
+
+    /// The blocks, and the entries after them.
+    pub(crate) fn pieces(&self) -> (&[Arc<Block<K, V, D>, Global>], &[(K, V)])
+        ensures value { self.now ≡ flat_map arc_value result.0.now ++ result.1.now }
+        ensures filled { HaveEntries arc_value result.0.now }
+    {
+        (self.blocks.as_slice(), self.last.as_slice())
+    }
+
+    /// The number of entries, or `None` if it exceeds `usize`.
+    pub(crate) fn count(&self) -> Option<usize>
+        ensures { IfSome result (λ count. count ≡ length self.now) }
+    {
+        let (blocks, last) = self.pieces();
+        let mut count = last.len();
+        for block in blocks {
+            let Some(more) = count.checked_add(block.entries().len()) else {
+                return None;
+            };
+            count = more;
+        }
+        Some(count)
+    }
+
+    /// The block, or the entries after the blocks, that contains a key or would contain it.
+    fn part_at(&self, key: K) -> &[(K, V)]
+        requires { IsInOrder K.cmp self.now }
+        ensures { IsPartAt K.cmp key self.now result.now }
+    {
+        let place = place_in(&self.blocks, key);
+        match self.blocks.get(place) {
+            Some(block) => block.entries(),
+            None => self.last.as_slice(),
+        }
+    }
+
+    /// Whether each key is below this one. Requires entries in key order.
+    pub(crate) fn end_below(&self, key: K) -> bool
+        requires { IsInOrder K.cmp self.now }
+        ensures { result ≡ is_above_entries K.cmp self.now key }
+    {
+        ends_below(self.part_at(key), key)
+    }
+
+    /// The value at a key, if any. Requires entries in key order.
+    #[inline(always)]
+    pub(crate) fn get(&self, key: K) -> Option<&V>
+        requires { IsInOrder K.cmp self.now }
+        ensures { option_copied result ≡ find K.cmp key self.now }
+    {
+        value_at(self.part_at(key), key)
+    }
+
+    /// The same entries, which share the blocks.
+    pub(crate) fn copy(&self) -> Result<Self, NoMemory>
+        ensures { IfOk result (λ copied. copied ≡ self.now) }
+    {
+        let alloc = self.allocator();
+        let shared = share_blocks(alloc, self.blocks.as_slice())?;
+        let copied = copy_entries::<K, V, D>(alloc, self.last.as_slice())?;
+        Ok(Parts {
+            blocks: shared,
+            last: copied,
+        })
+    }
+
+    /// Appends an entry. After [`NoMemory`] nothing has changed.
+    #[inline(always)]
+    pub(crate) fn push(&mut self, key: K, value: V) -> Result<(), NoMemory>
+        ensures ok { OnOk result (self.new ≡ self.old ++ (key, value) ∷ []) }
+        ensures err { OnErr result (self.new ≡ self.old) }
+    {
+        // A fallible push returns its value on failure, which costs more than the test for room.
+        self.last.reserve(1)?;
+        self.last.push_reserved((key, value));
+        Ok(())
+    }
+
+    /// Makes a block of the last entries, if they suffice for one, so that the entries of a following part aren't split
+    /// again. After [`NoMemory`] the entries can have changed.
+    pub(crate) fn close(&mut self) -> Result<(), NoMemory>
+        ensures { OnOk result (self.new ≡ self.old) }
+    {
+        if self.last.len() < D::least() {
+            return Ok(());
+        }
+        seal_all(&mut self.blocks, &mut self.last)?;
+        Ok(())
+    }
+
+    /// Reserves room for `more` entries, but for no more than twice [`Digest::least`] in no block.
+    pub(crate) fn make_room(&mut self, more: usize) -> Result<(), NoMemory>
+        ensures { self.new ≡ self.old }
+    {
+        let free = most::<K, V, D>().saturating_sub(self.last.len());
+        self.last.reserve_exact(more.min(free))?;
+        Ok(())
+    }
+
+    /// Appends an entry, and if twice [`Digest::least`] are then in no block makes a block of the first of them. After
+    /// [`NoMemory`] the entries can have changed.
+    pub(crate) fn append(&mut self, key: K, value: V) -> Result<(), NoMemory>
+        ensures { OnOk result (self.new ≡ self.old ++ (key, value) ∷ []) }
+    {
+        self.push(key, value)?;
+        let least = D::least();
+        if self.last.len() < least * 2 {
+            return Ok(());
+        }
+        seal(&mut self.blocks, &mut self.last, least)?;
+        Ok(())
+    }
+
+    /// Makes blocks of the first entries that are in none, so that fewer than twice [`Digest::least`] are in none after one
+    /// more is put there. The entries are the same, even after [`NoMemory`]. A map that was made by appending has one long
+    /// list, which each change of a shared map would copy.
+    fn split_last(&mut self) -> Result<(), NoMemory>
+        ensures { self.new ≡ self.old }
+    {
+        if self.last.len() < D::least() * 2 - 1 {
+            return Ok(());
+        }
+        let (mut made, count) = first_blocks(self.allocator(), &self.last)?;
+        self.blocks.reserve(made.len())?;
+        let rest = self.last.split_off(count)?;
+        self.blocks.append(&mut made)?;
+        self.last = rest;
+        Ok(())
+    }
+
+    /// Puts a value at a key. After [`NoMemory`] nothing has changed.
+    pub(crate) fn put(&mut self, key: K, value: V) -> Result<(), NoMemory>
+        requires { IsInOrder K.cmp self.old }
+        ensures ok { OnOk result (self.new ≡ put K.cmp key value self.old) }
+        ensures err { OnErr result (self.new ≡ self.old) }
+    {
+        self.split_last()?;
+        let place = place_in(&self.blocks, key);
+        if place < self.blocks.len() {
+            return put_in_block(&mut self.blocks, place, key, value);
+        }
+        put_entry(&mut self.last, key, value)
+    }
+
+    /// Removes a key's entry, if it is there. After [`NoMemory`] nothing has changed.
+    pub(crate) fn remove(&mut self, key: K) -> Result<(), NoMemory>
+        requires { IsInOrder K.cmp self.old }
+        ensures ok { OnOk result (self.new ≡ without K.cmp key self.old) }
+        ensures err { OnErr result (self.new ≡ self.old) }
+    {
+        self.split_last()?;
+        let place = place_in(&self.blocks, key);
+        if place < self.blocks.len() {
+            return remove_from_block(&mut self.blocks, place, key);
+        }
+        remove_entry(&mut self.last, key);
+        Ok(())
+    }
+
+    /// Whether a shared block can follow without first making a block of fewer than [`Digest::least`] entries.
+    pub(crate) fn ends_whole(&self) -> bool {
+        self.last.is_empty() || self.last.len() >= D::least()
+    }
+
+    /// Appends the entries of a block, which is shared. After [`NoMemory`] the entries can have changed.
+    pub(crate) fn share(&mut self, block: &Arc<Block<K, V, D>, Global>) -> Result<(), NoMemory>
+        ensures { OnOk result (self.new ≡ self.old ++ arc_value block.now) }
+    {
+        if block.entries().is_empty() {
+            return Ok(());
+        }
+        seal_all(&mut self.blocks, &mut self.last)?;
+        self.blocks.push(Arc::try_clone(block)?)?;
+        Ok(())
+    }
+}
+
+/// The index of the first block that isn't below a key, or the number of blocks. A block is below the key if all its
+/// keys are.
+fn place_in<K: MapKey, V: Drop, D: Digest<K, V>>(
+    blocks: &[Arc<Block<K, V, D>, Global>],
+    key: K,
+) -> usize
+    requires in_order { IsInOrder K.cmp (flat_map arc_value blocks.now) }
+    requires filled { HaveEntries arc_value blocks.now }
+    ensures { IsPlaceOf K.cmp arc_value key blocks.now result }
+{
+    blocks.partition_point(|block| last_is_below(block.entries(), key))
+}
+
+/// Puts a value at a key of the block at an index: in place, unless the block is full or shared. After [`NoMemory`] the
+/// blocks are unchanged.
+fn put_in_block<K: MapKey, V: Drop, D: Digest<K, V>>(
+    blocks: &mut Vec<Arc<Block<K, V, D>, Global>>,
+    place: usize,
+    key: K,
+    value: V,
+) -> Result<(), NoMemory>
+    requires in_order { IsInOrder K.cmp (flat_map arc_value blocks.old.items) }
+    requires filled { HaveEntries arc_value blocks.old.items }
+    requires place { IsPlaceOf K.cmp arc_value key blocks.old.items place }
+    requires within { place < length blocks.old.items }
+    ensures filled { HaveEntries arc_value blocks.new.items }
+    ensures ok { OnOk result (flat_map arc_value blocks.new.items
+        ≡ put K.cmp key value (flat_map arc_value blocks.old.items)) }
+    ensures err { OnErr result
+        (flat_map arc_value blocks.new.items ≡ flat_map arc_value blocks.old.items) }
+{
+    match put_in_place(&mut blocks[place], key, value)? {
+        Some(left) => put_anew(blocks, place, key, left),
+        None => Ok(()),
+    }
+}
+
+/// Puts a value at a key of a block, in place. Returns the value, and changes nothing, if the block is full or shared.
+fn put_in_place<K: MapKey, V: Drop, D: Digest<K, V>>(
+    shared: &mut Arc<Block<K, V, D>, Global>,
+    key: K,
+    value: V,
+) -> Result<Option<V>, NoMemory>
+    requires { IsInOrder K.cmp (arc_value shared.old) }
+    ensures ok { IfOk result (λ left. IsPutUnless K.cmp key value (arc_value shared.old)
+        (arc_value shared.new) left) }
+    ensures err { OnErr result (arc_value shared.new ≡ arc_value shared.old) }
+{
+    match Arc::get_mut(shared) {
+        Some(block) if block.entries().len() < most::<K, V, D>() => {
+            block.put(key, value)?;
+            Ok(None)
+        }
+        _ => Ok(Some(value)),
+    }
+}
+
+/// Replaces the block at an index by one, or two, with a value at a key. After [`NoMemory`] the blocks are unchanged.
+fn put_anew<K: MapKey, V: Drop, D: Digest<K, V>>(
+    blocks: &mut Vec<Arc<Block<K, V, D>, Global>>,
+    place: usize,
+    key: K,
+    value: V,
+) -> Result<(), NoMemory>
+    requires in_order { IsInOrder K.cmp (flat_map arc_value blocks.old.items) }
+    requires filled { HaveEntries arc_value blocks.old.items }
+    requires place { IsPlaceOf K.cmp arc_value key blocks.old.items place }
+    requires within { place < length blocks.old.items }
+    ensures filled { HaveEntries arc_value blocks.new.items }
+    ensures ok { OnOk result (flat_map arc_value blocks.new.items
+        ≡ put K.cmp key value (flat_map arc_value blocks.old.items)) }
+    ensures err { OnErr result (blocks.new.items ≡ blocks.old.items) }
+{
+    let alloc = *blocks.allocator();
+    let mut own = copy_entries::<K, V, D>(alloc, blocks[place].entries())?;
+    put_entry(&mut own, key, value)?;
+    replace_block(blocks, place, own)
+}
+
+/// Blocks of copies of the first of these entries, and the number of these, which leaves fewer than twice
+/// [`Digest::least`] after one more is put among the others.
+fn first_blocks<K: MapKey, V: Drop, D: Digest<K, V>>(
+    alloc: Global,
+    entries: &[(K, V)],
+) -> Result<(Vec<Arc<Block<K, V, D>, Global>>, usize), NoMemory>
+    ensures filled { IfOk result (λ first. HaveEntries arc_value first.0.items) }
+    ensures within { IfOk result (λ first. first.1 ≤ length entries.now) }
+    ensures same { IfOk result
+        (λ first. flat_map arc_value first.0.items ≡ take first.1 entries.now) }
+{
+    let least = D::least();
+    let mut made = Vec::new(alloc);
+    let mut count = 0;
+    while entries.len() - count >= least * 2 - 1 {
+        let own = copy_entries::<K, V, D>(alloc, &entries[count..count + least])?;
+        made.push(Block::of(alloc, own)?)?;
+        count += least;
+    }
+    Ok((made, count))
+}
+
+/// Replaces the block at an index by one of these entries, or by two if they are many. After [`NoMemory`] the blocks are
+/// unchanged.
+fn replace_block<K: MapKey, V: Drop, D: Digest<K, V>>(
+    blocks: &mut Vec<Arc<Block<K, V, D>, Global>>,
+    place: usize,
+    entries: Vec<(K, V)>,
+) -> Result<(), NoMemory>
+    requires filled { HaveEntries arc_value blocks.old.items }
+    requires within { place < length blocks.old.items }
+    requires some { 0 < length entries.items }
+    ensures filled { HaveEntries arc_value blocks.new.items }
+    ensures ok { OnOk result (IsReplaced arc_value place entries.items blocks.old.items blocks.new.items) }
+    ensures err { OnErr result (blocks.new.items ≡ blocks.old.items) }
+{
+    let alloc = *entries.allocator();
+    if entries.len() <= most::<K, V, D>() {
+        blocks[place] = Block::of(alloc, entries)?;
+        return Ok(());
+    }
+    let mut lower = entries;
+    let upper = lower.split_off(lower.len() / 2)?;
+    let first = Block::of(alloc, lower)?;
+    let second = Block::of(alloc, upper)?;
+    blocks.insert(place + 1, second)?;
+    blocks[place] = first;
+    Ok(())
+}
+
+/// Removes a key's entry, if it is there, from the block at an index: in place, unless the block is shared or would be
+/// too small. After [`NoMemory`] the blocks are unchanged.
+fn remove_from_block<K: MapKey, V: Drop, D: Digest<K, V>>(
+    blocks: &mut Vec<Arc<Block<K, V, D>, Global>>,
+    place: usize,
+    key: K,
+) -> Result<(), NoMemory>
+    requires in_order { IsInOrder K.cmp (flat_map arc_value blocks.old.items) }
+    requires filled { HaveEntries arc_value blocks.old.items }
+    requires place { IsPlaceOf K.cmp arc_value key blocks.old.items place }
+    requires within { place < length blocks.old.items }
+    ensures filled { HaveEntries arc_value blocks.new.items }
+    ensures ok { OnOk result (flat_map arc_value blocks.new.items
+        ≡ without K.cmp key (flat_map arc_value blocks.old.items)) }
+    ensures err { OnErr result
+        (flat_map arc_value blocks.new.items ≡ flat_map arc_value blocks.old.items) }
+{
+    if remove_in_place(&mut blocks[place], key) {
+        return Ok(());
+    }
+    remove_anew(blocks, place, key)
+}
+
+/// Removes a key's entry, if it is there, from a block, in place. Returns false, and changes nothing, if the block is
+/// shared or would be too small.
+fn remove_in_place<K: MapKey, V: Drop, D: Digest<K, V>>(
+    shared: &mut Arc<Block<K, V, D>, Global>,
+    key: K,
+) -> bool
+    requires { IsInOrder K.cmp (arc_value shared.old) }
+    ensures removed { arc_value shared.new
+        ≡ (if result then without K.cmp key (arc_value shared.old) else arc_value shared.old) }
+    ensures filled { 0 < length (arc_value shared.old) → 0 < length (arc_value shared.new) }
+{
+    match Arc::get_mut(shared) {
+        Some(block) if block.entries().len() > FEW + 1 => {
+            block.remove(key);
+            true
+        }
+        _ => false,
+    }
+}
+
+/// Replaces the block at an index by one without a key. After [`NoMemory`] the blocks are unchanged.
+fn remove_anew<K: MapKey, V: Drop, D: Digest<K, V>>(
+    blocks: &mut Vec<Arc<Block<K, V, D>, Global>>,
+    place: usize,
+    key: K,
+) -> Result<(), NoMemory>
+    requires in_order { IsInOrder K.cmp (flat_map arc_value blocks.old.items) }
+    requires filled { HaveEntries arc_value blocks.old.items }
+    requires place { IsPlaceOf K.cmp arc_value key blocks.old.items place }
+    requires within { place < length blocks.old.items }
+    ensures filled { HaveEntries arc_value blocks.new.items }
+    ensures ok { OnOk result (flat_map arc_value blocks.new.items
+        ≡ without K.cmp key (flat_map arc_value blocks.old.items)) }
+    ensures err { OnErr result (blocks.new.items ≡ blocks.old.items) }
+{
+    let alloc = *blocks.allocator();
+    let mut own = copy_entries::<K, V, D>(alloc, blocks[place].entries())?;
+    remove_entry(&mut own, key);
+    put_back(blocks, place, own)
+}
+
+/// Replaces the block at an index by the few entries that a removal left, joined with those of the next block if there
+/// is one. After [`NoMemory`] the blocks are unchanged.
+fn put_back<K: MapKey, V: Drop, D: Digest<K, V>>(
+    blocks: &mut Vec<Arc<Block<K, V, D>, Global>>,
+    place: usize,
+    entries: Vec<(K, V)>,
+) -> Result<(), NoMemory>
+    requires filled { HaveEntries arc_value blocks.old.items }
+    requires within { place < length blocks.old.items }
+    ensures filled { HaveEntries arc_value blocks.new.items }
+    ensures ok { OnOk result (IsReplaced arc_value place entries.items blocks.old.items blocks.new.items) }
+    ensures err { OnErr result (blocks.new.items ≡ blocks.old.items) }
+{
+    let mut own = entries;
+    if own.len() <= FEW && place + 1 < blocks.len() {
+        append_copies::<K, V, D>(&mut own, blocks[place + 1].entries())?;
+        replace_block(blocks, place + 1, own)?;
+        let _joined = blocks.remove(place);
+        return Ok(());
+    }
+    if own.is_empty() {
+        let _emptied = blocks.remove(place);
+        return Ok(());
+    }
+    replace_block(blocks, place, own)
+}
+
+/// Makes a block of all of the last entries, if there are any. After [`NoMemory`] the entries can have changed.
+fn seal_all<K: MapKey, V: Drop, D: Digest<K, V>>(
+    blocks: &mut Vec<Arc<Block<K, V, D>, Global>>,
+    last: &mut Vec<(K, V)>,
+) -> Result<(), NoMemory>
+    ensures filled { HaveEntries arc_value blocks.old.items
+        → HaveEntries arc_value blocks.new.items }
+    ensures sealed { OnOk result
+        (flat_map arc_value blocks.new.items
+        ≡ flat_map arc_value blocks.old.items ++ last.old.items) }
+    ensures rest { OnOk result (last.new.items ≡ []) }
+{
+    // Most shared blocks come right after another one, so that no entry is open.
+    let count = last.len();
+    if count == 0 {
+        return Ok(());
+    }
+    seal(blocks, last, count)?;
+    Ok(())
+}
+
+/// Makes a block of the first `count` of the last entries. After [`NoMemory`] the entries can have changed.
+fn seal<K: MapKey, V: Drop, D: Digest<K, V>>(
+    blocks: &mut Vec<Arc<Block<K, V, D>, Global>>,
+    last: &mut Vec<(K, V)>,
+    count: usize,
+) -> Result<(), NoMemory>
+    requires some { 0 < count }
+    requires within { count ≤ length last.old.items }
+    ensures filled { HaveEntries arc_value blocks.old.items
+        → HaveEntries arc_value blocks.new.items }
+    ensures sealed { OnOk result
+        (flat_map arc_value blocks.new.items
+        ≡ flat_map arc_value blocks.old.items ++ take count last.old.items) }
+    ensures rest { OnOk result (last.new.items ≡ drop count last.old.items) }
+{
+    let alloc = *last.allocator();
+    let rest = last.split_off(count)?;
+    let sealed = replace(last, rest);
+    let block = Block::of(alloc, sealed)?;
+    blocks.push(block)?;
+    Ok(())
+}
+
+/// The same blocks, which both lists share.
+fn share_blocks<K: MapKey, V: Drop, D: Digest<K, V>>(
+    alloc: Global,
+    blocks: &[Arc<Block<K, V, D>, Global>],
+) -> Result<Vec<Arc<Block<K, V, D>, Global>>, NoMemory>
+    requires { HaveEntries arc_value blocks.now }
+    ensures filled { IfOk result (λ shared. HaveEntries arc_value shared.items) }
+    ensures same { IfOk result
+        (λ shared. flat_map arc_value shared.items ≡ flat_map arc_value blocks.now) }
+{
+    let mut shared = Vec::with_capacity(alloc, blocks.len())?;
+    for block in blocks {
+        shared.push(Arc::try_clone(block)?)?;
+    }
+    Ok(shared)
+}
+
+/// Appends copies of entries to a list. After [`NoMemory`] the list can have changed.
+fn append_copies<K: MapKey, V: Drop, D: Digest<K, V>>(
+    list: &mut Vec<(K, V)>,
+    entries: &[(K, V)],
+) -> Result<(), NoMemory>
+    ensures { OnOk result (list.new.items ≡ list.old.items ++ entries.now) }
+{
+    for (key, value) in entries {
+        list.push((*key, D::copy(value)?))?;
+    }
+    Ok(())
+}
+
+/// Equal entries, which share nothing, with room for one more.
+fn copy_entries<K: MapKey, V: Drop, D: Digest<K, V>>(
+    alloc: Global,
+    entries: &[(K, V)],
+) -> Result<Vec<(K, V)>, NoMemory>
+    ensures { IfOk result (λ copied. copied.items ≡ entries.now) }
+{
+    let mut copied = Vec::with_capacity(alloc, entries.len().saturating_add(1))?;
+    append_copies::<K, V, D>(&mut copied, entries)?;
+    Ok(copied)
+}
