@@ -1,2 +1,2 @@
-pub mod Last
+pub mod Ready
 pub mod Places

@@ -12,7 +12,7 @@ mod pages;
 mod reading;
 mod rule;
 
-pub use page::Page;
+pub use page::{Page, PageCopy, Update};
 pub use pages::{PageWriter, Pages};
 pub use reading::{Follower, RawReader};
 pub use rule::Rises;

@@ -5,6 +5,7 @@ ghost use Rattle.std.specs.Option.{option_copied};
 ghost use Rattle.dac_status.specs.Summaries.{summary_of};
 ghost use Rattle.dac_journal.specs.Keeping.{leaves_state};
 ghost use Rattle.dac_journal.specs.Going.{GoesOnBy, node_by};
+ghost use Rattle.dac_pages.specs.Published.{latest, updated};
 ghost use Rattle.dac_sites.specs.Paged.{page_after, page_of, known_in};
 
 use dac_base::NoMemory;
@@ -12,7 +13,8 @@ use dac_config::Config;
 use dac_journal::{Answer, Change, Journal, Next, Node};
 use dac_lattice::Bottom;
 use dac_messages::Reply;
-use dac_pages::{Page, Pages, RawReader};
+use dac_origins::Origin;
+use dac_pages::{Page, Pages, RawReader, Update};
 use dac_state::State;
 use dac_status::Summary;
 use std::alloc::Global;
@@ -30,30 +32,27 @@ pub fn page_of(alloc: Global, config: &Config, place: u64, node: &Node) -> Page
     }
 }
 
-/// The page after a prepared record, computed from the page before it. The summary is computed again only if the state
-/// can have changed.
-pub(crate) fn next_page(
+/// The update of the pages by a prepared record. The summary is computed again only if the state can have changed, or if
+/// an earlier page was prepared and not published, because then its record wasn't appended.
+pub(crate) fn next_update(
     alloc: Global,
     journal: &Journal,
-    shown: &Page,
+    pages: &Pages,
     next: &Next,
-) -> Result<Page, NoMemory>
+) -> Result<Update, NoMemory>
     requires goes { GoesOnBy journal.now.beginning journal.now.records next.now.entry
         next.now.change }
-    requires shown { shown.now ≡ page_after journal.now.beginning journal.now.records }
-    ensures { IfOk result (λ page. page
+    requires shown { pages.now.shown ≡ page_after journal.now.beginning journal.now.records }
+    ensures { IfOk result (λ update. updated (latest pages.now) update
         ≡ page_after journal.now.beginning (journal.now.records ++ next.now.entry ∷ [])) }
 {
     let node = journal.node();
     let place = journal.records().len() as u64 + 1;
-    if leaves_state(next.answer()) {
-        return Ok(Page {
-            place,
-            origin: shown.origin,
-            summary: shown.summary,
-        });
+    if leaves_state(next.answer()) && !pages.is_ready() {
+        return Ok(Update::Place(place));
     }
-    page_by(alloc, journal.config(), place, node, next.change())
+    let page = page_by(alloc, journal.config(), place, node, next.change())?;
+    Ok(Update::Whole(page))
 }
 
 /// Returns whether a result implies that the state and the incarnation stay.
@@ -75,19 +74,46 @@ fn page_by(
     place: u64,
     node: &Node,
     change: Option<&Change>,
-) -> Result<Page, NoMemory>
-    ensures { IfOk result (λ page. page
+) -> Result<Box<Page>, NoMemory>
+    ensures { IfOk result (λ page. page.value
         ≡ page_of config.now place (node_by (option_copied change.entry) node.now)) }
 {
     let Some(change) = change else {
-        return Ok(page_of(alloc, config, place, node));
+        return page_with(alloc, config, place, node.origin(), node.state());
     };
     let state = node.state_after(change)?;
-    Ok(Page {
+    page_with(
+        alloc,
+        config,
         place,
-        origin: node.origin_after(change),
-        summary: summary_of(alloc, config, state.as_ref()),
-    })
+        node.origin_after(change),
+        state.as_ref(),
+    )
+}
+
+/// A page in a box of its own, with the summary of a state, or of the bottom state if there is none. It is made in the
+/// box, because each copy of it is several KiB.
+fn page_with(
+    alloc: Global,
+    config: &Config,
+    place: u64,
+    origin: Option<Origin>,
+    state: Option<&State>,
+) -> Result<Box<Page>, NoMemory>
+    ensures { IfOk result (λ page. page.value ≡ record { place = place; origin = origin;
+        summary = summary_of config.now (known_in (option_copied state.entry)) }) }
+{
+    let bottom = State::bottom(alloc);
+    let state = match state {
+        Some(state) => state,
+        None => &bottom,
+    };
+    let page = Box::new(alloc, Page {
+        place,
+        origin,
+        summary: Summary::of(config, state),
+    })?;
+    Ok(page)
 }
 
 /// The summary of a state, or of the bottom state if there is none.
