@@ -1,6 +1,6 @@
 //! A journal with its published pages.
 
-ghost use Rattle.std.specs.Prelude.{◌≡◌, ◌^◌, ◌<◌, ◌++◌, ◌∷◌, [], IfOk};
+ghost use Rattle.std.specs.Prelude.{◌≡◌, ◌^◌, ◌<◌, ◌++◌, ◌∷◌, [], true, IfOk};
 ghost use Rattle.std.specs.Option.{option_copied};
 ghost use Rattle.dac_status.specs.Summaries.{summary_of};
 ghost use Rattle.dac_journal.specs.Keeping.{leaves_state};
@@ -33,7 +33,7 @@ pub fn page_of(alloc: Global, config: &Config, place: u64, node: &Node) -> Page
 }
 
 /// The update of the pages by a prepared record. The summary is computed again only if the state can have changed, or if
-/// an earlier page was prepared and not published, because then its record wasn't appended.
+/// a page is prepared that belongs to a record that wasn't appended.
 pub(crate) fn next_update(
     alloc: Global,
     journal: &Journal,
@@ -48,11 +48,19 @@ pub(crate) fn next_update(
 {
     let node = journal.node();
     let place = journal.records().len() as u64 + 1;
-    if leaves_state(next.answer()) && !pages.is_ready() {
+    if leaves_page(next.answer(), pages) {
         return Ok(Update::Place(place));
     }
     let page = page_by(alloc, journal.config(), place, node, next.change())?;
     Ok(Update::Whole(page))
+}
+
+/// Returns whether after a result the newest page, but for its place, is the published one.
+fn leaves_page(answer: &Answer, pages: &Pages) -> bool
+    ensures state { result ≡ true → leaves_state answer.now ≡ true }
+    ensures latest { result ≡ true → latest pages.now ≡ pages.now.shown }
+{
+    leaves_state(answer) && !pages.is_ready()
 }
 
 /// Returns whether a result implies that the state and the incarnation stay.
