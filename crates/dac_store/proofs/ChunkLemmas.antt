@@ -32,6 +32,10 @@ pub not_there : (c may : Bool) → (c ≡ true → may ≡ true) → may ≡ fal
 not_there true may f e = absurd (false≢true (sym e ∙ f refl))
 not_there false may f e = refl
 
+-- if no slot is set in both filters, the context has none of the dots
+pub one_unheard : {S : Type 0} (has : S → Dot → Bool) (s : S) (slots others : List ℕ) (heard : Dots) → MayHold has slots s → MayHaveAll others heard → AreApart slots others → IsUnheard (has s) heard
+one_unheard has s slots others heard says all apart x e = not_there (set.contains heard x) (may_have others x) (all x) (apart x (says x e))
+
 module _ {K S : Type 0} (has : S → Dot → Bool) where
   -- what holds of the dots of each store holds of those of all
   pub all_dots : (Q : Dot → Type 0) (m : List (K × S)) → SaysAll (λ _ s. (x : Dot) → has s x ≡ true → Q x) m → (x : Dot) → has_in has m x ≡ true → Q x
@@ -56,12 +60,8 @@ module _ {K S : Type 0} (has : S → Dot → Bool) where
     | false ↦ λ e. absurd (false≢true (all.1 (λ i f p. not_there (has (get_or m i f).1 x) (has_in has m x) (has_at has m i f x p) e)))
   ] refl
 
-  -- if no slot is set in both filters, the context has none of the dots
-  pub one_unheard : (s : S) (slots others : List ℕ) (heard : Dots) → MayHold has slots s → MayHaveAll others heard → AreApart slots others → IsUnheard (has s) heard
-  one_unheard s slots others heard says all apart x e = not_there (set.contains heard x) (may_have others x) (all x) (apart x (says x e))
-
   pub apart_unheard : (m : List (K × S)) (slots others : List ℕ) (heard : Dots) → SaysAll (λ _ s. MayHold has slots s) m → MayHaveAll others heard → AreApart slots others → IsUnheard (has_in has m) heard
-  apart_unheard m slots others heard says all apart = all_dots (λ x. set.contains heard x ≡ false) m (λ i e p. one_unheard (get_or m i e).1 slots others heard (says i e p) all apart)
+  apart_unheard m slots others heard says all apart = all_dots (λ x. set.contains heard x ≡ false) m (λ i e p. one_unheard has (get_or m i e).1 slots others heard (says i e p) all apart)
 
   -- the dots of one entry
   pub one_has : (e : K × S) (x : Dot) → has_in has (e ∷ []) x ≡ true → has e.1 x ≡ true
