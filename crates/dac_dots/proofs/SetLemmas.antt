@@ -299,7 +299,7 @@ module _ (es : List (Origin × List ℕ)) (dots : Dots) (view : dots_of es ≡ d
       ∙ ap (λ (s : Dots). set.len s) (set.same_set dots_total exact_dots _ _ (λ q. set.contains-from_list dots_total (listed es) q ∙ has_listed es q ∙ sym (contains_any es dots view q)))
 
 pub counted_append : (es fs : List (Origin × List ℕ)) → counted (es ++ fs) ≡ counted es + counted fs
-counted_append [] fs = refl
+counted_append [] fs = omega arith
 counted_append (e ∷ es) fs = let more = counted_append es fs in omega arith
 
 pub no_count : (es : List (Origin × List ℕ)) → length es ≡ 0 → counted es ≡ 0
