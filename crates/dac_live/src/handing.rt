@@ -50,10 +50,7 @@ fn boxed(alloc: Global, read: Option<Page>) -> Result<Option<BoxedPage>, NoMemor
 }
 
 /// The result of a line that reads, and its page.
-fn seen_as(
-    alloc: Global,
-    reading: Reading,
-) -> Result<(LineAnswer, Option<BoxedPage>), NoMemory>
+fn seen_as(alloc: Global, reading: Reading) -> Result<(LineAnswer, Option<BoxedPage>), NoMemory>
     ensures { IfOk result (λ told. told ≡ seen_as reading) }
 {
     match reading {

@@ -35,12 +35,12 @@ impl Page {
     }
 }
 
-/// An update of a page. It is small, because a page is several KiB and most events leave all of it but the place.
+/// An update of a page. It is small, since a page is several KiB.
 #[derive(Drop)]
 pub enum Update {
-    /// Only the place changes, to this one.
+    /// Sets the place. The rest of the page stays.
     Place(u64),
-    /// This page replaces the one before it.
+    /// Replaces the page.
     Whole(Box<Page>),
 }
 

@@ -108,19 +108,25 @@ fn page_with(
     origin: Option<Origin>,
     state: Option<&State>,
 ) -> Result<Box<Page>, NoMemory>
-    ensures { IfOk result (λ page. page.value ≡ record { place = place; origin = origin;
-        summary = summary_of config.now (known_in (option_copied state.entry)) }) }
+    ensures { IfOk result (λ page. page.value ≡ record {
+      place = place;
+      origin = origin;
+      summary = summary_of config.now (known_in (option_copied state.entry));
+    }) }
 {
     let bottom = State::bottom(alloc);
     let state = match state {
         Some(state) => state,
         None => &bottom,
     };
-    let page = Box::new(alloc, Page {
-        place,
-        origin,
-        summary: Summary::of(config, state),
-    })?;
+    let page = Box::new(
+        alloc,
+        Page {
+            place,
+            origin,
+            summary: Summary::of(config, state),
+        },
+    )?;
     Ok(page)
 }
 
