@@ -1,9 +1,11 @@
 -- From the results of the run and the weave to the result of the script.
-use Rattle.std.proofs.Common.{◌≡◌, ℕ, suc, List, [], ◌∷◌, Ok, Err, true≢false, Bor, length, map, refl, sym, ap, subst, ◌∙◌, arith}
+use Rattle.std.proofs.Common.{◌≡◌, ℕ, suc, ◌<◌, ◌≤◌, List, [], ◌∷◌, Ok, Err, true≢false, Bor, length, map, refl, sym, ap, subst, ◌∙◌, arith}
 use Rattle.dac_live_play.proofs.Common.{Table, LiveLine, PlayFault, parts_of, lines_in, AsksAs, IsReportOf, IsFaultOf}
 use Rattle.std.proofs.lemmas.List.Splits.{length-slice_split}
 use Rattle.std.specs.Prelude.{All}
 use Rattle.std.specs.Result.{is_ok}
+use Rattle.dac_base.specs.declared.limits.TheConstants.{MAX_NODES}
+use Rattle.dac_live.specs.Nodes.{AreNodes}
 use Rattle.dac_live.specs.Phase.{Phase}
 use Rattle.dac_live.specs.declared.report.LiveReport.{LiveReport}
 use Rattle.dac_sites.specs.Journals.{JournalValue}
@@ -38,6 +40,10 @@ pub weave_fails : (table : Table) (script : List LiveLine) (report : LiveReport)
 weave_fails table script report (weave.Unwoven node place) why reported ends end stops is =
     subst (IsFaultOf table script) (sym is) (record { report = report; reported = reported; ends = ends; end = end; stops = stops })
 weave_fails table script report weave.NoMemory why reported ends end stops is = subst (IsFaultOf table script) (sym is) tt
+
+-- as many journals as nodes, of which there are few
+pub few_journals : (nodes : ℕ) (journals closed : List JournalValue) → journals ≡ closed → AreNodes nodes closed → (4 < nodes → ⊥) → length journals ≤ MAX_NODES
+few_journals nodes journals closed is all few = omega (arith, ap (λ (js : List JournalValue). length js) is, all.many, few)
 
 -- ---- the ends of phases
 rises : (last : List ℕ) (rows : List (List ℕ)) (before : List ℕ) → RiseTo last rows before → Rises last rows before

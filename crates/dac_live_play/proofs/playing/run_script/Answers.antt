@@ -10,7 +10,7 @@ use Rattle.dac_weave.specs.Phased.{GivesPhases, IsPhaseFault}
 use Rattle.dac_live_play.specs.Runs.{IsReport}
 use Rattle.dac_live_play.specs.Texts.{run_text}
 use Rattle.dac_live_play.proofs.Owed.{phases_owe}
-use Rattle.dac_live_play.proofs.Reports.{no_error, asks_script, weave_fails, are_ends, woven, have_callers}
+use Rattle.dac_live_play.proofs.Reports.{no_error, asks_script, weave_fails, few_journals, are_ends, woven, have_callers}
 use Rattle.dac_live_play.proofs.playing.run_script.Goals as goal
 
 pub run_live-requires-after_bounds : goal.run_live-requires-after_bounds
@@ -22,10 +22,9 @@ pub phase_ends-requires : goal.phase_ends-requires
 phase_ends-requires g c =
     let asked = c.as_slice-asked.result.now in
     let run = c.in_ok-report.ensures in
-    let closed = c.in_ok-report.report.closed in
     let asks : AsksAs asked (parts_of c.args.script.now) = asks_script c.args.script.now asked c.in_ok-phases.phases.items c.deref.result.now c.in_ok-parts.parts.items c.as_slice-asked.ensures.value c.in_ok-phases.ensures c.deref.ensures.value c.in_ok-parts.ensures in
     record {
-      few = ?;
+      few = few_journals (node_count c.args.config.now) c.as_slice-journals.result.now c.in_ok-report.report.closed c.as_slice-journals.ensures run.nodes (λ many. no_error _ _ (run.many many));
       callers = have_callers (node_count c.args.config.now) asked (phases_owe (node_count c.args.config.now) c.args.script.now asked c.requires asks);
       seats = subst SeatsHold (sym c.as_slice-journals.ensures) run.seats;
       falls = subst (FallIntoPhases asked) (sym c.as_slice-journals.ensures) run.phases;
