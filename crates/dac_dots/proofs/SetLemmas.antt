@@ -23,7 +23,7 @@ use Rattle.dac_origins.specs.declared.dot.Origin.{Origin}
 use Rattle.dac_origins.specs.declared.dot.Dot.{Dot}
 use Rattle.dac_lattice.specs.Search.{IsInOrder, AtEachKey}
 use Rattle.dac_lattice.specs.laws.EntryLaws.{first, second, less as below, greater, each_entry}
-use Rattle.dac_dots.specs.Entries.{AreRows, AreSome, dots_of, has_at, rows_at, united}
+use Rattle.dac_dots.specs.Entries.{AreRows, AreSome, counted, dots_of, has_at, rows_at, united}
 use Rattle.dac_dots.specs.Rows.{IsGreatest, any_row, further_of, reach_of}
 use Rattle.dac_dots.specs.laws.CounterLaws.{is_same}
 use Rattle.dac_dots.specs.laws.EntryRows.{AreFull, AreIn, contains_at, not_full, put_at, row_counter, rows_put, some_there, united_has as has_both, vector_from}
@@ -250,11 +250,6 @@ abbrev listed : List (Origin × List ℕ) → List Dot
 listed [] = []
 listed (e ∷ es) = map (dot e.0) e.1 ++ listed es
 
--- the number of counters of all entries
-abbrev pub counted : List (Origin × List ℕ) → ℕ
-counted [] = 0
-counted (e ∷ es) = length e.1 + counted es
-
 has_listed : (es : List (Origin × List ℕ)) (q : Dot) → has_key dot_cmp (listed es) q ≡ any_at es q
 has_listed [] q = refl
 has_listed (e ∷ es) q = list_any-append (eq_by_cmp dot_cmp q) (map (dot e.0) e.1) (listed es) ∙ (λ i. has_dots e.0 e.1 q i || has_listed es q i)
@@ -302,6 +297,10 @@ module _ (es : List (Origin × List ℕ)) (dots : Dots) (view : dots_of es ≡ d
       sym (length_listed es)
       ∙ len_rising dots_total (listed es) (rising_listed es is)
       ∙ ap (λ (s : Dots). set.len s) (set.same_set dots_total exact_dots _ _ (λ q. set.contains-from_list dots_total (listed es) q ∙ has_listed es q ∙ sym (contains_any es dots view q)))
+
+pub counted_append : (es fs : List (Origin × List ℕ)) → counted (es ++ fs) ≡ counted es + counted fs
+counted_append [] fs = omega arith
+counted_append (e ∷ es) fs = let more = counted_append es fs in omega arith
 
 pub no_count : (es : List (Origin × List ℕ)) → length es ≡ 0 → counted es ≡ 0
 no_count [] p = refl

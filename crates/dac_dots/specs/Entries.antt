@@ -1,5 +1,5 @@
 -- A context as the entries of a map from origins to counters.
-use Rattle.std.specs.Prelude.{ℕ, ◌≤◌, Bool, false, List, ◌++◌, length, map, Option, None, Some}
+use Rattle.std.specs.Prelude.{ℕ, ◌+◌, ◌≤◌, Bool, false, List, [], ◌∷◌, ◌++◌, length, map, Option, None, Some}
 use Rattle.std.specs.Ordering.{nat_cmp}
 use Rattle.std.specs.FinSet as set
 use Rattle.dac_origins.specs.Keys.{IsRising, has_key}
@@ -37,3 +37,8 @@ abbrev pub united : Option (List ℕ) → Option (List ℕ) → Option (List ℕ
 united None theirs = theirs
 united (Some mine) None = Some mine
 united (Some mine) (Some theirs) = Some (in_order (set.from_list {R = nat_cmp} (mine ++ theirs)))
+
+-- the number of the entries' counters
+abbrev pub counted : List (Origin × List ℕ) → ℕ
+counted [] = 0
+counted (e ∷ es) = length e.1 + counted es

@@ -10,7 +10,7 @@ ghost use Rattle.dac_dots.specs.Rows.{AreRowsOf, CanFollow, rows_of};
 use crate::counters::Counters;
 use crate::filter::DotFilter;
 use crate::further::Further;
-use crate::rows::{Rows, Unite, ascends_from, has_no_dots};
+use crate::rows::{Rows, Unite, ascends_from, has_no_dots, room_after};
 use dac_base::{MAX_COUNTER, NoMemory};
 use dac_origins::{Dot, Origin};
 use dac_sorted::SortedMap;
@@ -185,12 +185,12 @@ impl Context {
         if self.rows.len() > most {
             return false;
         }
-        let mut len = 0;
-        let mut entries = self.rows.entries();
-        while let Some((_, counters)) = entries.next() {
-            len += counters.len();
-            if len > most as u128 {
-                return false;
+        let mut room = most as u128;
+        let mut chunks = self.rows.chunks();
+        while let Some(chunk) = chunks.next() {
+            match room_after(room, chunk.entries) {
+                Some(rest) => room = rest,
+                None => return false,
             }
         }
         true

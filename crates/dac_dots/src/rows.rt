@@ -1,5 +1,6 @@
 //! The counters of each origin, as the values of a sorted map.
-ghost use Rattle.std.specs.Prelude.{◌≡◌, ◌↔◌, ◌+◌, length, IsTrue};
+ghost use Rattle.std.specs.Prelude.{◌≡◌, ◌↔◌, ◌+◌, ◌<◌, length, IsTrue, MatchOption};
+ghost use Rattle.dac_dots.specs.Entries.{counted};
 ghost use Rattle.dac_dots.specs.Rows.{rises_on};
 
 use crate::counters::Counters;
@@ -97,4 +98,20 @@ pub(crate) fn ascends_from(upto: u64, numbers: &[u64]) -> bool
         before = *n;
     }
     true
+}
+
+/// The room that the dots of these entries leave, or `None` if they don't fit.
+pub(crate) fn room_after(room: u128, entries: &[(Origin, Counters)]) -> Option<u128>
+    ensures { MatchOption result (room < counted entries.now)
+        (λ rest. rest + counted entries.now ≡ room) }
+{
+    let mut rest = room;
+    for (_, counters) in entries {
+        let len = counters.len();
+        if len > rest {
+            return None;
+        }
+        rest -= len;
+    }
+    Some(rest)
 }

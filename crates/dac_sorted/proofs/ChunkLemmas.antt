@@ -1,5 +1,5 @@
 -- The next entries of a map.
-use Rattle.std.proofs.Common.{◌≡◌, ℕ, ◌+◌, ◌-◌, ◌<◌, ◌≤◌, zero, suc, Option, None, Some, List, [], ◌∷◌, ◌++◌, length, refl, sym, ap, subst, ◌∙◌, arith, append_assoc, length-append}
+use Rattle.std.proofs.Common.{◌≡◌, ℕ, ◌+◌, ◌-◌, ◌<◌, ◌≤◌, zero, suc, Option, None, Some, List, [], ◌∷◌, ◌++◌, length, refl, sym, ap, subst, ◌∙◌, arith, append_assoc}
 use Rattle.std.specs.List.{flat_map, slice_get}
 use Rattle.std.specs.Borrow.{Bor}
 use Rattle.std.specs.Option.{option_copied}
@@ -31,9 +31,6 @@ module _ {E : Type 0} where
   pub looked_up : (xs : List E) (i : ℕ) (r : Option (Bor E)) → i < length xs → IsItemAt xs i r → option_copied r ≡ slice_get xs i
   looked_up xs i None p at = let past = at.3 in absurd (omega (arith, p, past))
   looked_up xs i (Some b) p at = ap (λ x. Some x) at.1 ∙ sym (slice_get-get_or xs i b.now p)
-
-  pub fewer_left : (old chunk new : List E) → old ≡ chunk ++ new → 0 < length chunk → length new < length old
-  fewer_left old chunk new is p = let long = ap length is ∙ length-append chunk new in omega (arith, long)
 
 module _ {E B : Type 0} (value : B → List E) where
   -- the later blocks have entries too

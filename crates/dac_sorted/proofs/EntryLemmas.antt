@@ -1,5 +1,5 @@
 -- An iterator over entries: those of the current block, and the later ones.
-use Rattle.std.proofs.Common.{◌≡◌, ◌<◌, ◌≤◌, true, false, List, [], ◌∷◌, ◌++◌, Option, None, Some, MatchOption, length, drop, refl, sym, ap, ◌∙◌, arith, add-one, append_assoc, nat_eq, true≢false, true, append-nil}
+use Rattle.std.proofs.Common.{◌≡◌, ◌<◌, ◌≤◌, true, false, List, [], ◌∷◌, ◌++◌, Option, None, Some, MatchOption, length, drop, refl, sym, ap, ◌∙◌, arith, append_assoc, nat_eq, true≢false, true, append-nil}
 use Rattle.std.proofs.lemmas.Bool.{eqb-true}
 use Rattle.std.specs.Borrow.{Bor}
 use Rattle.std.specs.Option.{option_copied}
@@ -48,12 +48,6 @@ module _ {E : Type 0} where
   pub nil_of : (here there : List E) → there ≡ here → nat_eq (length here) 0 ≡ true → there ≡ []
   nil_of [] there e p = e
   nil_of (x ∷ here) there e p = let none = eqb-true (length (x ∷ here)) 0 p in absurd (omega (arith, none))
-
-  -- one entry fewer remains
-  pub shorter : (now next : List E) (e : E) → now ≡ e ∷ next → length next < length now
-  shorter now next e is =
-      let long = ap length is ∙ sym (add-one (length next)) in
-      omega (arith, long)
 
   module _ {B : Type 0} (value : B → List E) where
     -- after an empty block

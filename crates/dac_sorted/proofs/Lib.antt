@@ -1,8 +1,7 @@
 mod PartLemmas
 mod EntryLemmas
 mod JoinLemmas
-mod PutLemmas
-mod RemoveLemmas
+mod ChangeLemmas
 mod ReplaceLemmas
 mod SeekLemmas
 mod ChunkLemmas

@@ -10,17 +10,17 @@ use Rattle.std.specs.FinMap.{find}
 use Rattle.std.specs.FinMap.Entries.{below_all}
 use Rattle.std.proofs.lemmas.Bool.{false≢true, and_parts}
 use Rattle.std.proofs.lemmas.Grind.{flat_map-append}
-use Rattle.std.proofs.lemmas.List.{drop_all, drop_more, get_or_append_left, take_all, take_more}
-use Rattle.std.proofs.lemmas.List.Elements.{All-append, All-push, All-tail}
+use Rattle.std.proofs.lemmas.List.{drop_all, drop_more, take_all, take_more}
+use Rattle.std.proofs.lemmas.List.Elements.{All-push, All-tail}
 use Rattle.std.proofs.lemmas.List.Folds.{list_all-append}
 use Rattle.std.proofs.lemmas.Map.Lookups.{CmpEqualImpliesEq}
-use Rattle.std.proofs.Math.Facts.{yes_and}
 use Rattle.dac_origins.specs.laws.KeyLaws.{greater}
 use Rattle.dac_lattice.specs.Search.{IsInOrder}
 use Rattle.dac_lattice.specs.laws.Entries.{find_below, below_more}
 use Rattle.dac_lattice.specs.laws.EntryLaws.{first, second, less}
 use Rattle.dac_sorted.specs.Appending.{is_above_entries}
 use Rattle.dac_sorted.specs.laws.Appending.{above_before, above_last_entry}
+use Rattle.dac_sorted.specs.laws.Parted.{below_left, sorted_left, sorted_right}
 use Rattle.dac_sorted.specs.Parts.{HaveEntries, IsPartAt, IsPlaceOf}
 
 -- ---- the blocks from an index on
@@ -113,50 +113,12 @@ pub none_left : {E : Type 0} (last : List E) → length last ≤ 0 → last ≡ 
 none_left [] p = refl
 none_left (e ∷ es) p = absurd (omega arith)
 
--- ---- properties of lists
-
--- the property holds of a list exactly if it holds of its two parts
-pub record Splits {E : Type 0} (P : List E → Type 0) : Type 0 where
-  pub both : (xs ys : List E) → P xs → P ys → P (xs ++ ys)
-  pub left : (xs ys : List E) → P (xs ++ ys) → P xs
-  pub right : (xs ys : List E) → P (xs ++ ys) → P ys
-
--- ---- properties of each entry
-
-each_left : {E : Type 0} (P : E → Type 0) (xs ys : List E) → All P (xs ++ ys) → All P xs
-each_left P xs ys all i d p =
-    let long = length-append xs ys in
-    subst P (get_or_append_left xs ys d i p) (all i d (omega (arith, long, p)))
-
-each_right : {E : Type 0} (P : E → Type 0) (xs ys : List E) → All P (xs ++ ys) → All P ys
-each_right P [] ys all = all
-each_right P (x ∷ xs) ys all = each_right P xs ys (λ i d p. all (suc i) d (omega arith))
-
-pub each_splits : {E : Type 0} (P : E → Type 0) → Splits (All P)
-each_splits P = record { both = All-append P; left = each_left P; right = each_right P }
-
 -- ---- keys in order
 
 module _ {K X : Type 0} (R : K → K → Ordering) where
-  below_left : (k : K) (xs ys : List (K × X)) → T (below_all R k (xs ++ ys)) → T (below_all R k xs)
-  below_left k [] ys h = tt
-  below_left k (x ∷ xs) ys h = yes_and _ _ (first _ _ h) (below_left k xs ys (second _ _ h))
-
-  pub below_right : (k : K) (xs ys : List (K × X)) → T (below_all R k (xs ++ ys)) → T (below_all R k ys)
-  below_right k [] ys h = h
-  below_right k (x ∷ xs) ys h = below_right k xs ys (second _ _ h)
-
-  pub sorted_left : (xs ys : List (K × X)) → IsInOrder R (xs ++ ys) → IsInOrder R xs
-  sorted_left [] ys h = tt
-  sorted_left (x ∷ xs) ys h = yes_and _ _ (below_left x.0 xs ys (first _ _ h)) (sorted_left xs ys (second _ _ h))
-
   -- the blocks' entries are in order
   pub blocks_sorted : {B : Type 0} (value : B → List (K × X)) (blocks : List B) (last whole : List (K × X)) → flat_map value blocks ++ last ≡ whole → IsInOrder R whole → IsInOrder R (flat_map value blocks)
-  blocks_sorted value blocks last whole split s = sorted_left (flat_map value blocks) last (subst (IsInOrder R) (sym split) s)
-
-  pub sorted_right : (xs ys : List (K × X)) → IsInOrder R (xs ++ ys) → IsInOrder R ys
-  sorted_right [] ys h = h
-  sorted_right (x ∷ xs) ys h = sorted_right xs ys (second _ _ h)
+  blocks_sorted value blocks last whole split s = sorted_left R (flat_map value blocks) last (subst (IsInOrder R) (sym split) s)
 
   -- a key is above the entries of the whole exactly if it is above those of each part
   above_parts : (k : K) (xs ys : List (K × X)) → is_above_entries R (xs ++ ys) k ≡ (is_above_entries R xs k && is_above_entries R ys k)

@@ -8,7 +8,8 @@ use Rattle.std.proofs.lemmas.List.Elements.{All-append, All-set}
 use Rattle.dac_lattice.specs.Search.{IsInOrder}
 use Rattle.dac_sorted.specs.Appending.{is_above_entries}
 use Rattle.dac_sorted.specs.Parts.{HaveEntries, IsPlaceOf, IsReplaced}
-use Rattle.dac_sorted.proofs.PartLemmas.{each_splits, next_block, sorted_left, sorted_right}
+use Rattle.dac_sorted.specs.laws.Parted.{each_left, each_right, sorted_left, sorted_right}
+use Rattle.dac_sorted.proofs.PartLemmas.{next_block}
 
 module _ {E B : Type 0} (value : B → List E) where
   -- the entries before, in and after a block
@@ -87,9 +88,9 @@ module _ {E B : Type 0} (value : B → List E) where
 
   pub filled_removed : (blocks : List B) (i : ℕ) → HaveEntries value blocks → HaveEntries value (take i blocks ++ drop (i + 1) blocks)
   filled_removed blocks i full =
-      let parts = each_splits (λ (b : B). 0 < length (value b)) in
+      let some = λ (b : B). 0 < length (value b) in
       let all = (λ (n : ℕ). subst (HaveEntries value) (sym (take-append-drop n blocks)) full) in
-      All-append (λ b. 0 < length (value b)) (take i blocks) (drop (i + 1) blocks) (parts.left (take i blocks) (drop i blocks) (all i)) (parts.right (take (i + 1) blocks) (drop (i + 1) blocks) (all (i + 1)))
+      All-append some (take i blocks) (drop (i + 1) blocks) (each_left some (take i blocks) (drop i blocks) (all i)) (each_right some (take (i + 1) blocks) (drop (i + 1) blocks) (all (i + 1)))
 
   pub filled_set : (blocks : List B) (i : ℕ) (b : B) → HaveEntries value blocks → 0 < length (value b) → HaveEntries value (slice_set blocks i b)
   filled_set blocks i b full here = All-set (λ b. 0 < length (value b)) blocks i b here full

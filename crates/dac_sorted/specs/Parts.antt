@@ -4,7 +4,7 @@ use Rattle.std.specs.List.{All, AllWithin, flat_map}
 use Rattle.std.specs.declared.cmp.Ordering.{Ordering}
 use Rattle.std.specs.Ordering.{is_lt}
 use Rattle.std.specs.FinMap.{find, put}
-use Rattle.dac_lattice.specs.Search.{IsInOrder}
+use Rattle.dac_lattice.specs.Search.{IsInOrder, without}
 use Rattle.dac_sorted.specs.Appending.{is_above_entries}
 
 -- no block is empty
@@ -29,10 +29,16 @@ pub record IsReplaced {B E : Type 0} (value : B → List E) (place : ℕ) (entri
   pub before : take place new ≡ take place old
   pub after : flat_map value (drop place new) ≡ entries ++ flat_map value (drop (place + 1) old)
 
--- a value is put at the key, or it is left and the entries are the same
-abbrev pub IsPutUnless : {K X : Type 0} → (K → K → Ordering) → K → X → List (K × X) → List (K × X) → Option X → Type 0
-IsPutUnless R key value old new None = new ≡ put R key value old
-IsPutUnless R key value old new (Some left) = (left ≡ value) × (new ≡ old)
+-- a value is put at the key, or without a value the key is removed
+abbrev pub changed : {K X : Type 0} → (K → K → Ordering) → K → Option X → List (K × X) → List (K × X)
+changed R key None m = without R key m
+changed R key (Some value) m = put R key value m
+
+-- the entries are changed, or the value is left and they are the same
+abbrev pub IsChangedUnless : {K X : Type 0} → (K → K → Ordering) → K → Option X → List (K × X) → List (K × X) → Option (Option X)
+    → Type 0
+IsChangedUnless R key value old new None = new ≡ changed R key value old
+IsChangedUnless R key value old new (Some left) = (left ≡ value) × (new ≡ old)
 
 -- the entries are in order, and this is their number, which is small
 pub record IsCounted {K V : Type 0} (R : K → K → Ordering) (m : List (K × V)) (count : ℕ) : Type 0 where

@@ -16,7 +16,7 @@ pub(crate) fn last_is_below<K: MapKey, X>(entries: &[(K, X)], key: K) -> bool
 }
 
 /// Whether each key of a sorted list of entries is below this one.
-pub(crate) fn ends_below<K: MapKey, X>(entries: &[(K, X)], key: K) -> bool
+pub fn ends_below<K: MapKey, X>(entries: &[(K, X)], key: K) -> bool
     requires { IsInOrder K.cmp entries.now }
     ensures { result ≡ is_above_entries K.cmp entries.now key }
 {

@@ -1,9 +1,9 @@
 //! Blocks of entries, which maps share.
 ghost use Rattle.std.specs.Prelude.{◌≡◌, IfOk, OnOk, OnErr};
 ghost use Rattle.std.specs.Arc.{arc_value};
-ghost use Rattle.std.specs.FinMap.{put};
-ghost use Rattle.dac_lattice.specs.Search.{IsInOrder, without};
+ghost use Rattle.dac_lattice.specs.Search.{IsInOrder};
 ghost use Rattle.dac_sorted.specs.Digests.{SaysAll};
+ghost use Rattle.dac_sorted.specs.Parts.{changed};
 
 use crate::digest::Digest;
 use dac_lattice::merging::{put_entry, remove_entry};
@@ -56,25 +56,35 @@ impl<K: MapKey, V: Drop, D: Digest<K, V>> Block<K, V, D> {
         &self.digest
     }
 
-    /// Puts a value at a key, in place. After [`NoMemory`] the block is unchanged.
-    pub(crate) fn put(&mut self, key: K, value: V) -> Result<(), NoMemory>
+    /// Puts a value at a key, or removes the key without a value, in place. After [`NoMemory`] the block is unchanged.
+    pub(crate) fn change(&mut self, key: K, value: Option<V>) -> Result<(), NoMemory>
         requires { IsInOrder K.cmp self.old }
-        ensures ok { OnOk result (self.new ≡ put K.cmp key value self.old) }
+        ensures ok { OnOk result (self.new ≡ changed K.cmp key value self.old) }
         ensures err { OnErr result (self.new ≡ self.old) }
     {
-        put_entry(&mut self.entries, key, value)?;
+        change_entry(&mut self.entries, key, value)?;
         // A digest only gains entries, so the one of the new entries is made anew.
         self.digest = digest_of(&self.entries);
         Ok(())
     }
+}
 
-    /// Removes a key's entry, if it is there, in place.
-    pub(crate) fn remove(&mut self, key: K)
-        requires { IsInOrder K.cmp self.old }
-        ensures { self.new ≡ without K.cmp key self.old }
-    {
-        remove_entry(&mut self.entries, key);
-        self.digest = digest_of(&self.entries);
+/// Puts a value at a key, or removes the key without a value. After [`NoMemory`] the entries are unchanged.
+pub(crate) fn change_entry<K: MapKey, V: Drop>(
+    entries: &mut Vec<(K, V)>,
+    key: K,
+    value: Option<V>,
+) -> Result<(), NoMemory>
+    requires { IsInOrder K.cmp entries.old.items }
+    ensures ok { OnOk result (entries.new.items ≡ changed K.cmp key value entries.old.items) }
+    ensures err { OnErr result (entries.new.items ≡ entries.old.items) }
+{
+    match value {
+        Some(value) => put_entry(entries, key, value),
+        None => {
+            remove_entry(entries, key);
+            Ok(())
+        }
     }
 }
 

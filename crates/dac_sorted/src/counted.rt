@@ -52,12 +52,14 @@ impl<K: MapKey, V: Drop, D: Digest<K, V>> Clone for Counted<K, V, D> {
 }
 
 impl<K: MapKey, V: Drop, D: Digest<K, V>> Counted<K, V, D> {
-    /// Copies of these entries, with room for one more.
-    pub(crate) fn copied(alloc: Global, entries: &[(K, V)]) -> Result<Self, NoMemory>
-        requires { IsInOrder K.cmp entries.now }
-        ensures { IfOk result (λ counted. counted ≡ entries.now) }
+    /// No entries.
+    pub(crate) fn empty(alloc: Global) -> Self
+        ensures { result ≡ [] }
     {
-        Self::of(Parts::copied(alloc, entries)?)
+        Counted {
+            count: 0,
+            parts: Parts::empty(alloc),
+        }
     }
 
     /// Counts these entries. Fails with [`NoMemory`] from 2^63 entries on, which no memory has.
@@ -128,7 +130,7 @@ impl<K: MapKey, V: Drop, D: Digest<K, V>> Counted<K, V, D> {
         let Some(count) = self.count_with(key) else {
             return Err(NoMemory);
         };
-        self.parts.put(key, value)?;
+        self.parts.change(key, Some(value))?;
         self.count = count;
         Ok(())
     }
@@ -150,7 +152,7 @@ impl<K: MapKey, V: Drop, D: Digest<K, V>> Counted<K, V, D> {
         ensures err { OnErr result (self.new ≡ self.old) }
     {
         let count = self.count_without(key);
-        self.parts.remove(key)?;
+        self.parts.change(key, None)?;
         self.count = count;
         Ok(())
     }

@@ -1,16 +1,15 @@
 //! Sorted maps whose copies share memory.
-ghost use Rattle.std.specs.Prelude.{◌≡◌, ◌<◌, ◌^◌, [], ◌∷◌, ◌++◌, length, true, Some, IfOk, OnOk, OnErr};
+ghost use Rattle.std.specs.Prelude.{◌≡◌, ◌↔◌, ◌<◌, ◌^◌, [], ◌∷◌, ◌++◌, length, true, IsTrue, IfOk, OnOk, OnErr};
 ghost use Rattle.std.specs.Arc.{arc_value};
 ghost use Rattle.std.specs.List.{flat_map, slice_get};
 ghost use Rattle.std.specs.Option.{option_copied};
 ghost use Rattle.std.specs.FinMap.{find, put};
-ghost use Rattle.dac_lattice.specs.Entries.{keep, merge_entries};
+ghost use Rattle.dac_lattice.specs.Entries.{merge_entries};
 ghost use Rattle.dac_lattice.specs.Search.{IsInOrder, without};
 ghost use Rattle.dac_sorted.specs.Appending.{is_above_entries};
 ghost use Rattle.dac_sorted.specs.Digests.{SaysAll};
 ghost use Rattle.dac_sorted.specs.Parts.{HaveEntries};
 
-use crate::appending::ends_below;
 use crate::block::Block;
 use crate::chunks::Chunks;
 use crate::counted::Counted;
@@ -19,31 +18,20 @@ use crate::entries::Entries;
 use crate::merging::merge_parts;
 use crate::parts::Parts;
 use crate::sharing::Sharing;
-use dac_lattice::merging::value_at;
+use crate::test::{Test, chunk_passes};
 use dac_origins::{MapKey, NoMemory};
 use std::alloc::Global;
 use std::marker::Model;
 use std::sync::Arc;
 
-/// The entries of a map, which its copies share.
-#[derive(Drop)]
-enum Kept<K: MapKey, V: Drop, D: Digest<K, V>> {
-    /// No entries.
-    Nothing,
-    /// A single entry, which needs no list.
-    One(Arc<[(K, V); 1], Global>),
-    /// A list of entries.
-    Many(Arc<Counted<K, V, D>, Global>),
-}
-
 /// A map from keys to values. Contracts treat it as the list of its entries in key order.
 ///
 /// Copies share all entries, so a copy only increments a reference count. A change copies what it must and others share:
-/// a block, or the entries in no block. An empty map needs no allocation, and one with a single entry needs one.
+/// a block, or the entries in no block. An empty map needs no allocation.
 #[derive(Drop)]
 pub struct SortedMap<K: MapKey, V: Drop, D: Digest<K, V>> {
     alloc: Global,
-    kept: Kept<K, V, D>,
+    kept: Option<Arc<Counted<K, V, D>, Global>>,
 }
 
 impl<K: MapKey, V: Drop, D: Digest<K, V>> Model for SortedMap<K, V, D> {
@@ -60,21 +48,7 @@ impl<K: MapKey, V: Drop, D: Digest<K, V>> SortedMap<K, V, D> {
     pub fn empty(alloc: Global) -> Self
         ensures { result ≡ [] }
     {
-        SortedMap {
-            alloc,
-            kept: Kept::Nothing,
-        }
-    }
-
-    /// The map of one entry.
-    pub fn one(alloc: Global, key: K, value: V) -> Result<Self, NoMemory>
-        ensures { IfOk result (λ map. map ≡ (key, value) ∷ []) }
-    {
-        let entry = Arc::new(alloc, [(key, value)])?;
-        Ok(SortedMap {
-            alloc,
-            kept: Kept::One(entry),
-        })
+        SortedMap { alloc, kept: None }
     }
 
     /// The map of these entries.
@@ -89,7 +63,7 @@ impl<K: MapKey, V: Drop, D: Digest<K, V>> SortedMap<K, V, D> {
         let kept = Arc::new(alloc, counted)?;
         Ok(SortedMap {
             alloc,
-            kept: Kept::Many(kept),
+            kept: Some(kept),
         })
     }
 
@@ -97,7 +71,7 @@ impl<K: MapKey, V: Drop, D: Digest<K, V>> SortedMap<K, V, D> {
     pub fn tells_order(&self)
         ensures { IsInOrder K.cmp self.now }
     {
-        if let Kept::Many(kept) = &self.kept {
+        if let Some(kept) = &self.kept {
             kept.tells_invariant();
         }
     }
@@ -112,9 +86,8 @@ impl<K: MapKey, V: Drop, D: Digest<K, V>> SortedMap<K, V, D> {
         ensures { IfOk result (λ copied. copied ≡ self.now) }
     {
         let kept = match &self.kept {
-            Kept::Nothing => Kept::Nothing,
-            Kept::One(entry) => Kept::One(Arc::try_clone(entry)?),
-            Kept::Many(kept) => Kept::Many(Arc::try_clone(kept)?),
+            Some(kept) => Some(Arc::try_clone(kept)?),
+            None => None,
         };
         Ok(SortedMap {
             alloc: self.alloc,
@@ -128,9 +101,8 @@ impl<K: MapKey, V: Drop, D: Digest<K, V>> SortedMap<K, V, D> {
         ensures few { result < 2 ^ 63 }
     {
         match &self.kept {
-            Kept::Nothing => 0,
-            Kept::One(_) => 1,
-            Kept::Many(kept) => kept.len(),
+            Some(kept) => kept.len(),
+            None => 0,
         }
     }
 
@@ -139,9 +111,8 @@ impl<K: MapKey, V: Drop, D: Digest<K, V>> SortedMap<K, V, D> {
         ensures { option_copied result ≡ find K.cmp key self.now }
     {
         match &self.kept {
-            Kept::Nothing => None,
-            Kept::One(entry) => value_at(entry.as_slice(), key),
-            Kept::Many(kept) => kept.get(key),
+            Some(kept) => kept.get(key),
+            None => None,
         }
     }
 
@@ -165,9 +136,8 @@ impl<K: MapKey, V: Drop, D: Digest<K, V>> SortedMap<K, V, D> {
         ensures { result ≡ is_above_entries K.cmp self.now key }
     {
         match &self.kept {
-            Kept::Nothing => true,
-            Kept::One(entry) => ends_below(entry.as_slice(), key),
-            Kept::Many(kept) => kept.end_below(key),
+            Some(kept) => kept.end_below(key),
+            None => true,
         }
     }
 
@@ -177,9 +147,8 @@ impl<K: MapKey, V: Drop, D: Digest<K, V>> SortedMap<K, V, D> {
         ensures filled { HaveEntries arc_value result.0.now }
     {
         match &self.kept {
-            Kept::Nothing => (&[], &[]),
-            Kept::One(entry) => (&[], entry.as_slice()),
-            Kept::Many(kept) => kept.pieces(),
+            Some(kept) => kept.pieces(),
+            None => (&[], &[]),
         }
     }
 
@@ -199,6 +168,19 @@ impl<K: MapKey, V: Drop, D: Digest<K, V>> SortedMap<K, V, D> {
         Chunks::of(blocks, last)
     }
 
+    /// Whether each entry passes.
+    pub fn all<T: Test<K, V, D>>(&self, test: &T) -> bool
+        ensures { IsTrue result ↔ SaysAll (T.holds test.now) self.now }
+    {
+        let mut chunks = self.chunks();
+        while let Some(chunk) = chunks.next() {
+            if !chunk_passes(&chunk, test) {
+                return false;
+            }
+        }
+        true
+    }
+
     /// Appends an entry, whose key is above all others. After [`NoMemory`] the map is unchanged.
     pub fn push(&mut self, key: K, value: V) -> Result<(), NoMemory>
         requires { is_above_entries K.cmp self.old key ≡ true }
@@ -206,17 +188,13 @@ impl<K: MapKey, V: Drop, D: Digest<K, V>> SortedMap<K, V, D> {
         ensures err { OnErr result (self.new ≡ self.old) }
     {
         match &mut self.kept {
-            Kept::Nothing => {
-                *self = Self::one(self.alloc, key, value)?;
+            Some(kept) => Arc::make_mut(kept)?.push(key, value),
+            None => {
+                let mut made = Counted::empty(self.alloc);
+                made.push(key, value)?;
+                self.kept = Some(Arc::new(self.alloc, made)?);
                 Ok(())
             }
-            Kept::One(entry) => {
-                let mut more = Counted::copied(self.alloc, entry.as_slice())?;
-                more.push(key, value)?;
-                self.kept = Kept::Many(Arc::new(self.alloc, more)?);
-                Ok(())
-            }
-            Kept::Many(kept) => Arc::make_mut(kept)?.push(key, value),
         }
     }
 
@@ -226,21 +204,8 @@ impl<K: MapKey, V: Drop, D: Digest<K, V>> SortedMap<K, V, D> {
         ensures err { OnErr result (self.new ≡ self.old) }
     {
         match &mut self.kept {
-            Kept::Nothing => {
-                *self = Self::one(self.alloc, key, value)?;
-                Ok(())
-            }
-            Kept::One(entry) => {
-                if entry[0].0.cmp(&key).is_eq() {
-                    *self = Self::one(self.alloc, key, value)?;
-                    return Ok(());
-                }
-                let mut more = Counted::copied(self.alloc, entry.as_slice())?;
-                more.put(key, value)?;
-                self.kept = Kept::Many(Arc::new(self.alloc, more)?);
-                Ok(())
-            }
-            Kept::Many(kept) => Arc::make_mut(kept)?.put(key, value),
+            Some(kept) => Arc::make_mut(kept)?.put(key, value),
+            None => self.push(key, value),
         }
     }
 
@@ -249,20 +214,13 @@ impl<K: MapKey, V: Drop, D: Digest<K, V>> SortedMap<K, V, D> {
         ensures ok { OnOk result (self.new ≡ without K.cmp key self.old) }
         ensures err { OnErr result (self.new ≡ self.old) }
     {
-        match &mut self.kept {
-            Kept::Nothing => {}
-            Kept::One(entry) => {
-                if entry[0].0.cmp(&key).is_eq() {
-                    self.kept = Kept::Nothing;
-                }
-            }
-            Kept::Many(kept) => {
-                let own = Arc::make_mut(kept)?;
-                own.remove(key)?;
-                if own.len() == 0 {
-                    self.kept = Kept::Nothing;
-                }
-            }
+        let Some(kept) = &mut self.kept else {
+            return Ok(());
+        };
+        let own = Arc::make_mut(kept)?;
+        own.remove(key)?;
+        if own.len() == 0 {
+            self.kept = None;
         }
         Ok(())
     }
@@ -273,37 +231,10 @@ impl<K: MapKey, V: Drop, D: Digest<K, V>> SortedMap<K, V, D> {
         ensures { IfOk result (λ merged.
             merged ≡ merge_entries K.cmp (C.combined how.now) self.now other.now) }
     {
-        if let (Kept::One(mine), Kept::One(theirs)) = (&self.kept, &other.kept) {
-            let [(key, mine)] = &**mine;
-            let [(other_key, theirs)] = &**theirs;
-            if key.cmp(other_key).is_eq() {
-                return self.merge_at(how, *key, mine, theirs);
-            }
-        }
         self.tells_order();
         other.tells_order();
         let (blocks, last) = self.pieces();
         let parts = merge_parts(self.alloc, how, blocks, last, other.entries())?;
         Self::of(self.alloc, parts)
-    }
-    /// The merge of this map, which has this single entry, with one that has a single entry at the same key.
-    fn merge_at<C: Sharing<K, V, D>>(
-        &self,
-        how: &C,
-        key: K,
-        mine: &V,
-        theirs: &V,
-    ) -> Result<Self, NoMemory>
-        requires { self.now ≡ (key, mine.now) ∷ [] }
-        ensures { IfOk result (λ merged. merged
-            ≡ keep key (C.combined how.now key (Some mine.now) (Some theirs.now)) []) }
-    {
-        if how.stays(key, mine, Some(theirs)) {
-            return self.copy();
-        }
-        match how.both(key, mine, theirs)? {
-            Some(value) => Self::one(self.alloc, key, value),
-            None => Ok(Self::empty(self.alloc)),
-        }
     }
 }

@@ -1,17 +1,17 @@
 //! Entries in blocks, which maps share, with a few entries after them.
-ghost use Rattle.std.specs.Prelude.{◌≡◌, ◌<◌, ◌≤◌, ◌^◌, [], ◌∷◌, ◌++◌, length, take, drop, IfOk, IfSome, OnOk, OnErr, if◌then◌else◌};
+ghost use Rattle.std.specs.Prelude.{◌≡◌, ◌<◌, ◌≤◌, ◌^◌, [], ◌∷◌, ◌++◌, length, take, drop, true, None, IfOk, IfSome, OnOk, OnErr};
 ghost use Rattle.std.specs.Arc.{arc_value};
 ghost use Rattle.std.specs.List.{flat_map};
 ghost use Rattle.std.specs.Option.{option_copied};
-ghost use Rattle.std.specs.FinMap.{find, put};
-ghost use Rattle.dac_lattice.specs.Search.{IsInOrder, without};
+ghost use Rattle.std.specs.FinMap.{find};
+ghost use Rattle.dac_lattice.specs.Search.{IsInOrder};
 ghost use Rattle.dac_sorted.specs.Appending.{is_above_entries};
-ghost use Rattle.dac_sorted.specs.Parts.{HaveEntries, IsPartAt, IsPlaceOf, IsPutUnless, IsReplaced};
+ghost use Rattle.dac_sorted.specs.Parts.{HaveEntries, IsChangedUnless, IsPartAt, IsPlaceOf, IsReplaced, changed};
 
 use crate::appending::{ends_below, last_is_below};
-use crate::block::Block;
+use crate::block::{Block, change_entry};
 use crate::digest::Digest;
-use dac_lattice::merging::{put_entry, remove_entry, value_at};
+use dac_lattice::merging::value_at;
 use dac_origins::{MapKey, NoMemory};
 use std::alloc::Global;
 use std::marker::Model;
@@ -51,15 +51,14 @@ impl<K: MapKey, V: Drop, D: Digest<K, V>> Model for Parts<K, V, D> {
 }
 
 impl<K: MapKey, V: Drop, D: Digest<K, V>> Parts<K, V, D> {
-    /// Copies of these entries, with room for one more.
-    pub(crate) fn copied(alloc: Global, entries: &[(K, V)]) -> Result<Self, NoMemory>
-        ensures { IfOk result (λ parts. parts ≡ entries.now) }
+    /// No entries.
+    pub(crate) fn empty(alloc: Global) -> Self
+        ensures { result ≡ [] }
     {
-        let last = copy_entries::<K, V, D>(alloc, entries)?;
-        Ok(Parts {
+        Parts {
             blocks: Vec::new(alloc),
-            last,
-        })
+            last: Vec::new(alloc),
+        }
     }
 
     /// The empty list, with room for `blocks` blocks and two more, or with no room if `blocks` is 0.
@@ -210,33 +209,18 @@ impl<K: MapKey, V: Drop, D: Digest<K, V>> Parts<K, V, D> {
         Ok(())
     }
 
-    /// Puts a value at a key. After [`NoMemory`] nothing has changed.
-    pub(crate) fn put(&mut self, key: K, value: V) -> Result<(), NoMemory>
+    /// Puts a value at a key, or removes the key without a value. After [`NoMemory`] nothing has changed.
+    pub(crate) fn change(&mut self, key: K, value: Option<V>) -> Result<(), NoMemory>
         requires { IsInOrder K.cmp self.old }
-        ensures ok { OnOk result (self.new ≡ put K.cmp key value self.old) }
+        ensures ok { OnOk result (self.new ≡ changed K.cmp key value self.old) }
         ensures err { OnErr result (self.new ≡ self.old) }
     {
         self.split_last()?;
         let place = place_in(&self.blocks, key);
         if place < self.blocks.len() {
-            return put_in_block(&mut self.blocks, place, key, value);
+            return change_block(&mut self.blocks, place, key, value);
         }
-        put_entry(&mut self.last, key, value)
-    }
-
-    /// Removes a key's entry, if it is there. After [`NoMemory`] nothing has changed.
-    pub(crate) fn remove(&mut self, key: K) -> Result<(), NoMemory>
-        requires { IsInOrder K.cmp self.old }
-        ensures ok { OnOk result (self.new ≡ without K.cmp key self.old) }
-        ensures err { OnErr result (self.new ≡ self.old) }
-    {
-        self.split_last()?;
-        let place = place_in(&self.blocks, key);
-        if place < self.blocks.len() {
-            return remove_from_block(&mut self.blocks, place, key);
-        }
-        remove_entry(&mut self.last, key);
-        Ok(())
+        change_entry(&mut self.last, key, value)
     }
 
     /// Whether a shared block can follow without first making a block of fewer than [`Digest::least`] entries.
@@ -270,13 +254,13 @@ fn place_in<K: MapKey, V: Drop, D: Digest<K, V>>(
     blocks.partition_point(|block| last_is_below(block.entries(), key))
 }
 
-/// Puts a value at a key of the block at an index: in place, unless the block is full or shared. After [`NoMemory`] the
-/// blocks are unchanged.
-fn put_in_block<K: MapKey, V: Drop, D: Digest<K, V>>(
+/// Changes the block at an index, that of a key, at the key: in place, unless the block is shared or would be too small
+/// or too large. After [`NoMemory`] the blocks are unchanged.
+fn change_block<K: MapKey, V: Drop, D: Digest<K, V>>(
     blocks: &mut Vec<Arc<Block<K, V, D>, Global>>,
     place: usize,
     key: K,
-    value: V,
+    value: Option<V>,
 ) -> Result<(), NoMemory>
     requires in_order { IsInOrder K.cmp (flat_map arc_value blocks.old.items) }
     requires filled { HaveEntries arc_value blocks.old.items }
@@ -284,42 +268,55 @@ fn put_in_block<K: MapKey, V: Drop, D: Digest<K, V>>(
     requires within { place < length blocks.old.items }
     ensures filled { HaveEntries arc_value blocks.new.items }
     ensures ok { OnOk result (flat_map arc_value blocks.new.items
-        ≡ put K.cmp key value (flat_map arc_value blocks.old.items)) }
+        ≡ changed K.cmp key value (flat_map arc_value blocks.old.items)) }
     ensures err { OnErr result
         (flat_map arc_value blocks.new.items ≡ flat_map arc_value blocks.old.items) }
 {
-    match put_in_place(&mut blocks[place], key, value)? {
-        Some(left) => put_anew(blocks, place, key, left),
+    match change_in_place(&mut blocks[place], key, value)? {
+        Some(left) => change_anew(blocks, place, key, left),
         None => Ok(()),
     }
 }
 
-/// Puts a value at a key of a block, in place. Returns the value, and changes nothing, if the block is full or shared.
-fn put_in_place<K: MapKey, V: Drop, D: Digest<K, V>>(
+/// Changes a block at a key, in place. Returns the value, and changes nothing, if the block is shared or would be too
+/// small or too large.
+fn change_in_place<K: MapKey, V: Drop, D: Digest<K, V>>(
     shared: &mut Arc<Block<K, V, D>, Global>,
     key: K,
-    value: V,
-) -> Result<Option<V>, NoMemory>
+    value: Option<V>,
+) -> Result<Option<Option<V>>, NoMemory>
     requires { IsInOrder K.cmp (arc_value shared.old) }
-    ensures ok { IfOk result (λ left. IsPutUnless K.cmp key value (arc_value shared.old)
+    ensures ok { IfOk result (λ left. IsChangedUnless K.cmp key value (arc_value shared.old)
         (arc_value shared.new) left) }
+    ensures filled { 0 < length (arc_value shared.old) → 0 < length (arc_value shared.new) }
     ensures err { OnErr result (arc_value shared.new ≡ arc_value shared.old) }
 {
     match Arc::get_mut(shared) {
-        Some(block) if block.entries().len() < most::<K, V, D>() => {
-            block.put(key, value)?;
+        Some(block) if has_room::<K, V, D>(block.entries().len(), &value) => {
+            block.change(key, value)?;
             Ok(None)
         }
         _ => Ok(Some(value)),
     }
 }
 
-/// Replaces the block at an index by one, or two, with a value at a key. After [`NoMemory`] the blocks are unchanged.
-fn put_anew<K: MapKey, V: Drop, D: Digest<K, V>>(
+/// Whether a block of this many entries can be changed in place by putting this value, or by removing one without.
+fn has_room<K: MapKey, V: Drop, D: Digest<K, V>>(len: usize, value: &Option<V>) -> bool
+    ensures { result ≡ true → value.now ≡ None → 1 < len }
+{
+    match value {
+        Some(_) => len < most::<K, V, D>(),
+        None => len > FEW + 1,
+    }
+}
+
+/// Replaces the block at an index, that of a key, by a copy that is changed at the key, or by two. After [`NoMemory`]
+/// the blocks are unchanged.
+fn change_anew<K: MapKey, V: Drop, D: Digest<K, V>>(
     blocks: &mut Vec<Arc<Block<K, V, D>, Global>>,
     place: usize,
     key: K,
-    value: V,
+    value: Option<V>,
 ) -> Result<(), NoMemory>
     requires in_order { IsInOrder K.cmp (flat_map arc_value blocks.old.items) }
     requires filled { HaveEntries arc_value blocks.old.items }
@@ -327,13 +324,13 @@ fn put_anew<K: MapKey, V: Drop, D: Digest<K, V>>(
     requires within { place < length blocks.old.items }
     ensures filled { HaveEntries arc_value blocks.new.items }
     ensures ok { OnOk result (flat_map arc_value blocks.new.items
-        ≡ put K.cmp key value (flat_map arc_value blocks.old.items)) }
+        ≡ changed K.cmp key value (flat_map arc_value blocks.old.items)) }
     ensures err { OnErr result (blocks.new.items ≡ blocks.old.items) }
 {
     let alloc = *blocks.allocator();
     let mut own = copy_entries::<K, V, D>(alloc, blocks[place].entries())?;
-    put_entry(&mut own, key, value)?;
-    replace_block(blocks, place, own)
+    change_entry(&mut own, key, value)?;
+    put_back(blocks, place, own)
 }
 
 /// Blocks of copies of the first of these entries, and the number of these, which leaves fewer than twice
@@ -386,72 +383,8 @@ fn replace_block<K: MapKey, V: Drop, D: Digest<K, V>>(
     Ok(())
 }
 
-/// Removes a key's entry, if it is there, from the block at an index: in place, unless the block is shared or would be
-/// too small. After [`NoMemory`] the blocks are unchanged.
-fn remove_from_block<K: MapKey, V: Drop, D: Digest<K, V>>(
-    blocks: &mut Vec<Arc<Block<K, V, D>, Global>>,
-    place: usize,
-    key: K,
-) -> Result<(), NoMemory>
-    requires in_order { IsInOrder K.cmp (flat_map arc_value blocks.old.items) }
-    requires filled { HaveEntries arc_value blocks.old.items }
-    requires place { IsPlaceOf K.cmp arc_value key blocks.old.items place }
-    requires within { place < length blocks.old.items }
-    ensures filled { HaveEntries arc_value blocks.new.items }
-    ensures ok { OnOk result (flat_map arc_value blocks.new.items
-        ≡ without K.cmp key (flat_map arc_value blocks.old.items)) }
-    ensures err { OnErr result
-        (flat_map arc_value blocks.new.items ≡ flat_map arc_value blocks.old.items) }
-{
-    if remove_in_place(&mut blocks[place], key) {
-        return Ok(());
-    }
-    remove_anew(blocks, place, key)
-}
-
-/// Removes a key's entry, if it is there, from a block, in place. Returns false, and changes nothing, if the block is
-/// shared or would be too small.
-fn remove_in_place<K: MapKey, V: Drop, D: Digest<K, V>>(
-    shared: &mut Arc<Block<K, V, D>, Global>,
-    key: K,
-) -> bool
-    requires { IsInOrder K.cmp (arc_value shared.old) }
-    ensures removed { arc_value shared.new
-        ≡ (if result then without K.cmp key (arc_value shared.old) else arc_value shared.old) }
-    ensures filled { 0 < length (arc_value shared.old) → 0 < length (arc_value shared.new) }
-{
-    match Arc::get_mut(shared) {
-        Some(block) if block.entries().len() > FEW + 1 => {
-            block.remove(key);
-            true
-        }
-        _ => false,
-    }
-}
-
-/// Replaces the block at an index by one without a key. After [`NoMemory`] the blocks are unchanged.
-fn remove_anew<K: MapKey, V: Drop, D: Digest<K, V>>(
-    blocks: &mut Vec<Arc<Block<K, V, D>, Global>>,
-    place: usize,
-    key: K,
-) -> Result<(), NoMemory>
-    requires in_order { IsInOrder K.cmp (flat_map arc_value blocks.old.items) }
-    requires filled { HaveEntries arc_value blocks.old.items }
-    requires place { IsPlaceOf K.cmp arc_value key blocks.old.items place }
-    requires within { place < length blocks.old.items }
-    ensures filled { HaveEntries arc_value blocks.new.items }
-    ensures ok { OnOk result (flat_map arc_value blocks.new.items
-        ≡ without K.cmp key (flat_map arc_value blocks.old.items)) }
-    ensures err { OnErr result (blocks.new.items ≡ blocks.old.items) }
-{
-    let alloc = *blocks.allocator();
-    let mut own = copy_entries::<K, V, D>(alloc, blocks[place].entries())?;
-    remove_entry(&mut own, key);
-    put_back(blocks, place, own)
-}
-
-/// Replaces the block at an index by the few entries that a removal left, joined with those of the next block if there
-/// is one. After [`NoMemory`] the blocks are unchanged.
+/// Replaces the block at an index by the entries that a change left, joined with those of the next block if they are few
+/// and there is one. After [`NoMemory`] the blocks are unchanged.
 fn put_back<K: MapKey, V: Drop, D: Digest<K, V>>(
     blocks: &mut Vec<Arc<Block<K, V, D>, Global>>,
     place: usize,

@@ -14,9 +14,9 @@ use Rattle.dac_lattice.specs.Search.{AtEachEntry, IsInOrder}
 use Rattle.dac_lattice.specs.laws.EntryLaws.{above_at, first, second}
 use Rattle.dac_sorted.specs.Appending.{is_above_entries}
 use Rattle.dac_sorted.specs.Parts.{HasSameFrom}
+use Rattle.dac_sorted.specs.laws.Parted.{IsLeft, below_right, each_left, each_right, sorted_left, sorted_right, walk_end, walk_here, walk_next, walk_start}
 use Rattle.dac_store.specs.Below.{HasLaterKeys, IsBelowAt}
 use Rattle.dac_store.specs.DotMaps.{store_at}
-use Rattle.dac_store.proofs.ChunkLemmas.{IsLeft, below_right, each_splits, sorted_left, sorted_right, walk_end, walk_here, walk_next, walk_start}
 
 module _ {K X : Type 0} {R : K → K → Ordering} (o : IsTotalOrder R) (exact : CmpEqualImpliesEq R) where
   -- each entry before an index is below the one there
@@ -60,16 +60,22 @@ module _ {K S : Type 0} (R : K → K → Ordering) (nothing : S) (below : S → 
   each_turned : (mine whole es : List (K × S)) → AtEachEntry (λ k _. find R k mine ≡ find R k whole) es → AtEachEntry (IsBelowAt R nothing below whole c d) es → AtEachEntry (IsBelowAt R nothing below mine c d) es
   each_turned mine whole es same h i e p = subst (λ f. below (store_at nothing f) c (get_or es i e).1 d) (sym (same i e p)) (h i e p)
 
+  abbrev pub IsAt : List (K × S) → K × S → Type 0
+  IsAt whole e = IsBelowAt R nothing below whole c d e.0 (Some e.1)
+
+  abbrev pub HasSame : List (K × S) → List (K × S) → K × S → Type 0
+  HasSame mine whole e = find R e.0 mine ≡ find R e.0 whole
+
   -- the rest of one map has the same values at each remaining key of the other
   pub record IsWalking (whole other mine rest : List (K × S)) : Type 0 where
-    pub walk : IsLeft (AtEachEntry (IsBelowAt R nothing below whole c d)) rest other
+    pub walk : IsLeft (IsAt whole) rest other
     pub mine_in_order : IsInOrder R mine
     pub rest_in_order : IsInOrder R rest
     pub same : AtEachEntry (λ k _. find R k mine ≡ find R k whole) rest
 
   pub walking_start : (whole other mine rest : List (K × S)) → mine ≡ whole → rest ≡ other → IsInOrder R whole → IsInOrder R other → IsWalking whole other mine rest
   walking_start whole other mine rest e f s t = record {
-    walk = walk_start (AtEachEntry (IsBelowAt R nothing below whole c d)) rest other f;
+    walk = walk_start (IsAt whole) rest other f;
     mine_in_order = subst (IsInOrder R) (sym e) s;
     rest_in_order = subst (IsInOrder R) (sym f) t;
     same = λ i x p. ap (find R (get_or rest i x).0) e;
@@ -87,20 +93,16 @@ module _ {K S : Type 0} (R : K → K → Ordering) (nothing : S) (below : S → 
 
     pub walking_next : IsTotalOrder R → CmpEqualImpliesEq R → (left : List (K × S)) → AtEachEntry (IsBelowAt R nothing below mine c d) part → IsInOrder R left → HasLaterKeys R part mine left → IsWalking whole other left next
     walking_next o exact left here s later =
-        let found = (each_splits (λ (e : K × S). find R e.0 mine ≡ find R e.0 whole)) in
         record {
-          walk = walk_next (AtEachEntry (IsBelowAt R nothing below whole c d)) (each_splits (λ (e : K × S). IsBelowAt R nothing below whole c d e.0 (Some e.1))) rest part next other split before.walk
-              (each_found mine whole part (found.left part next same_parts) here);
+          walk = walk_next (IsAt whole) rest part next other split before.walk (each_found mine whole part (each_left (HasSame mine whole) part next same_parts) here);
           mine_in_order = s;
           rest_in_order = sorted_right R part next parts_in_order;
-          same = λ j e q. later (get_or next j e).0 (above_next o exact part next parts_in_order j e q) ∙ found.right part next same_parts j e q;
+          same = λ j e q. later (get_or next j e).0 (above_next o exact part next parts_in_order j e q) ∙ each_right (HasSame mine whole) part next same_parts j e q;
         }
 
     pub walking_here : AtEachEntry (IsBelowAt R nothing below whole c d) other → AtEachEntry (IsBelowAt R nothing below mine c d) part
     walking_here all =
-        let found = (each_splits (λ (e : K × S). find R e.0 mine ≡ find R e.0 whole)) in
-        each_turned mine whole part (found.left part next same_parts)
-        (walk_here (AtEachEntry (IsBelowAt R nothing below whole c d)) (each_splits (λ (e : K × S). IsBelowAt R nothing below whole c d e.0 (Some e.1))) rest part next other split before.walk all)
+        each_turned mine whole part (each_left (HasSame mine whole) part next same_parts) (walk_here (IsAt whole) rest part next other split before.walk all)
 
   pub walked : (whole other mine rest : List (K × S)) → rest ≡ [] → IsWalking whole other mine rest → AtEachEntry (IsBelowAt R nothing below whole c d) other
-  walked whole other mine rest none before = walk_end (AtEachEntry (IsBelowAt R nothing below whole c d)) rest other none (λ i e p. absurd (omega arith)) before.walk
+  walked whole other mine rest none before = walk_end (IsAt whole) rest other none before.walk

@@ -1,13 +1,7 @@
 -- Two iterators over entries at once.
-use Rattle.std.proofs.Common.{◌≡◌, ◌<◌, List, [], ◌∷◌, length, sym, ap, ◌∙◌, arith, add-one}
+use Rattle.std.proofs.Common.{◌≡◌, List, [], ◌∷◌, length, sym, ap, ◌∙◌, arith}
 
 module _ {E : Type 0} where
-  -- one entry fewer remains
-  pub shorter : (now next : List E) (e : E) → now ≡ e ∷ next → length next < length now
-  shorter now next e is =
-      let long = ap length is ∙ sym (add-one (length next)) in
-      omega (arith, long)
-
   -- lists are equal if their first elements and their tails are
   pub same_first : (old new next after : List E) (e f : E) → old ≡ e ∷ next → new ≡ f ∷ after → e ≡ f → next ≡ after → old ≡ new
   same_first old new next after e f is also same rest = is ∙ (λ i. same i ∷ rest i) ∙ sym also

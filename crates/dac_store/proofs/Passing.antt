@@ -1,11 +1,10 @@
 -- Sets that gain the dots of a list that pass a test, sets that lose the dots that another lacks, and the dots of
 -- stores in a list.
-use Rattle.std.proofs.Common.{◌≡◌, ℕ, ◌+◌, ◌<◌, ◌≤◌, zero, suc, Bool, true, false, not, ◌&&◌, ◌||◌, inl, inr, List, [], ◌∷◌, ◌++◌, length, get_or, take, sym, ap, subst, ◌∙◌, arith, refl}
+use Rattle.std.proofs.Common.{◌≡◌, ℕ, ◌+◌, ◌<◌, ◌≤◌, zero, suc, Bool, true, false, not, ◌&&◌, ◌||◌, List, [], ◌∷◌, ◌++◌, length, get_or, take, sym, ap, ◌∙◌, arith, refl}
 use Rattle.std.specs.Ordering.{eq_by_cmp}
-use Rattle.std.specs.List.{All}
 use Rattle.std.specs.Cmp.{Equal-is}
 use Rattle.std.specs.FinSet as set
-use Rattle.std.proofs.lemmas.Bool.{false≢true, or_cases, or_left, or_right}
+use Rattle.std.proofs.lemmas.Bool.{or_left, or_right}
 use Rattle.std.proofs.lemmas.List.{take_all, take_more}
 use Rattle.std.proofs.lemmas.List.Folds.{list_any_more}
 use Rattle.std.proofs.Math.Bool.{and-false}
@@ -14,7 +13,6 @@ use Rattle.dac_origins.specs.laws.KeyLaws.{has_is}
 use Rattle.dac_origins.specs.Dots.{Dots, dot_cmp}
 use Rattle.dac_origins.specs.laws.Dots.{dots_total, exact_dots}
 use Rattle.dac_origins.specs.declared.dot.Dot.{Dot}
-use Rattle.dac_store.specs.Stores.{IsHeld, IsUnheard}
 use Rattle.dac_store.specs.DotSets.{may_stay}
 use Rattle.dac_store.specs.DotMaps.{has_in}
 
@@ -106,8 +104,6 @@ module _ (t : Dots) (ks : List Dot) (had now : Dots) where
   pub loses_all : (c : Dots) → set.from_list ks ≡ c → (i : ℕ) → length ks ≤ i → LosesMissing t (take i ks) had now → (q : Dot) → set.contains now q ≡ (set.contains had q && may_stay t c q)
   loses_all c is i h so_far q = so_far q ∙ ap (λ l. set.contains had q && (set.contains t q || not (has_key dot_cmp l q))) (take_all i ks h) ∙ ap (λ b. set.contains had q && (set.contains t q || not b)) (has_is dots_total ks c is q)
 
--- ---- calls that fail
-
 -- ---- stores in a list
 
 -- the map has the dots of each of its stores
@@ -123,25 +119,3 @@ copied_more {K} {S} xs i done new e s h is so_far same pushed =
     ∙ ap (λ es. es ++ (e.0, s) ∷ []) so_far
     ∙ ap (λ (f : K × S). take i xs ++ f ∷ []) (ap (λ (t : S). (e.0, t)) same ∙ is)
     ∙ sym (take_more xs i e h)
-
--- if the dots of each store are in a set, so are the map's
-held_each : {K S : Type 0} (has : S → Dot → Bool) (c : Dots) (m : List (K × S)) → All (λ e. IsHeld (has e.1) c) m → IsHeld (has_in has m) c
-held_each has c [] all x e = absurd (false≢true e)
-held_each has c (f ∷ m) all x e = elim (or_cases (has f.1 x) (has_in has m x) e) [
-  | inl here ↦ all 0 f (omega arith) x here
-  | inr later ↦ held_each has c m (λ i d p. all (suc i) d (omega arith)) x later
-]
-
-pub held_done : {K S : Type 0} (has : S → Dot → Bool) (c : Dots) (m : List (K × S)) (i : ℕ) → length m ≤ i → All (λ e. IsHeld (has e.1) c) (take i m) → IsHeld (has_in has m) c
-held_done has c m i p all = held_each has c m (subst (All (λ e. IsHeld (has e.1) c)) (take_all i m p) all)
-
--- if a context has no dot of any store in the list, it has none of the map
-unheard_each : {K S : Type 0} (has : S → Dot → Bool) (c : Dots) (m : List (K × S)) → All (λ e. IsUnheard (has e.1) c) m → IsUnheard (has_in has m) c
-unheard_each has c [] all x e = absurd (false≢true e)
-unheard_each has c (f ∷ m) all x e = elim (or_cases (has f.1 x) (has_in has m x) e) [
-  | inl here ↦ all 0 f (omega arith) x here
-  | inr later ↦ unheard_each has c m (λ i d p. all (suc i) d (omega arith)) x later
-]
-
-pub unheard_done : {K S : Type 0} (has : S → Dot → Bool) (c : Dots) (m : List (K × S)) (i : ℕ) → length m ≤ i → All (λ e. IsUnheard (has e.1) c) (take i m) → IsUnheard (has_in has m) c
-unheard_done has c m i p all = unheard_each has c m (subst (All (λ e. IsUnheard (has e.1) c)) (take_all i m p) all)

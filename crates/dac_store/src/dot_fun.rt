@@ -8,12 +8,12 @@ ghost use Rattle.dac_sorted.specs.Appending.{is_above_entries};
 ghost use Rattle.dac_store.specs.AtDot.{StandsBelow};
 
 use crate::DotStore;
-use crate::appending::ends_below;
 use crate::few_entries::{FewEntries, merge_few};
 use dac_dots::{Context, DotFilter, FilteredContext};
 use dac_lattice::Lattice;
 use dac_lattice::merging::{Combine, value_at};
 use dac_origins::{Dot, NoMemory};
+use dac_sorted::ends_below;
 use std::alloc::Global;
 use std::marker::Model;
 

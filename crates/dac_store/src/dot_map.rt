@@ -7,12 +7,10 @@ ghost use Rattle.dac_sorted.specs.Appending.{is_above_entries};
 ghost use Rattle.dac_store.specs.Absorbing.{AreOthersUnheard};
 ghost use Rattle.dac_store.specs.DotMaps.{join_keyed};
 
-use crate::chunk::{
-    chunk_below, chunk_first_heard, chunk_has, chunk_others_unheard, chunk_unheard,
-};
+use crate::chunk::{chunk_below, chunk_first_heard, fill_each};
 use crate::digest::StoreFilter;
 use crate::joining::{JoinStores, join_at};
-use crate::part::{are_within, fill_each};
+use crate::tests::{Lacks, OtherUnheard, Unheard, Within};
 use crate::{DotStore, Entries};
 use dac_dots::{Context, DotFilter, FilteredContext};
 use dac_origins::{Dot, MapKey, NoMemory};
@@ -175,13 +173,7 @@ impl<K: MapKey, S: DotStore> DotMap<K, S> {
     fn are_others_unheard(&self, key: K, heard: &FilteredContext<'_>) -> bool
         ensures { result ≡ true → AreOthersUnheard K.cmp S.has key heard.now self.now }
     {
-        let mut chunks = self.map.chunks();
-        while let Some(chunk) = chunks.next() {
-            if !chunk_others_unheard(&chunk, key, heard) {
-                return false;
-            }
-        }
-        true
+        self.map.all(&OtherUnheard { key, heard })
     }
 }
 
@@ -270,34 +262,16 @@ impl<K: MapKey, S: DotStore> DotStore for DotMap<K, S> {
     }
 
     fn has(&self, dot: Dot) -> bool {
-        let mut chunks = self.map.chunks();
-        while let Some(chunk) = chunks.next() {
-            if chunk_has(&chunk, dot) {
-                return true;
-            }
-        }
-        false
+        !self.map.all(&Lacks { dot })
     }
 
     fn within(&self, context: &Context) -> bool {
-        let mut chunks = self.map.chunks();
-        while let Some(chunk) = chunks.next() {
-            if !are_within(chunk.entries, context) {
-                return false;
-            }
-        }
-        true
+        self.map.all(&Within { context })
     }
 
     #[inline(always)]
     fn is_unheard(&self, heard: &FilteredContext<'_>) -> bool {
-        let mut chunks = self.map.chunks();
-        while let Some(chunk) = chunks.next() {
-            if !chunk_unheard(&chunk, heard) {
-                return false;
-            }
-        }
-        true
+        self.map.all(&Unheard { heard })
     }
 
     fn is_same(&self, other: &Self) -> bool {

@@ -26,7 +26,6 @@ pub use dot_store::DotStore;
 /// An iterator over the entries of a map of stores, in key order.
 pub type Entries<'a, K, S> = dac_sorted::Entries<'a, K, S, StoreFilter>;
 
-mod appending;
 mod below;
 mod causal;
 mod chunk;
@@ -38,4 +37,4 @@ mod dot_store;
 mod few;
 mod few_entries;
 mod joining;
-mod part;
+mod tests;

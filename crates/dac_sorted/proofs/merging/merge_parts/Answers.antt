@@ -5,7 +5,8 @@ use Rattle.dac_lattice.specs.Entries.{merge_entries}
 use Rattle.dac_lattice.specs.Search.{IsInOrder}
 use Rattle.dac_sorted.specs.Digests.{SaysAll}
 use Rattle.dac_sorted.proofs.JoinLemmas.{merged_all, merged_on}
-use Rattle.dac_sorted.proofs.PartLemmas.{each_splits, rest_last, rest_of, rest_step, sorted_left, sorted_right}
+use Rattle.dac_sorted.specs.laws.Parted.{each_left, each_right, sorted_left, sorted_right}
+use Rattle.dac_sorted.proofs.PartLemmas.{rest_last, rest_of, rest_step}
 use Rattle.dac_sorted.proofs.merging.merge_parts.Goals as goal
 
 pub loop-block-init : goal.loop-block-init
@@ -25,7 +26,7 @@ merge_block-requires g c =
     let split = rest_step arc_value c.args.blocks.now c.args.last.now c.loop-block.block-index c.block-item.result c.loop-block-test.true c.block-item.is in
     record {
       in_order = sorted_left g.K.Ord.cmp b next (subst (IsInOrder g.K.Ord.cmp) split c.loop-block.invariant.in_order);
-      fits = (each_splits (λ e. fits e.0 e.1)).left b next (subst (SaysAll fits) split c.loop-block.invariant.fits);
+      fits = each_left (λ e. fits e.0 e.1) b next (subst (SaysAll fits) split c.loop-block.invariant.fits);
     }
 
 pub loop-block-preserved : goal.loop-block-preserved
@@ -39,7 +40,7 @@ loop-block-preserved g c =
       merged = merged_on g.K.Ord.cmp f c.loop-block.built c.merge_block.new.built (rest_of arc_value c.args.blocks.now c.args.last.now c.loop-block.block-index) b next c.loop-block.others c.merge_block.new.theirs
           (merge_entries g.K.Ord.cmp f (flat_map arc_value c.args.blocks.now ++ c.args.last.now) c.args.theirs) c.loop-block.invariant.merged split c.in_ok-merge_block.ensures;
       in_order = sorted_right g.K.Ord.cmp b next (subst (IsInOrder g.K.Ord.cmp) split c.loop-block.invariant.in_order);
-      fits = (each_splits (λ e. fits e.0 e.1)).right b next (subst (SaysAll fits) split c.loop-block.invariant.fits);
+      fits = each_right (λ e. fits e.0 e.1) b next (subst (SaysAll fits) split c.loop-block.invariant.fits);
     }
 
 pub returns : goal.returns

@@ -1,6 +1,6 @@
 use Rattle.std.proofs.Common.{◌∙◌, ap, arith, subst, sym}
-use Rattle.dac_dots.specs.Entries.{AreRows, dots_of}
-use Rattle.dac_dots.proofs.SetLemmas.{counted, counted_is, no_count}
+use Rattle.dac_dots.specs.Entries.{AreRows, counted, dots_of}
+use Rattle.dac_dots.proofs.SetLemmas.{counted_is, no_count}
 use Rattle.dac_dots.proofs.context.Context.len.Goals as goal
 
 pub returns-then-len-eq0 : goal.returns-then-len-eq0

@@ -1,5 +1,5 @@
 use Rattle.std.proofs.Common.{◌≡◌, ◌≤◌, ◌+◌, ◌*◌, ◌^◌, length}
-use Rattle.dac_dots.proofs.SetLemmas.{counted}
+use Rattle.dac_dots.specs.Entries.{counted}
 use Rattle.dac_dots.proofs.context.Context.len.Given as goal
 
 abbrev pub invariant-loop-counters : goal.invariant-loop-counters

@@ -1,6 +1,6 @@
 use Rattle.std.proofs.Common.{◌≡◌, ◌∙◌, length, rules}
 use Rattle.std.specs.FinMap.{put}
-use Rattle.dac_sorted.proofs.PutLemmas.{count_new, count_there, some_if}
+use Rattle.dac_sorted.proofs.ChangeLemmas.{count_new, count_there, some_if}
 use Rattle.dac_sorted.proofs.counted.Counted.count_with.Goals as goal
 
 pub returns-in-Some-clause-value : goal.returns-in-Some-clause-value

@@ -1,5 +1,5 @@
 use Rattle.std.proofs.Common.{◌∙◌, rules}
-use Rattle.dac_sorted.proofs.RemoveLemmas.{count_less, count_same}
+use Rattle.dac_sorted.proofs.ChangeLemmas.{count_less, count_same}
 use Rattle.dac_sorted.proofs.counted.Counted.count_without.Goals as goal
 
 pub returns-in-Some : goal.returns-in-Some

@@ -1,6 +1,6 @@
 use Rattle.std.proofs.Common.{◌∙◌, refl, sym}
 use Rattle.dac_sorted.proofs.SeekLemmas.{found_at, found_end, found_none, same_past, sorted_past}
-use Rattle.dac_sorted.proofs.EntryLemmas.{shorter}
+use Rattle.dac_sorted.specs.laws.Parted.{shorter}
 use Rattle.dac_sorted.proofs.entries.Entries.seek.Goals as goal
 
 pub loop-other-init : goal.loop-other-init

@@ -1,6 +1,7 @@
 use Rattle.std.proofs.Common.{◌∙◌, ap, sym}
 use Rattle.std.specs.List.{slice_get}
-use Rattle.dac_sorted.proofs.ChunkLemmas.{fewer_left, get_first, get_later, looked_up}
+use Rattle.dac_sorted.specs.laws.Parted.{fewer_left}
+use Rattle.dac_sorted.proofs.ChunkLemmas.{get_first, get_later, looked_up}
 use Rattle.dac_sorted.proofs.map.SortedMap.nth.Goals as goal
 
 pub loop-chunk-init : goal.loop-chunk-init

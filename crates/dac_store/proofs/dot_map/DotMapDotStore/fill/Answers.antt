@@ -1,5 +1,6 @@
 use Rattle.std.proofs.Common.{subst}
-use Rattle.dac_store.proofs.ChunkLemmas.{IsFilling, all_filled, fewer, filling_more, filling_start}
+use Rattle.dac_sorted.specs.laws.Parted.{fewer_left}
+use Rattle.dac_store.proofs.ChunkLemmas.{IsFilling, all_filled, filling_more, filling_start}
 use Rattle.dac_store.proofs.dot_map.DotMapDotStore.fill.Goals as goal
 
 pub loop-chunk-init : goal.loop-chunk-init
@@ -11,7 +12,7 @@ loop-chunk-preserved g c =
     c.in-Some.ensures.parted c.loop-chunk.invariant c.fill_each.ensures.own c.fill_each.ensures.more
 
 pub loop-chunk-smaller : goal.loop-chunk-smaller
-loop-chunk-smaller g c = fewer c.loop-chunk.chunks c.in-Some.chunk.entries.now c.next.new.self c.in-Some.ensures.parted c.in-Some.ensures.some
+loop-chunk-smaller g c = fewer_left c.loop-chunk.chunks c.in-Some.chunk.entries.now c.next.new.self c.in-Some.ensures.parted c.in-Some.ensures.some
 
 pub returns-clause-own : goal.returns-clause-own
 returns-clause-own g c =

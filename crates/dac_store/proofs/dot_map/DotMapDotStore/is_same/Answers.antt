@@ -1,6 +1,7 @@
 use Rattle.std.proofs.Common.{◌≡◌, ◌∙◌, length, sym, ap}
 use Rattle.std.specs.Cmp.{Equal-is}
-use Rattle.dac_store.proofs.EntryLemmas.{same_end, same_first, shorter, still_as_many}
+use Rattle.dac_sorted.specs.laws.Parted.{shorter}
+use Rattle.dac_store.proofs.EntryLemmas.{same_end, same_first, still_as_many}
 use Rattle.dac_store.proofs.dot_map.DotMapDotStore.is_same.Goals as goal
 
 pub loop-key-init : goal.loop-key-init

@@ -4,7 +4,7 @@ use Rattle.dac_lattice.specs.laws.EntryLaws.{each_entry, each_key}
 use Rattle.dac_store.specs.Below.{IsBelowAt}
 use Rattle.dac_store.specs.laws.DotMaps.{at_store}
 use Rattle.dac_store.proofs.BelowLemmas.{part_in_order, walked, walking_here, walking_next, walking_start}
-use Rattle.dac_store.proofs.ChunkLemmas.{fewer}
+use Rattle.dac_sorted.specs.laws.Parted.{fewer_left}
 use Rattle.dac_store.proofs.dot_map.DotMapDotStore.leq_in.Goals as goal
 
 pub loop-chunk-init : goal.loop-chunk-init
@@ -30,7 +30,7 @@ loop-chunk-preserved g c =
     g.met.K.Ord.total g.met.K.MapKey.exact c.chunk_below.new.left (rw (← c.of-filtered.ensures) (c.chunk_below.ensures.below.0 yes)) c.chunk_below.ensures.in_order (c.chunk_below.ensures.later yes)
 
 pub loop-chunk-smaller : goal.loop-chunk-smaller
-loop-chunk-smaller g c = fewer c.loop-chunk.chunks c.in-Some.chunk.entries.now c.next.new.self c.in-Some.ensures.parted c.in-Some.ensures.some
+loop-chunk-smaller g c = fewer_left c.loop-chunk.chunks c.in-Some.chunk.entries.now c.next.new.self c.in-Some.ensures.parted c.in-Some.ensures.some
 
 pub returns-then-not-chunk_below : goal.returns-then-not-chunk_below
 returns-then-not-chunk_below g c =

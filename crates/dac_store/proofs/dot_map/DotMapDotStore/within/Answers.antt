@@ -1,32 +1,11 @@
-use Rattle.std.proofs.Common.{◌∙◌, List, refl, sym}
-use Rattle.std.proofs.lemmas.Bool.{false≢true}
-use Rattle.dac_store.specs.DotMaps.{has_in}
-use Rattle.dac_store.specs.Stores.{IsHeld}
-use Rattle.dac_store.proofs.ChunkLemmas.{fewer, held_splits, walk_end, walk_here, walk_next, walk_start}
+use Rattle.std.proofs.Common.{◌≡◌, true}
+use Rattle.std.specs.FinSet as set
+use Rattle.dac_store.proofs.ChunkLemmas.{all_dots, each_dots}
 use Rattle.dac_store.proofs.dot_map.DotMapDotStore.within.Goals as goal
 
-pub loop-chunk-init : goal.loop-chunk-init
-loop-chunk-init g c = walk_start (λ m. IsHeld (has_in g.S.DotStore.has m) c.args.context.now) c.chunks-chunks.result c.args.self.now (rw c.self.view_is at c.chunks-chunks.ensures)
-
-pub loop-chunk-preserved : goal.loop-chunk-preserved
-loop-chunk-preserved g c =
-    let P = (λ (m : List (g.row.K.Denot × g.row.S.Denot)). IsHeld (has_in g.S.DotStore.has m) c.args.context.now) in
-    walk_next P (held_splits g.S.DotStore.has c.args.context.now) c.loop-chunk.chunks c.in-Some.chunk.entries.now c.next.new.self c.args.self.now c.in-Some.ensures.parted c.loop-chunk.invariant
-    (c.are_within.ensures.0 c.if-not-are_within.false)
-
-pub loop-chunk-smaller : goal.loop-chunk-smaller
-loop-chunk-smaller g c = fewer c.loop-chunk.chunks c.in-Some.chunk.entries.now c.next.new.self c.in-Some.ensures.parted c.in-Some.ensures.some
-
-pub returns-then-not-are_within : goal.returns-then-not-are_within
-returns-then-not-are_within g c =
-    let P = (λ (m : List (g.row.K.Denot × g.row.S.Denot)). IsHeld (has_in g.S.DotStore.has m) c.args.context.now) in (
-      λ e. absurd (false≢true e),
-      λ all. absurd (false≢true (sym c.if-not-are_within.true ∙ c.are_within.ensures.1
-          (walk_here P (held_splits g.S.DotStore.has c.args.context.now) c.loop-chunk.chunks c.in-Some.chunk.entries.now c.next.new.self c.args.self.now c.in-Some.ensures.parted c.loop-chunk.invariant all))),
-    )
-
 pub returns : goal.returns
-returns g c = (
-  λ _. walk_end (λ m. IsHeld (has_in g.S.DotStore.has m) c.args.context.now) c.loop-chunk.chunks c.args.self.now c.in_default.ensures.0 (λ x h. absurd (false≢true h)) c.loop-chunk.invariant,
-  λ _. refl,
-)
+returns g c =
+    let all = rw c.self.view_is at c.all.ensures in (
+      λ e. all_dots g.S.DotStore.has (λ x. set.contains c.args.context.now x ≡ true) c.args.self.now (all.0 e),
+      λ h. all.1 (each_dots g.S.DotStore.has (λ x. set.contains c.args.context.now x ≡ true) c.args.self.now h),
+    )

@@ -1,7 +1,0 @@
-use Rattle.std.proofs.Common.{take}
-use Rattle.std.specs.List.{All}
-use Rattle.dac_store.specs.Stores.{IsHeld}
-use Rattle.dac_store.proofs.part.are_within.Given as goal
-
-abbrev pub invariant-loop-store : goal.invariant-loop-store
-invariant-loop-store g l = All (λ e. IsHeld (g.S.DotStore.has e.1) l.context) (take l.store-index l.entries)
