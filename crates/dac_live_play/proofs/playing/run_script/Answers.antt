@@ -62,7 +62,7 @@ returns-clause-ok g c =
     let is : IsReport t asked report = record { nodes = run.nodes; histories = run.histories; seats = run.seats; links = run.links; falls = run.phases; pages = run.pages; callers = run.callers; lines = run.lines; reads = run.reads } in
     let reported : IsReportOf t c.args.script.now report = record { phases = asked; asks = asks; few = λ many. no_error _ _ (run.many many); is = is } in
     let rows = rows_of c.in_ok-ends.ends.items in
-    let made = c.in_ok-run.run in
+    let made = c.in_ok-run.run' in
     let weaves = c.in_ok-run.ensures in
     record {
       report = report;
