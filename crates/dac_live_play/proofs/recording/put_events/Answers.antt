@@ -1,7 +1,6 @@
 use Rattle.std.proofs.Common.{◌++◌, refl, ap, ◌∙◌}
 use Rattle.std.proofs.lemmas.List.{get_or_default}
 use Rattle.dac_live_play.proofs.Common.{flat_map}
-use Rattle.std.specs.Prelude.{zip}
 use Rattle.dac_phases.specs.laws.Spoken.{zip_all}
 use Rattle.dac_live_play.specs.Recordings.{told_text}
 use Rattle.dac_live_play.proofs.Phased.{told_more}

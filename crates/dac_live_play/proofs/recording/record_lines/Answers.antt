@@ -1,6 +1,5 @@
-use Rattle.std.proofs.Common.{◌≡◌, ◌<◌, ◌≤◌, length, sym, ap, ◌∙◌, arith}
-use Rattle.dac_live_play.proofs.Common.{MAX_TEXT, canonical_text}
-use Rattle.dac_script.specs.Input.{IsTaken}
+use Rattle.std.proofs.Common.{◌<◌, length, ap, arith}
+use Rattle.dac_live_play.proofs.Common.{MAX_TEXT}
 use Rattle.dac_live_play.proofs.Phased.{too_long, none_fits}
 use Rattle.dac_live_play.proofs.recording.record_lines.Goals as goal
 
