@@ -3,6 +3,7 @@ mod Asking
 mod Ends
 mod Lines
 mod Owed
+mod Phased
 mod Placing
 mod Reports
 mod Sayings

@@ -1,3 +1,5 @@
+mod Counted
+mod Ended
 mod Parted
 mod Seating
 mod Shipped

@@ -1,4 +1,5 @@
 pub mod Asks
+pub mod Ends
 pub mod Pairs
 pub mod Phases
 pub mod Seating

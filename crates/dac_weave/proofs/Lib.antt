@@ -4,4 +4,5 @@ mod Least
 mod Twice
 mod Replays
 mod Placed
+mod Cutting
 mod Converged
