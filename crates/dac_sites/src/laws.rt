@@ -10,7 +10,7 @@ ghost use Rattle.dac_sites.specs.Added.{Added, AddedRefused, WhereRecorded, Unle
 ghost use Rattle.dac_sites.specs.Paged.{page_after};
 
 use crate::faults::LiveFault;
-use crate::paged::{PagedJournal, next_update};
+use crate::paged::{PagedJournal, prepare_page};
 use crate::same::is_record;
 use dac_events::Refusal;
 use dac_journal::{Answer, Call, Record};
@@ -92,8 +92,7 @@ pub(crate) fn record_call<R: Wait>(
         pages,
     } = paged;
     let next = journal.prepare(seat, event)?;
-    let update = next_update(*alloc, journal, pages, &next)?;
-    pages.prepare(update)?;
+    prepare_page(*alloc, journal, pages, &next)?;
     let said = journal.commit(next)?;
     pages.publish(rt);
     Ok(said)

@@ -1,6 +1,6 @@
 //! A journal with its published pages.
 
-ghost use Rattle.std.specs.Prelude.{◌≡◌, ◌^◌, ◌<◌, ◌++◌, ◌∷◌, [], true, IfOk};
+ghost use Rattle.std.specs.Prelude.{◌≡◌, ◌^◌, ◌<◌, ◌++◌, ◌∷◌, [], true, Some, IfOk, MatchResult};
 ghost use Rattle.std.specs.Option.{option_copied};
 ghost use Rattle.dac_status.specs.Summaries.{summary_of};
 ghost use Rattle.dac_journal.specs.Keeping.{leaves_state};
@@ -34,7 +34,7 @@ pub fn page_of(alloc: Global, config: &Config, place: u64, node: &Node) -> Page
 
 /// The update of the pages by a prepared record. The summary is computed again only if the state can have changed, or if
 /// a page is prepared that belongs to a record that wasn't appended.
-pub(crate) fn next_update(
+fn next_update(
     alloc: Global,
     journal: &Journal,
     pages: &Pages,
@@ -53,6 +53,28 @@ pub(crate) fn next_update(
     }
     let page = page_by(alloc, journal.config(), place, node, next.change())?;
     Ok(Update::Whole(page))
+}
+
+/// Prepares the page after a prepared record. A failed call changes nothing.
+pub(crate) fn prepare_page(
+    alloc: Global,
+    journal: &Journal,
+    pages: &mut Pages,
+    next: &Next,
+) -> Result<(), NoMemory>
+    requires goes { GoesOnBy journal.now.beginning journal.now.records next.now.entry
+        next.now.change }
+    requires shown { pages.old.shown ≡ page_after journal.now.beginning journal.now.records }
+    ensures { MatchResult result
+        (λ _. pages.new ≡ record {
+          shown = pages.old.shown;
+          ready = Some (page_after journal.now.beginning (journal.now.records ++ next.now.entry ∷ []));
+        })
+        (λ _. pages.new ≡ pages.old) }
+{
+    let update = next_update(alloc, journal, pages, next)?;
+    pages.prepare(update)?;
+    Ok(())
 }
 
 /// Returns whether after a result the newest page, but for its place, is the published one.
