@@ -130,7 +130,7 @@ abbrev pub phases_from : Table → List ℕ → Woven → ℕ → ℕ → List �
 phases_from table placeholder run before start [] = []
 phases_from table placeholder run before start (bound ∷ bounds) =
     phase_text table placeholder (before + 1)
-      (zip (drop start (take bound run.events.items)) (drop start (take bound run.seats.items)))
+    (zip (drop start (take bound run.events.items)) (drop start (take bound run.seats.items)))
     ++ phases_from table placeholder run (before + 1) bound bounds
 
 -- the run's first phases, this many

@@ -38,10 +38,10 @@ loop-before-preserved c =
     let told : c.part_of-told.result.now ≡ drop start (take bound run.events.items) = c.part_of-told.ensures ∙ ap (λ (e : List WorldEvent). drop start (take bound e)) c.as_slice-events.ensures.value in
     let own : c.part_of-own.result.now ≡ drop start (take bound run.seats.items) = c.part_of-own.ensures ∙ ap (λ (s : List ℕ). drop start (take bound s)) c.as_slice-seats.ensures.value in
     let more : c.put_phase.new.text.items ≡ first ++ phases_text table placeholder run (i + 1) =
-        put_phase_more table placeholder run i start bound first c.loop-before.text.items c.put_phase.new.text.items lt c.loop-before.invariant.start bound_is c.loop-before.invariant.text
-        (c.in_ok-put_phase.ensures ∙ (λ k. c.loop-before.text.items ++ phase_text table placeholder (i + 1) (zip (told k) (own k)))) in
+    put_phase_more table placeholder run i start bound first c.loop-before.text.items c.put_phase.new.text.items lt c.loop-before.invariant.start bound_is c.loop-before.invariant.text
+    (c.in_ok-put_phase.ensures ∙ (λ k. c.loop-before.text.items ++ phase_text table placeholder (i + 1) (zip (told k) (own k)))) in
     let size : length ((first ++ phases_text table placeholder run (i + 1)) ++ pages) ≡ length c.put_phase.new.text.items + length pages =
-        length-append (first ++ phases_text table placeholder run (i + 1)) pages ∙ ap (λ (t : List ℕ). length t + length pages) (sym more) in
+    length-append (first ++ phases_text table placeholder run (i + 1)) pages ∙ ap (λ (t : List ℕ). length t + length pages) (sym more) in
     let Has = PhasesFit table placeholder run first pages in
     record {
       text = more;
