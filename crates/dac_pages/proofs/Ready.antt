@@ -1,5 +1,5 @@
 -- The page that is prepared.
-use Rattle.std.proofs.Common.{◌≡◌, ◌↔◌, ℕ, ◌<◌, List, [], ◌∷◌, ◌++◌, length, fold, None, Some, IsSome, unwrap_or, Result, Ok, Err, IsOk, MatchResult, refl, ap, arith}
+use Rattle.std.proofs.Common.{◌≡◌, List, [], ◌∷◌, ◌++◌, fold, None, Some, unwrap_or, Result, Ok, Err, IsOk, MatchResult, refl, ap}
 use Rattle.std.proofs.lemmas.List.Sums.{fold-append}
 use Rattle.dac_pages.specs.declared.page.Page.{Page}
 use Rattle.dac_pages.specs.declared.page.Update.{Update}
@@ -16,11 +16,6 @@ taken_in (u ∷ us) page ready e = cc
 
 pub ready-none : (page : Page) (us : List Update) → us ≡ [] → ready_by page us ≡ None
 ready-none page us e = ap (ready_by page) e
-
--- a page is prepared if there are updates
-pub ready-some : (page : Page) (us : List Update) → (0 < length us) ↔ IsSome (ready_by page us)
-ready-some page [] = (λ h. absurd (omega (arith, h)), λ h. absurd h)
-ready-some page (u ∷ us) = (λ _. tt, λ _. omega arith)
 
 -- the clause for `Ok` holds of a call that succeeds
 pub if_ok : {A B P : Type 0} (Q : B → Type 0) (r : Result A B) → IsOk r → MatchResult r (λ _. P) Q → P
