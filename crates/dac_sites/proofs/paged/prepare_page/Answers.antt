@@ -1,4 +1,3 @@
-use Rattle.std.proofs.Common.{◌≡◌, Some, ◌∙◌}
 use Rattle.dac_sites.proofs.Bringing.{ready_is}
 use Rattle.dac_sites.proofs.paged.prepare_page.Goals as goal
 
