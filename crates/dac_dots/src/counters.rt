@@ -1,20 +1,25 @@
 //! Sets of counters, stored as spans of consecutive counters.
-ghost use Rattle.std.specs.Prelude.{◌≡◌, ◌↔◌, ◌+◌, ◌^◌, ◌<◌, ◌≤◌, ◌||◌, ◌&&◌, ◌∷◌, ◌++◌, [], false, true, length, map, nat_le, IfOk, IsTrue, OnErr, OnOk};
+ghost use Rattle.std.specs.Prelude.{◌≡◌, ◌↔◌, ◌+◌, ◌^◌, ◌<◌, ◌≤◌, ◌||◌, ◌&&◌, ◌∷◌, ◌++◌, [], false, true, length, map, nat_le, IfOk, IfSome, IsTrue, OnErr, OnOk};
 ghost use Rattle.std.specs.Ordering.{eq_by_cmp, nat_cmp};
 ghost use Rattle.dac_origins.specs.Dots.{dot};
 ghost use Rattle.dac_origins.specs.Keys.{IsRising, has_key};
 ghost use Rattle.dac_origins.specs.declared.dot.Dot.{Dot};
+ghost use Rattle.std.specs.FinSet as set;
 ghost use Rattle.dac_dots.specs.DotFilters.{may_have};
+ghost use Rattle.dac_dots.specs.News.{AreWithSpan};
 ghost use Rattle.dac_dots.specs.Rows.{IsGreatest, further_of, reach_of};
 ghost use Rattle.dac_dots.specs.Spans.{AreSpans, HaveEnded, any_span, are_apart, counters_in, span_has};
 ghost use Rattle.std.specs.List.{slice_get};
 ghost use Rattle.dac_dots.specs.Walking.{counters_after, counters_along, left_of};
 
+use crate::context::Context;
 use crate::filter::DotFilter;
 use crate::further::FurtherIter;
+use crate::last_step::LastStep;
 use crate::spans::{Span, Spans};
 use dac_base::NoMemory;
 use dac_origins::{Dot, Origin};
+use dac_sorted::Alter;
 use std::alloc::Global;
 use std::marker::Model;
 
@@ -263,6 +268,39 @@ impl Counters {
         merge_spans(self.alloc, self.spans(), theirs)
     }
 
+    /// The span of this set that isn't in the other one, or `None` if there is none. `None` instead of both if there are
+    /// more.
+    pub(crate) fn news_beside(&self, other: &Self) -> Option<Option<Span>>
+        ensures { IfSome result
+            (AreWithSpan (has_key nat_cmp self.now) (has_key nat_cmp other.now)) }
+    {
+        let mut news = None;
+        for span in self.spans() {
+            if other.has_span(*span) {
+                continue;
+            }
+            if news.is_some() {
+                return None;
+            }
+            news = Some(*span);
+        }
+        Some(news)
+    }
+
+    /// Whether each counter of the origin in this set is in one of both contexts.
+    pub(crate) fn is_within_both(&self, origin: Origin, first: &Context, second: &Context) -> bool
+        ensures { result ≡ true → (n : _) → has_key nat_cmp self.now n ≡ true
+            → (set.contains first.now (dot origin n) || set.contains second.now (dot origin n))
+            ≡ true }
+    {
+        for span in self.spans() {
+            if !span_within_both(origin, *span, first, second) {
+                return false;
+            }
+        }
+        true
+    }
+
     /// Whether this set is a subset of the other one.
     pub(crate) fn is_subset(&self, other: &Self) -> bool
         ensures { IsTrue result
@@ -366,6 +404,58 @@ impl Counters {
             dots.push(Dot { origin, n })?;
         }
         Ok(())
+    }
+}
+
+/// Whether each counter of the origin in a span is in one of both contexts.
+fn span_within_both(origin: Origin, span: Span, first: &Context, second: &Context) -> bool
+    requires { span.first ≤ span.last }
+    ensures { result ≡ true → (n : _) → span_has n span ≡ true
+        → (set.contains first.now (dot origin n) || set.contains second.now (dot origin n)) ≡ true }
+{
+    for n in span.first..span.last {
+        if !is_in_either(first, second, Dot { origin, n }) {
+            return false;
+        }
+    }
+    let last = Dot {
+        origin,
+        n: span.last,
+    };
+    is_in_either(first, second, last)
+}
+
+/// Whether a dot is in one of both contexts.
+fn is_in_either(first: &Context, second: &Context, dot: Dot) -> bool
+    ensures { result ≡ (set.contains first.now dot || set.contains second.now dot) }
+{
+    first.contains(dot) || second.contains(dot)
+}
+
+/// Inserts the counters of a span right after a step.
+#[derive(Drop)]
+pub(crate) struct PutAfter<'a, S> {
+    pub(crate) span: Span,
+    pub(crate) step: &'a S,
+    ghost valid: { span.first ≤ span.last },
+}
+
+impl<T, S: LastStep<T>> Alter<Counters, T> for PutAfter<'_, S> {
+    ghost use Rattle.std.specs.Prelude.{◌≡◌, ℕ, ◌||◌};
+    ghost use Rattle.std.specs.Ordering.{nat_cmp};
+    ghost use Rattle.dac_origins.specs.Keys.{IsRising, has_key};
+    ghost use Rattle.dac_dots.specs.Spans.{span_has};
+
+    ghost does = { λ a ns t ms u. IsRising nat_cmp ms
+        × (((n : ℕ) → has_key nat_cmp ms n ≡ (span_has n a.span || has_key nat_cmp ns n))
+        × S.steps a.step.now t u) };
+
+    #[inline(always)]
+    fn alter(&self, counters: &mut Counters, target: &mut T) -> Result<(), NoMemory> {
+        let alloc = counters.alloc;
+        counters
+            .spans
+            .put_after(alloc, self.span, self.step, target)
     }
 }
 
