@@ -2,14 +2,13 @@
 """Properties of every output of `distac record`: a run of a live script, as a script of `distac sim`.
 
 - The configuration is the live script's, in its canonical text.
-- The first comments are the output of `distac live` for such a run: for a racing script with the properties of racing.py, and
+- The comments are the output of `distac live` for such a run: for a racing script with the properties of racing.py, and
   for one with one outcome by live.py.
-- They are followed by `% phase P` for each phase, with its events, and by `page NODE` for each node in name order.
-- `% caller C` precedes each event of a caller, and no other.
-- In each phase each link ships five times, and the messages of these ships are heard in the same phase, in order, each once
-  and after its ship.
-- In each phase the events of a caller are its lines in order, each answered as in the first comments.
-- The pages that the simulator's model prints at the end are those of these comments.
+- The lines are events, followed by the page of each node in name order.
+- Each link ships five times a phase, and its messages are heard in order, each once and after its ship.
+- Without ships and hearings the lines of a node are those of its callers: phase by phase, each caller's in order, and
+  each answered as in the comments.
+- The pages that the simulator's model prints at the end are those of the comments.
 
 If a node's name has a space, no line can name the node, and only that fault's line is printed.
 
@@ -20,37 +19,23 @@ from __future__ import annotations
 
 import sys
 from collections import Counter, defaultdict
-from dataclasses import dataclass
 from typing import Callable, Dict, List, Optional, Tuple
 
 import live
 import racing
-from check import Config, Fault, spelled
-from live import CALLERS, READ, LiveReader, Phase, Run, phases_of
+from check import Config, Fault
+from live import READ, LiveReader, Phase, Run, phases_of
 from racing import OK, Broken, demand
-from schedules import CALLER_MARK, COMMENT, PHASE_MARK, line_of
 from simulator import InputFault, Line, LineReader, Player, ScriptFault, Value, parted, read_input
 
 SHIP, HEAR, PAGE = b"ship", b"hear", b"page"
 SHIPS_OF_PHASE = 5
-LAST_OF_OUTPUT = b"\n% weave ok\n"
-CALLER_MARKS = {CALLER_MARK % int(caller): int(caller) for caller in CALLERS}
+MARK = b"% "
 UNSPELLED = (b"record fault 2 Unspelled\n", 1)
 # A caller's line with its answer.
 Told = Tuple[bytes, Tuple[Value, ...], bytes]
-# The lines of each caller of each node, without reads.
-Rows = Dict[Tuple[int, int], List[Told]]
 # Of a live script and the comments: what is wrong, or nothing.
 Judge = Callable[[bytes, bytes], Optional[str]]
-
-
-@dataclass(frozen=True)
-class Event:
-    """An event with its answer, and the caller that a comment names, or 0."""
-
-    line: Line
-    caller: int
-    answer: bytes
 
 
 def is_pages_line(line: bytes) -> bool:
@@ -58,21 +43,19 @@ def is_pages_line(line: bytes) -> bool:
     return line.startswith((b"node ", b"heard ", b"app ", b"list"))
 
 
-def printed_in(comments: bytes) -> bytes:
-    """The output that comments contain."""
-    lines = comments.split(b"\n")[:-1]
-    demand(all(line.startswith(COMMENT) for line in lines), "an event precedes the output of distac live")
-    return b"".join(line[len(COMMENT) :] + b"\n" for line in lines)
+def printed_in(script: bytes) -> bytes:
+    """The output in a recorded script's comments."""
+    return b"".join(line[len(MARK) :] + b"\n" for line in script.split(b"\n") if line.startswith(MARK))
 
 
-def told_in(printed: bytes, phases: List[Phase], config: Config) -> List[Rows]:
-    """The lines of each phase with their answers."""
+def told_in(printed: bytes, phases: List[Phase], config: Config) -> List[Dict[Tuple[int, int], List[Told]]]:
+    """The lines of each phase, by caller and node, without reads, with their answers."""
     lines = iter(printed.split(b"\n"))
     run = Run(config)
-    told: List[Rows] = []
+    told: List[Dict[Tuple[int, int], List[Told]]] = []
     for phase in phases:
         next(lines)
-        rows: Rows = defaultdict(list)
+        rows: Dict[Tuple[int, int], List[Told]] = defaultdict(list)
         for asked in sorted(phase.asked, key=lambda it: (it.node, it.caller)):
             answer = next(lines)[len(run.named(asked)) :]
             if asked.word != READ:
@@ -83,63 +66,48 @@ def told_in(printed: bytes, phases: List[Phase], config: Config) -> List[Rows]:
     return told
 
 
-def events_in(script: bytes, reader: LineReader, player: Player) -> List[List[Event]]:
-    """The events of each phase, played."""
-    phases: List[List[Event]] = []
-    caller = 0
-    for number, text in enumerate(script.split(b"\n")[:-1], 1):
-        demand(bool(phases) or text == PHASE_MARK % 1, f"{text!r} precedes the first phase")
-        if text in CALLER_MARKS or text.startswith(b"%"):
-            demand(not caller, f"{text!r} parts an event from its caller")
-        if text in CALLER_MARKS:
-            caller = CALLER_MARKS[text]
-        elif text.startswith(b"%"):
-            demand(text == PHASE_MARK % (len(phases) + 1), f"{text!r} follows phase {len(phases)}")
-            phases.append([])
-        else:
-            demand(bool(text), f"an empty line stands in phase {len(phases)}")
-            line = reader.read(text, number)
-            demand(text == line_of(player.world.config, line.word, line.values), f"{text!r} is spelled otherwise")
-            phases[-1].append(Event(line, caller, answer_of(player.play(line))))
-            caller = 0
-    demand(not caller, "no event follows the last caller")
-    return phases
+def is_merged(all_told: List[Told], rows: List[List[Told]]) -> int | None:
+    """The number of lines at the front that merge these rows, each in order, if they do."""
+    count = sum(map(len, rows))
+    places = {(0,) * len(rows)}
+    for one in all_told[:count]:
+        steps = [(at, n) for at in places for n, row in enumerate(rows) if row[at[n] : at[n] + 1] == [one]]
+        places = {(*at[:n], at[n] + 1, *at[n + 1 :]) for at, n in steps}
+    return count if places and len(all_told) >= count else None
 
 
-def demand_callers(config: Config, number: int, events: List[Event], told: Rows) -> None:
-    """Demands that the events of a phase are the lines of its callers, besides ships and hearings."""
-    rows: Rows = defaultdict(list)
-    for event in events:
-        demand(bool(event.caller) == (event.line.word not in (SHIP, HEAR)), f"{event} has the wrong caller")
-        if event.caller:
-            rows[int(event.line.values[0]), event.caller].append((event.line.word, event.line.values, event.answer))
-    for node, caller in {**told, **rows}:
-        why = f"caller {caller} of {config.nodes[node]!r} has other lines or answers in phase {number}"
-        demand(rows[node, caller] == told[node, caller], why)
+def demand_callers(config: Config, events: List[Tuple[Line, bytes]], told: List[Dict[Tuple[int, int], List[Told]]]) -> None:
+    """Demands that a node's lines without ships and hearings are those of its callers."""
+    for node, name in enumerate(config.nodes):
+        own = [(line, answer) for line, answer in events if line.values[0] == node and line.word not in (SHIP, HEAR)]
+        left = [(line.word, line.values, answer) for line, answer in own]
+        for number, rows in enumerate(told, 1):
+            count = is_merged(left, [row for (other, _), row in rows.items() if other == node])
+            demand(count is not None, f"the callers of {name!r} have other lines or answers in phase {number}")
+            left = left[count or 0 :]
+        demand(not left, f"{name!r} has a line that no caller asked for")
 
 
-def demand_links(config: Config, phases: List[List[Event]]) -> None:
-    """Demands that in each phase each link ships as often as it must, and its messages are heard in order, each once."""
+def demand_links(config: Config, events: List[Tuple[Line, bytes]], phases: int) -> None:
+    """Demands that each link ships as often as it must, and that its messages are heard in order, each once."""
+    ships = Counter(line.values for line, _ in events if line.word == SHIP)
     nodes = range(len(config.nodes))
-    wanted = {(a, b): SHIPS_OF_PHASE for a in nodes for b in nodes if a != b}
+    wanted = {(a, b): SHIPS_OF_PHASE * phases for a in nodes for b in nodes if a != b}
+    demand(dict(ships) == wanted, f"links shipped {dict(ships)}")
     links: list[tuple[Value, ...]] = []
-    for number, events in enumerate(phases, 1):
-        ships = Counter(event.line.values for event in events if event.line.word == SHIP)
-        demand(dict(ships) == wanted, f"in phase {number} links shipped {dict(ships)}")
-        sent: Dict[tuple[Value, ...], List[int]] = defaultdict(list)
-        heard: Dict[tuple[Value, ...], List[int]] = defaultdict(list)
-        for event in events:
-            line = event.line
-            demand(not event.answer.startswith(b"no "), f"{line} was answered {event.answer!r}")
-            if line.word == SHIP and event.answer == OK:
-                links.append(line.values)
-                sent[line.values].append(len(links))
-            elif line.word == HEAR:
-                message = int(line.values[1])
-                link = links[message - 1]
-                demand(link[1] == line.values[0], f"{line} isn't of a link to that node")
-                heard[link].append(message)
-        demand(heard == sent, f"of {dict(sent)} in phase {number} there were heard {dict(heard)}")
+    sent: Dict[tuple[Value, ...], List[int]] = defaultdict(list)
+    heard: Dict[tuple[Value, ...], List[int]] = defaultdict(list)
+    for line, answer in events:
+        demand(not answer.startswith(b"no "), f"{line} was answered {answer!r}")
+        if line.word == SHIP and answer == OK:
+            links.append(line.values)
+            sent[line.values].append(len(links))
+        elif line.word == HEAR:
+            number = int(line.values[1])
+            link = links[number - 1]
+            demand(link[1] == line.values[0], f"{line} isn't of a link to that node")
+            heard[link].append(number)
+    demand(heard == sent, f"of {dict(sent)} there were heard {dict(heard)}")
 
 
 def answer_of(said: List[bytes]) -> bytes:
@@ -156,22 +124,20 @@ def demand_all(source: bytes, output: bytes, judge: Judge) -> None:
         raise Broken(f"the output is no script: {fault!r}") from fault
     parts = parted(output)
     demand(found == config and parts is not None and parts[0] == config.canonical_text, "the configuration is another one")
-    comments, last, script = (parts[1] if parts else b"").partition(LAST_OF_OUTPUT)
-    printed = printed_in(comments + last)
+    printed = printed_in(parts[1] if parts else b"")
     wrong = judge(source, printed)
     demand(wrong is None, f"the comments: {wrong}")
-    ends = b"".join(PAGE + b" " + spelled(name) + b"\n" for name in config.nodes)
-    demand(script.endswith(ends), "the last lines aren't the page of each node")
+    events, pages = [line for line in lines if line.word != PAGE], [line for line in lines if line.word == PAGE]
+    demand(lines == events + pages, "a page stands among the events")
+    demand(pages == [Line(PAGE, (node,)) for node in range(len(config.nodes))], "not each node has its page")
     player = Player(config)
-    played = events_in(script[: len(script) - len(ends)], LineReader(config), player)
-    demand(len(played) == len(phases), f"{len(played)} of {len(phases)} phases stand there")
-    demand_links(config, played)
-    for number, (events, told) in enumerate(zip(played, told_in(printed, phases, config)), 1):
-        demand_callers(config, number, events, told)
-    shown = [text for line in lines[len(lines) - len(config.nodes) :] for text in player.play(line)]
+    answered = [(line, answer_of(player.play(line))) for line in events]
+    demand_links(config, answered, len(phases))
+    demand_callers(config, answered, told_in(printed, phases, config))
+    shown = [text for line in pages for text in player.play(line)]
     behind = printed.split(b"\n")
-    last_lines = behind[len(behind) - len(shown) - 3 : len(behind) - 3]
-    demand(shown == last_lines and all(map(is_pages_line, last_lines)), "the pages are others")
+    last = behind[len(behind) - len(shown) - 3 : len(behind) - 3]
+    demand(shown == last and all(map(is_pages_line, last)), "the pages are others")
 
 
 def by_races(source: bytes, printed: bytes) -> str | None:

@@ -14,7 +14,7 @@ from __future__ import annotations
 
 import random
 from dataclasses import dataclass, field
-from itertools import accumulate, chain, count
+from itertools import accumulate, count
 from typing import Callable, Dict, Iterable, Iterator, List, Tuple
 
 from check import Config, spelled
@@ -25,8 +25,6 @@ CHANGES = 3
 SHIP, HEAR, PAGE = b"ship", b"hear", b"page"
 REFUSED, NO_NEWS = b"refused ", HEARD[False]
 COMMENT, CLOSED = b"% ", (b"close ok", b"weave ok")
-# The comments before the events of a phase, and before an event of a caller.
-PHASE_MARK, CALLER_MARK = b"%% phase %d", b"%% caller %d"
 
 # The lines of each node's final page.
 Pages = Tuple[Tuple[bytes, ...], ...]
@@ -87,13 +85,10 @@ def kind_of(number: int) -> str:
 
 @dataclass(eq=False)
 class Event:
-    """An event of a run, with its phase, and its caller or 0. That of a hearing has the ship of its message, so that it keeps its
-    own number."""
+    """An event of a run. That of a hearing has the ship of its message, so that it keeps its own number."""
 
     word: bytes
     values: Tuple[Value, ...]
-    phase: int
-    caller: int = 0
     ship: Event | None = None
 
 
@@ -132,11 +127,11 @@ class Kept(Run):
 
     def answer(self, asked: Asked) -> bytes:
         if asked.word != READ:
-            self.add(Event(asked.word, asked.values, len(self.phases), asked.caller))
+            self.add(Event(asked.word, asked.values))
         return super().answer(asked)
 
     def ship(self, link: Link) -> None:
-        shipped, event = len(self.world.messages), Event(SHIP, (link.node, link.to), len(self.phases))
+        shipped, event = len(self.world.messages), Event(SHIP, (link.node, link.to))
         super().ship(link)
         if len(self.world.messages) > shipped:
             self.ships[shipped + 1] = event
@@ -147,7 +142,7 @@ class Kept(Run):
     def hear(self, link: Link) -> None:
         """Hears the next message, if there is one."""
         if link.letters:
-            self.add(Event(HEAR, (link.to,), len(self.phases), ship=self.ships[link.letters[0]]))
+            self.add(Event(HEAR, (link.to,), self.ships[link.letters[0]]))
         super().hear(link)
 
     @property
@@ -180,21 +175,9 @@ class Replay:
 
     @property
     def rows(self) -> List[Tuple[bytes, List[bytes]]]:
-        """The line of each event with its output."""
-        return [(line_of(self.config, event.word, values), said) for event, values, said in self.played]
-
-    def script(self, least: int) -> List[bytes]:
-        """The lines of a script of `distac sim`: so many phases at least and all that have events, and lines that print the pages."""
-        phases: Dict[int, List[Tuple[Event, Tuple[Value, ...]]]] = {number: [] for number in range(1, least + 1)}
-        for event, values, _ in self.played:
-            phases.setdefault(event.phase, []).append((event, values))
-        lines = (line for number, events in phases.items() for line in phase_lines(self.config, number, events))
-        return [*lines, *page_lines(self.config)]
-
-    @property
-    def output(self) -> List[bytes]:
-        """The output of this script."""
-        return [*(line for _, _, said in self.played for line in said), *chain(*self.pages)]
+        """Each line of a script of `distac sim` with its output. The last ones print the pages."""
+        events = [(line_of(self.config, event.word, values), said) for event, values, said in self.played]
+        return [*events, *((line_of(self.config, PAGE, (node,)), list(page)) for node, page in enumerate(self.pages))]
 
 
 def replayed(config: Config, events: Iterable[Event]) -> Replay:
@@ -212,20 +195,6 @@ def replayed(config: Config, events: Iterable[Event]) -> Replay:
         found.played.append((event, values, said))
     found.pages = tuple(tuple(player.text.page(node)) for node in range(len(config.nodes)))
     return found
-
-
-def phase_lines(config: Config, phase: int, events: Iterable[Tuple[Event, Tuple[Value, ...]]]) -> List[bytes]:
-    """The lines of a phase: its number, and its events, each one of a caller after its caller's number."""
-    lines = [PHASE_MARK % phase]
-    for event, values in events:
-        lines += [CALLER_MARK % event.caller] if event.caller else []
-        lines.append(line_of(config, event.word, values))
-    return lines
-
-
-def page_lines(config: Config) -> List[bytes]:
-    """The lines that print the page of each node."""
-    return [line_of(config, PAGE, (node,)) for node in range(len(config.nodes))]
 
 
 def line_of(config: Config, word: bytes, values: Tuple[Value, ...]) -> bytes:
@@ -252,30 +221,36 @@ def unknown(names: List[bytes]) -> bytes:
 
 
 class Record:
-    """The text that `distac record` prints of a run: its head, the lines of each phase, and those of the pages.
+    """The text that `distac record` prints of a run, if its script has all phases or some first ones.
 
     Its length depends on the run alone, and not on the order of events at different nodes: there each message has its number once.
     """
 
     def __init__(self, config: Config, canonical: bytes, phases: List[Phase], played: List[Played]) -> None:
-        replay = replayed(config, (event for own in played for event in own.events))
-        comments = [line for phase, own in zip(phases, played) for line in (*own.output, *map(Run(config).fed, phase.feeds))]
-        self.head = [canonical, b"--", *(COMMENT + line for line in (*comments, *chain(*replay.pages), *CLOSED))]
-        # (a refused ship isn't among the events played anew)
-        values = {event: values for event, values, _ in replay.played}
-        rows = ([(event, values.get(event, event.values)) for event in own.events] for own in played)
-        self.phases = [phase_lines(config, number, row) for number, row in enumerate(rows, 1)]
-        self.ends = page_lines(config)
+        self.config, self.canonical, self.played = config, canonical, played
+        self.comments = [[*own.output, *map(Run(config).fed, phase.feeds)] for phase, own in zip(phases, played)]
+        numbered = {event: values for event, values, _ in self.replay(len(played)).played}
+        rows = ([(event.word, numbered.get(event, event.values)) for event in own.events] for own in played)
+        self.lines = [[line_of(config, *row) for row in own] for own in rows]
 
-    @property
-    def text(self) -> bytes:
-        return b"\n".join([*self.head, *chain(*self.phases), *self.ends, b""])
+    def replay(self, last: int) -> Replay:
+        """The phases up to this one, played anew."""
+        return replayed(self.config, (event for own in self.played[:last] for event in own.events))
+
+    def text(self, last: int) -> bytes:
+        """The text, if this phase is the last one."""
+        pages = self.replay(last).pages
+        comments = [line for own in (*self.comments[:last], *pages, CLOSED) for line in own]
+        ends = [line_of(self.config, PAGE, (node,)) for node in range(len(pages))]
+        events = [line for own in self.lines[:last] for line in own]
+        return b"\n".join([self.canonical, b"--", *(COMMENT + line for line in comments), *events, *ends, b""])
 
     def last_within(self, most: int) -> int:
-        """The last phase up to which the text without later ones has at most so many bytes, or 0."""
-        parts = ([*self.head, *self.ends], *self.phases)
-        sizes = accumulate(sum(len(line) + 1 for line in part) for part in parts)
-        return max(0, sum(size <= most for size in sizes) - 1)
+        """The last phase up to which the text has at most so many bytes, or 0. A later one may have shorter pages."""
+        parts = ([*(COMMENT + line for line in said), *lines] for said, lines in zip(self.comments, self.lines))
+        sizes = list(accumulate(sum(len(line) + 1 for line in part) for part in parts))
+        fit = (last for last in range(len(sizes), 0, -1) if sizes[last - 1] <= most and len(self.text(last)) <= most)
+        return next(fit, 0)
 
 
 # Shrinking

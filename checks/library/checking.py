@@ -7,12 +7,13 @@ from typing import Callable, Iterator, List, NamedTuple, Sequence
 from checks.library import crate_checks, document_checks, edit_checks, script_checks, tests
 from checks.library.contracts import Sources
 from checks.library.crates import HERE, read_crates
+from checks.library.dead_names import dead_faults
 from checks.library.definition_sources import DefinitionSources
 from checks.library.modules import Modules
 from checks.library.printed import printed
 from checks.library.promises import Promises
 from checks.library.restated import Restated
-from checks.library.spare import copied_lemmas, dead_names, spare_faults, spare_imports
+from checks.library.spare import copied_lemmas, spare_faults, spare_imports
 
 WHAT = """Checks that documents, crates.txt, edits and scripts agree with each other and with the sources.
 
@@ -43,7 +44,7 @@ def document_list() -> List[Check]:
         Check("promised clauses are there", Promises(HERE, sources).faults),
         Check("clauses, rows and tests that state a rule again are there", Restated(HERE, sources, modules).faults),
         Check("docs/sources.txt names definitions that are there", lambda: DefinitionSources(HERE).faults(modules)),
-        Check("a contract, a proof or a document reaches each definition, but for those kept", lambda: spare_faults("dead", dead_names(HERE))),
+        Check("a contract, a proof or a document reaches each definition", dead_faults),
         Check("each file uses what it imports, but for what is kept", lambda: spare_faults("import", spare_imports(HERE))),
         Check("no two lemmas state the same, but for those kept", lambda: spare_faults("copy", copied_lemmas(HERE))),
         Check("pages CALLING.md name each public call", lambda: document_checks.calling_faults(HERE, sources)),

@@ -157,6 +157,11 @@ def place_of(one: Definition) -> str:
     return f"{one.file.relative_to(HERE)}:{one.line}: {name_of(one)}"
 
 
+def dead_faults() -> Iterator[str]:
+    """Each declaration of the repository that isn't reached."""
+    return (place_of(one) for one in Reached().dead())
+
+
 def lines_of(one: Definition) -> int:
     """The number of nonempty lines of a declaration."""
     return sum(1 for line in one.text if line.strip() and not line.strip().startswith(UNFOLDING))

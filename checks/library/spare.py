@@ -1,7 +1,6 @@
-"""Finds what is there once too often: imports that a file doesn't use, statements that more than one lemma has, and names that
-nothing reaches.
+"""Finds what is there once too often: imports that a file doesn't use, and statements that more than one lemma has.
 
-`spare.txt` lists those that are kept. It may shrink: a line whose import, copy or name is gone is a fault too.
+`spare.txt` lists those that are kept. It may shrink: a line whose import or copy is gone is a fault too.
 """
 
 import pathlib
@@ -9,7 +8,7 @@ import re
 from typing import Dict, Iterator, List, Set, Tuple
 
 from checks.library.crates import HERE
-from checks.library.dead_names import AllModules, Reached, name_of
+from checks.library.dead_names import AllModules
 from checks.library.modules import PLAIN, CodeType, Definition, depth_of
 from checks.library.resting import Scope, bound_in
 
@@ -122,13 +121,6 @@ def meaning_of(head: str, rest: str, scope: Scope) -> str:
     elif path[-1:] in (("Prelude",), ("Common",)):
         path = ()
     return ".".join(path) + PLACED + name + (f".{rest}" if rest else "")
-
-
-def dead_names(root: pathlib.Path = HERE) -> Iterator[Tuple[str, str]]:
-    """Each definition or lemma that nothing reaches, as a line of the list, and its place."""
-    for one in Reached(root).dead():
-        at = one.file.relative_to(root)
-        yield f"dead {at.relative_to('crates')} {name_of(one)}", f"{at}:{one.line}"
 
 
 def spare_faults(kind: str, found: Iterator[Tuple[str, str]], root: pathlib.Path = HERE) -> Iterator[str]:

@@ -210,8 +210,7 @@ def scripts_of(search: Search, number: int, found: Found, small: List[Event]) ->
     """The scripts of an end: its whole schedule, and fewer events of it."""
     race, source = search.race, f"schedule {found.shortest} of seed {search.seed}"
     is_live = "" if len(race.nodes) > MOST_IN_THREADS else ", by the models a run that distac live can have"
-    whole_comment = f"End {number} of {race.name}: {source}{is_live}. Refused ships are left out."
-    whole = race.written(found.events, whole_comment, len(race.phases))
+    whole = race.written(found.events, f"End {number} of {race.name}: {source}{is_live}. Refused ships are left out.")
     suffice = f"{len(small)} of {len(found.events)} events of {source} suffice for its pages"
     return whole, race.written(small, f"End {number} of {race.name}: {suffice}.")
 

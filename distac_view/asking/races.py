@@ -90,18 +90,16 @@ class Race:
         canonical = bytes_of(self.checked.canonical)
         return Record(self.config, canonical, self.phases, played).last_within(MOST_INPUT) if len(canonical) <= MOST_CONFIG else 0
 
-    def written(self, events: List[Event], comment: str, phases: int = 0) -> Written:
-        """The script of events, with a comment at the top. It has so many phases at least, and all that have events."""
+    def written(self, events: List[Event], comment: str) -> Written:
         from schedules import replayed
 
         replay = replayed(self.config, events)
-        source = bytes_of(f"{self.checked.canonical}\n--\n% {comment}\n") + whole_lines(replay.script(phases))
-        rows = [(text_of(line), text_of(said[0])) for line, said in replay.rows]
-        return Written(rows, source, whole_lines(replay.output), pages_in(replay.pages))
-
-
-def whole_lines(lines: List[bytes]) -> bytes:
-    return b"".join(line + b"\n" for line in lines)
+        rows = replay.rows
+        lines = b"".join(line + b"\n" for line, _ in rows)
+        source = bytes_of(f"{self.checked.canonical}\n--\n% {comment}\n") + lines
+        shown_rows = [(text_of(line), text_of(said[0])) for line, said in rows[: len(rows) - len(self.nodes)]]
+        output = b"".join(text + b"\n" for _, said in rows for text in said)
+        return Written(shown_rows, source, output, pages_in(replay.pages))
 
 
 def kinds() -> List[str]:

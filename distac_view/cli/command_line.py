@@ -23,7 +23,6 @@ from distac_view.common.diagnostics import Faulty
 from distac_view.common.output import Output, Progress, drop, open_streams, say, why_not_written
 from distac_view.common.problems import Problem, Status
 from distac_view.common.version import VERSION
-from distac_view.reading.marks import marks_in
 from distac_view.showing.html_frame import write_page
 from distac_view.showing.html_timeline import page_text
 from distac_view.showing.provenance import asked_by
@@ -40,7 +39,7 @@ def play(distac: Distac, words: argparse.Namespace, output: Output) -> Status:
         output.raw(loaded.plain)
         return Status.FINE
     each = answers_in(distac, loaded, words.page)
-    for row in rows_of(each, marks_in(loaded.lines), words.explain or output.stream.isatty()):
+    for row in rows_of(each, words.explain or output.stream.isatty()):
         output.line(row)
     output.flush()
     remarks = [*unknown_names(each, loaded.configuration), *too_wide(each)]
@@ -52,7 +51,7 @@ def timeline(distac: Distac, words: argparse.Namespace, output: Output) -> Statu
     loaded = load_script(distac, words.script)
     remarks = list(too_wide(answers_of(distac, loaded)))
     drawn, left_out = drawn_lines(loaded, words.first, words.lines)
-    drafting = Drafting(loaded.configuration, marks_in(loaded.lines))
+    drafting = Drafting(loaded.configuration)
     for seen in seen_lines(distac, loaded, drawn.start, drawn.stop):
         drafting.add(seen)
     asked = asked_by(words, [words.script], distac.about)

@@ -3,7 +3,6 @@
 from distac_view.asking.sim_output import Answered
 from distac_view.common.names import bare_name
 from distac_view.common.texts import cut
-from distac_view.reading.marks import Marks
 from distac_view.showing.html_elements import Cells, Table, region, text_in
 from distac_view.showing.html_frame import page_of
 from distac_view.showing.provenance import Asked
@@ -48,9 +47,6 @@ svg text.term { font-size: 9px; font-weight: bold; fill: #ffffff; paint-order: s
   stroke-width: 2px; text-anchor: middle; pointer-events: none; }
 svg text.along { text-anchor: start; font-weight: normal; }
 svg text.term.loose { fill: var(--text); stroke: var(--back); fill-opacity: 1; }
-svg .phase { stroke: var(--text); stroke-width: 1.5; }
-svg .caller circle { fill: var(--back); stroke: var(--text); stroke-width: 1; }
-svg .caller text { text-anchor: middle; }
 svg .share path { stroke: var(--share); stroke-width: 1.2; opacity: .55; }
 svg .share circle { fill: var(--share); stroke: var(--back); stroke-width: 1; }
 svg .message path { stroke: var(--message); stroke-width: 1.4; fill: none; }
@@ -64,8 +60,7 @@ svg marker path { fill: none; stroke: context-stroke; stroke-width: 1.4; }
 .claims .wide { max-height: 15em; overflow: auto; }
 .lines { max-height: 80vh; overflow: auto; margin: 0 0 12px; }
 .lines td { padding-bottom: 4px; border-bottom: 1px solid var(--stripe); }
-.lines td:nth-last-child(3) { min-width: 14em; }
-.lines .phase { font-weight: bold; }
+.lines td:nth-child(3) { min-width: 14em; }
 .lines .note { color: var(--soft); font-style: italic; }
 .part .head, svg .again, .numbers { display: none; }
 @media screen and (max-width: WIDTH) {
@@ -143,10 +138,8 @@ def legend(timeline: Timeline) -> str:
     circles = '<circle cx="5" cy="7" r="4"/><circle cx="29" cy="7" r="4"/>'
     dots = f'<svg width="34" height="14" aria-hidden="true"><g class="share"><path d="M4 7H30"/>{circles}</g></svg>'
     diamond = '<svg width="16" height="14" aria-hidden="true"><path class="hand" d="M2 7l6 -6l6 6l-6 6z"/></svg>'
-    ring = '<svg width="18" height="18" aria-hidden="true"><g class="caller"><circle cx="9" cy="9" r="8"/><text x="9" y="13">1</text></g></svg>'
-    callers = f"<span>{ring} the line's caller</span>" if timeline.marks.callers else ""
     return (
-        f"<div>{states}{apps}{held}<span>a number: the claim's term</span>{callers}</div>"
+        f"<div>{states}{apps}{held}<span>a number: the claim's term</span></div>"
         f"<div>{messages}<span>{dots} share</span><span>{diamond} a single operation</span></div>"
     )
 
@@ -185,21 +178,16 @@ def how_in(how: str) -> str:
 
 def lines_table(timeline: Timeline) -> str:
     """Each line with its node and its whole answer, for readers who can't see the drawing."""
-    rows = "\n".join(line_row(one, timeline.marks) for one in timeline.rows)
-    names = ("line", "node", *(["caller"] if timeline.marks.callers else []), "what is asked", "moment", "answer")
-    heads = "".join(f'<th scope="col">{head}</th>' for head in names)
+    rows = "\n".join(line_row(one) for one in timeline.rows)
+    heads = "".join(f'<th scope="col">{head}</th>' for head in ("line", "node", "what is asked", "moment", "answer"))
     table = f"<table><thead><tr>{heads}</tr></thead><tbody>{rows}</tbody></table>"
     return f"<details><summary>The same as a table: line, node and answer</summary>{region('lines', 'all lines', table)}</details>"
 
 
-def line_row(one: Answered, marks: Marks) -> str:
+def line_row(one: Answered) -> str:
     number, text = f'<td class="end">{one.line.number}</td>', text_in(cut(one.line.text.strip(), MOST_SIGNS))
-    phase, rest = marks.phases.get(one.line.number), 5 if marks.callers else 4
-    if phase:
-        return f'<tr>{number}<td colspan="{rest}" class="phase">phase {phase}</td></tr>'
     if not one.line.is_event:
-        return f'<tr>{number}<td colspan="{rest}" class="note">{text}</td></tr>'
-    caller = f"<td>{marks.callers.get(one.line.number, '')}</td>" if marks.callers else ""
+        return f'<tr>{number}<td colspan="4" class="note">{text}</td></tr>'
     answer = "<br>".join(text_in(cut(line, MOST_SIGNS)) for line in one.answer)
     node = "all" if one.line.verb == "share" else text_in(bare_name(one.actor))
-    return f"<tr>{number}<td>{node}</td>{caller}<td>{text}</td><td>{moment_of(one)}</td><td>{answer}</td></tr>"
+    return f"<tr>{number}<td>{node}</td><td>{text}</td><td>{moment_of(one)}</td><td>{answer}</td></tr>"

@@ -12,7 +12,6 @@ from distac_view.common.diagnostics import Remark
 from distac_view.common.names import name_of
 from distac_view.common.texts import columns_of, cut, padded, shown
 from distac_view.reading.configuration import Configuration
-from distac_view.reading.marks import Marks
 from distac_view.reading.script_faults import no_such, offset_of, remark_in_line
 from distac_view.reading.script_file import Line
 from distac_view.reading.verbs import NAMES, Role, roles_in
@@ -29,48 +28,34 @@ def answers_in(distac: Distac, loaded: Loaded, has_pages: bool) -> list[Answered
     return list(merged(answers_of(distac, loaded, with_pages(loaded)), loaded.lines))
 
 
-def rows_of(each: list[Answered], marks: Marks, explains: bool) -> Iterator[str]:
-    """The output for a script's lines, without an empty last one. The phases of a recorded run are rules."""
+def rows_of(each: list[Answered], explains: bool) -> Iterator[str]:
+    """The output for a script's lines, without an empty last one."""
     ones = each[:-1] if each and not each[-1].line.text else each
     texts = (shown(one.line.text) for one in ones if one.line.is_event)
     columns = min(max((columns_of(text) for text in texts), default=0), MOST_COLUMNS)
-    layout = Layout(len(str(ones[-1].line.number)) if ones else 1, columns, len(caller_of(1)) if marks.callers else 0)
+    layout = Layout(len(str(ones[-1].line.number)) if ones else 1, columns)
     for one in ones:
-        number = one.line.number
-        if number in marks.phases:
-            yield layout.rule(number, marks.phases[number])
-        elif number not in marks.before:
-            yield from layout.rows(one, explains, caller_of(marks.callers.get(number)))
-
-
-def caller_of(number: int | None) -> str:
-    """The caller before a line, if it has one."""
-    return f"caller {number}  " if number else ""
+        yield from layout.rows(one, explains)
 
 
 @dataclass(frozen=True)
 class Layout:
-    """The columns of a shown script: line numbers, callers, lines, and answers."""
+    """The columns of a shown script: line numbers, then lines, then answers."""
 
     digits: int
     columns: int
-    callers: int = 0
 
     @property
     def start(self) -> int:
         """The columns before an answer."""
-        return self.digits + self.callers + self.columns + 4
+        return self.digits + self.columns + 4
 
-    def rule(self, number: int, phase: int) -> str:
-        """The rule before a phase, up to the answers."""
-        return f"{number:>{self.digits}}  {f'-- phase {phase} ':-<{self.callers + self.columns}}"
-
-    def rows(self, one: Answered, explains: bool, caller: str = "") -> Iterator[str]:
+    def rows(self, one: Answered, explains: bool) -> Iterator[str]:
         text, number = shown(one.line.text), f"{one.line.number:>{self.digits}}"
         if not one.line.is_event:
             yield f"{number}  {text}".rstrip()
             return
-        yield f"{number}  {caller:{self.callers}}{padded(cut(text, self.columns), self.columns)}  {one.first}"
+        yield f"{number}  {padded(cut(text, self.columns), self.columns)}  {one.first}"
         for more in one.answer[1:]:
             yield " " * self.start + more
         sentence = explained(one.line, one.first) if explains else None

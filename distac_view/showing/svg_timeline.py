@@ -115,14 +115,11 @@ class Drawing:
             *(self.share(share) for share in timeline.shares if share.row in part),
             *(arrow for message in timeline.messages.values() for arrow in self.arrows(message, part)),
             *(self.hand(hand) for hand in timeline.hands if hand.row in part),
-            *(self.caller(row, timeline.rows[row]) for row in part.rows),
         ]
-        comments = [row for row in part.rows if not timeline.rows[row].line.is_event]
-        notes = [self.note(row, timeline.rows[row]) for row in comments if not timeline.phase_at(row)]
-        rules = [self.rule(row) for row in comments if timeline.phase_at(row)]
+        notes = [self.note(row, timeline.rows[row]) for row in part.rows if not timeline.rows[row].line.is_event]
         below = LAST_GAP if part.stop == len(timeline.rows) else 0
         label = f"{self.span(part.start, part.stop)}, with the lanes of {', '.join(bare_names(self.lanes))}"
-        inside = "\n".join([*self.rows(part), grouped("lanes", lanes), grouped("words", notes), *rules])
+        inside = "\n".join([*self.rows(part), grouped("lanes", lanes), grouped("words", notes)])
         height, top = len(part.rows) * ROW + below, part.start * ROW
         return svg(self.width, height, inside, label, top) + self.numbers(part, height, top)
 
@@ -163,25 +160,10 @@ class Drawing:
         """A comment. If it is long, the lanes below it are dimmed."""
         words = cut(shown(one.line.text), int((self.width - self.script_left) / SIGN))
         end = self.script_left + SIGN * columns_of(words) + 6
-        veil = box(self.lanes_left, row * ROW, end - self.lanes_left, ROW, veil_at(row), "") if end > self.lanes_left else ""
+        kind = "veil odd" if row % 2 else "veil"
+        veil = box(self.lanes_left, row * ROW, end - self.lanes_left, ROW, kind, "") if end > self.lanes_left else ""
         place = f'x="{self.script_left:.0f}" y="{row * ROW + 15}"'
         return f'{veil}<text {place} class="note">{text_in(words)}{title(cut(one.line.text, 400))}</text>'
-
-    def rule(self, row: int) -> str:
-        """The rule before a phase, with its number. On a narrow screen the number dims the lanes below it."""
-        words, left, top = f"phase {self.timeline.phase_at(row)}", self.script_left, row * ROW
-        end = left + SIGN * len(words) + 6
-        line = f'<path class="phase" d="M{end:.1f} {top + ROW / 2:.1f}H{self.width:.1f}"/>'
-        return f'{line}{box(left - 2, top, end - left, ROW, veil_at(row), "")}<text x="{left:.0f}" y="{top + 15}" class="name">{words}</text>'
-
-    def caller(self, row: int, one: Answered) -> str:
-        """The caller of a line, before the band of its node."""
-        number, at = self.timeline.marks.callers.get(one.line.number), row * ROW + ROW / 2
-        if number is None or one.actor not in self.lanes:
-            return ""
-        words = title(f"{one.line.number}: caller {number} of {bare_name(one.actor)}")
-        left = self.lanes[one.actor].left + 4
-        return f'<g class="caller">{words}<circle cx="{left:.1f}" cy="{at:.1f}" r="8"/><text x="{left:.1f}" y="{at + 4:.1f}">{number}</text></g>'
 
     def hand(self, hand: Hand) -> str:
         """An operation that is handed to a node."""
@@ -192,10 +174,8 @@ class Drawing:
         return f'<path class="hand" d="M{left - 6:.1f} {at:.1f}l6 -6l6 6l-6 6z">{words}</path>'
 
     def story(self, one: Answered) -> str:
-        """A line with its caller and its whole answer, as hovering shows it."""
-        caller = self.timeline.marks.callers.get(one.line.number)
-        line = f"{one.line.number}: {cut(one.line.text, 400)}" + (f" (caller {caller})" if caller else "")
-        return "\n".join((line, *(cut(line, 400) for line in one.answer)))
+        """A line with its whole answer, as hovering shows it."""
+        return "\n".join((f"{one.line.number}: {cut(one.line.text, 400)}", *(cut(line, 400) for line in one.answer)))
 
     def span(self, start: int, end: int) -> str:
         """The lines of some rows, in words."""
@@ -306,11 +286,6 @@ def color_of(number: int, count: int) -> str:
     if count <= len(HUES):
         return f"--hue:{HUES[number]}"
     return f"--hue:{(HUES[0] + 360 * number // count) % 360};--shade:{SHADES[number % len(SHADES)]}%"
-
-
-def veil_at(row: int) -> str:
-    """The class of a box that dims a part of a row."""
-    return "veil odd" if row % 2 else "veil"
 
 
 def box(left: float, top: float, width: float, height: float, kind: str, inside: str, style: str = "") -> str:

@@ -11,7 +11,6 @@ from distac_view.asking.sim_output import Answered
 from distac_view.asking.snapshots import CLAIM, Held, Page
 from distac_view.common.names import name_of
 from distac_view.reading.configuration import Configuration
-from distac_view.reading.marks import Marks
 from distac_view.reading.verbs import Role, word_of
 
 SHIPPED = re.compile(r"shipped (?P<number>\d+) (?P<kind>whole|interval|nothing)")
@@ -92,7 +91,6 @@ class Timeline:
     """Everything drawn of a script."""
 
     configuration: Configuration
-    marks: Marks = field(default_factory=Marks)
     rows: list[Answered] = field(default_factory=list)
     bands: list[Band] = field(default_factory=list)
     bars: list[Bar] = field(default_factory=list)
@@ -101,24 +99,20 @@ class Timeline:
     claims: list[Claimed] = field(default_factory=list)
     hands: list[Hand] = field(default_factory=list)
 
-    def phase_at(self, row: int) -> int | None:
-        """The phase that begins in a row."""
-        return self.marks.phases.get(self.rows[row].line.number)
-
 
 class Drafting:
     """A timeline built row by row."""
 
-    def __init__(self, configuration: Configuration, marks: Marks) -> None:
-        self.timeline = Timeline(configuration, marks)
+    def __init__(self, configuration: Configuration) -> None:
+        self.timeline = Timeline(configuration)
         self.pages = {node: Page() for node in configuration.nodes}
         self.said_down: set[tuple[str, int]] = set()
         self.open_bands: dict[str, Band] = {}
         self.open_bars: dict[tuple[str, str], Bar] = {}
 
     def add(self, seen: Seen) -> None:
-        """Adds a line. Empty lines have no row, nor have comments that name the next line's caller."""
-        if not seen.answered.line.text.strip() or seen.answered.line.number in self.timeline.marks.before:
+        """Adds a line. Empty lines have no row."""
+        if not seen.answered.line.text.strip():
             return
         row = len(self.timeline.rows)
         self.timeline.rows.append(seen.answered)

@@ -50,9 +50,6 @@ SCROLLED = """(() => {
 # The left edges of the last lane and of a line's text.
 PLACES = """[".head .lanes text:last-child", ".part > svg .words text"]
   .map(each => document.querySelector(".drawing " + each).getBoundingClientRect().left)"""
-# The edges of the numbers of phases, and of the first caller.
-PHASES = """[...document.querySelectorAll(".part > svg > text.name"), document.querySelector(".caller circle")]
-  .map(each => [each.getBoundingClientRect().left, each.getBoundingClientRect().right])"""
 OPENED = 'document.querySelector("details").open = true'
 
 
@@ -159,13 +156,6 @@ class InBrowser(unittest.TestCase):
             self.browser.open(self.pages["split"], width, 844)
             last, line = self.browser.value(PLACES)
             self.assertEqual((last < line, last < 390), (is_first, is_first), width)
-
-    def test_phases_and_callers_are_seen_without_scrolling(self) -> None:
-        for width in WIDTHS:
-            self.browser.open(self.pages["kept"], width, 844)
-            edges = self.browser.value(PHASES)
-            self.assertEqual(len(edges), 5, width)
-            self.assertTrue(all(0 < left < right < width for left, right in edges), (width, edges))
 
     def test_lines_for_a_screen_reader(self) -> None:
         self.browser.open(self.pages["split"], 390, 844)

@@ -77,7 +77,6 @@ def answers_in(output: str, path: Path) -> list[str]:
     """The answers in the last column of `play`'s output."""
     loaded = load_script(distac(), str(path))
     events = [one.line.text for one in answers_of(distac(), loaded) if one.line.is_event]
-    callers = 10 if "\n% caller " in path.read_text() else 0
-    start = len(str(loaded.lines[-1].number)) + callers + min(max(map(len, events)), 46) + 4
-    rows = [row for row in output.splitlines() if not row.lstrip(" 0123456789").startswith(("%", "-- phase ")) and len(row) > start]
+    start = len(str(loaded.lines[-1].number)) + min(max(map(len, events)), 46) + 4
+    rows = [row for row in output.splitlines() if not row.lstrip(" 0123456789").startswith("%") and len(row) > start]
     return [row[start:] for row in rows if not row[start:].startswith(EXPLAINS)]

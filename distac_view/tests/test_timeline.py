@@ -4,7 +4,6 @@ from __future__ import annotations
 
 import re
 import unittest
-from collections import Counter
 from pathlib import Path
 from xml.etree import ElementTree
 
@@ -13,11 +12,10 @@ from distac_view.reading.configuration import Application, Configuration
 from distac_view.reading.script_file import script_of
 from distac_view.showing.html_frame import DARK, LIGHT, PAPER
 from distac_view.showing.html_timeline import first_rows
-from distac_view.showing.svg_timeline import HUES, ROW, ROWS_OF_PART, color_of
+from distac_view.showing.svg_timeline import HUES, ROWS_OF_PART, color_of
 from distac_view.showing.timeline import Claimed, Timeline
 
 SCRIPTS = sorted(path for path in EXAMPLES.glob("*.distac") if not path.name.startswith("live-"))
-KEPT = EXAMPLES / "race-kept.distac"
 PICTURE = re.compile(r"<svg .*?</svg>", re.DOTALL)
 MARKUP = "<script>alert(1)</script>\"&'"
 ODD = "'<b onclick=\"x()\">&amp;'"
@@ -58,8 +56,7 @@ class Pages(InRoom):
             numbers = [int(text.text or "") for part in parts for text in part if text.get("class") == "soft end"]
             script = script_of(path.read_bytes())
             self.assertIsNotNone(script)
-            lines = [line for line in script.lines if line.text.strip()] if script else []
-            self.assertEqual(numbers, [line.number for line in lines if not line.text.startswith("% caller ")], path.name)
+            self.assertEqual(numbers, [line.number for line in script.lines if line.text.strip()] if script else [], path.name)
             heights = [float(part.get("height", "0")) for part in parts]
             self.assertTrue(all(height <= 22 * ROWS_OF_PART + 12 for height in heights), heights)
             tops = [float(part.get("viewBox", "").split()[1]) for part in parts]
@@ -106,79 +103,6 @@ class Pages(InRoom):
 
     def test_nothing_but_empty_lines(self) -> None:
         self.assertEqual(pictures(page_of(self.written("[{kernel,[{distributed,[{a,[x]}]}]}].\n--\n\n\n"))), [])
-
-
-class Recorded(InRoom):
-    """The phases and callers of a recorded run."""
-
-    def shapes(self, path: Path, *words: str) -> "tuple[list[str], list[tuple[str, str, int]]]":
-        """The texts of the rules, and each caller as hovering shows it, with its number and its row."""
-        parts = pictures(page_of(path, *words))
-        rules = [text.text or "" for part in parts for text in part if text.get("class") == "name"]
-        groups = [group for part in parts for lanes in part for group in lanes if group.get("class") == "caller"]
-        return rules, [(group[0].text or "", group[2].text or "", int(float(group[1].get("cy", "")) // ROW)) for group in groups]
-
-    def test_phases_and_callers(self) -> None:
-        rules, callers = self.shapes(KEPT)
-        self.assertEqual(rules, [f"phase {number}" for number in range(1, 5)])
-        asked = Counter(line.partition(" ")[2] for line in (EXAMPLES / "race.live").read_text().splitlines() if line[:1].isdigit())
-        self.assertEqual(len(callers), sum(asked.values()))
-        self.assertIn(("53: caller 2 of east@h", "2"), [caller[:2] for caller in callers])
-        rows = [line for line in KEPT.read_text().splitlines()[2:] if not line.startswith("% caller ")]
-        for said, number, row in callers:
-            self.assertIn(f" {said.rpartition(' ')[2]}", rows[row])
-            self.assertIn(f"caller {number} of ", said)
-
-    def test_a_part_of_a_script(self) -> None:
-        number = KEPT.read_text().splitlines().index("% caller 2") + 2
-        rules, callers = self.shapes(KEPT, "--from", str(number), "--lines", "2")
-        self.assertEqual((rules, callers), ([], [(f"{number}: caller 2 of east@h", "2", 0)]))
-
-    def test_the_table(self) -> None:
-        page = page_of(KEPT)
-        self.assertIn('<th scope="col">caller</th>', page)
-        self.assertIn('<td class="end">76</td><td colspan="5" class="phase">phase 3</td>', page)
-        self.assertIn('<td class="end">53</td><td>east@h</td><td>2</td><td>tick east@h 10</td>', page)
-        self.assertIn('<td class="end">29</td><td>east@h</td><td></td><td>ship east@h main@h</td>', page)
-        self.assertNotIn('<td class="end">52</td>', page)
-
-    def test_lines_of_play(self) -> None:
-        lines = view("play", str(KEPT)).output.splitlines()
-        self.assertEqual([line for line in lines if "-- " in line], [f" {at}  {f'-- phase {n} ':-<34}" for at, n in ((28, 1), (45, 2), (76, 3), (97, 4))])
-        self.assertIn(" 53  caller 2  tick east@h 10            ticked", lines)
-        self.assertIn(" 29            ship east@h main@h        refused 1 Off", lines)
-        self.assertNotIn(" 52  % caller 2", lines)
-
-    def test_kept_ends(self) -> None:
-        said = view("ends", str(EXAMPLES / "race.live"), "--schedules", "3", "--keep", str(self.room))
-        self.assertEqual(said.status, 0, said)
-        for name, phases in (("end-1.distac", [1, 2]), ("end-1-whole.distac", [1, 2, 3, 4])):
-            rules, callers = self.shapes(self.room / name)
-            self.assertEqual(rules, [f"phase {number}" for number in phases])
-            self.assertGreater(len(callers), 3)
-
-    def test_scripts_without_these_comments(self) -> None:
-        for path in (path for path in SCRIPTS if path != KEPT):
-            page = page_of(path)
-            for said in ('class="phase"', 'class="caller"', ">caller<"):
-                self.assertNotIn(said, page, path.name)
-
-    def test_other_comments(self) -> None:
-        """The phases in the output of `distac live` have no events, and a caller's comment is the line before an event."""
-        head = "[{kernel,[{distributed,[{a,[x]}]}]}].\n--\n"
-        for text, rules, callers in (
-            ("% phase 1\n% x 1 ok\n% close ok\n% weave ok\nboot x 0\n", [], 0),
-            ("% phase 1\n% weave ok\n% phase 1\n% caller 3\nboot x 0\n", ["phase 1"], 1),
-            ("% phase 2\n% caller 4\nboot x 0\n% phase 7\n", ["phase 2", "phase 7"], 1),
-            ("%phase 1\n% phase 01\n% phase\n% phase 0\n% phase 1 2\n% caller 5\nboot x 0\n", [], 0),
-            ("% caller 1\n\nboot x 0\n", [], 0),
-            ("% caller 1\n% caller 2\nboot x 0\n% caller 3\n", [], 1),
-            ("% phase 99999999999999999999\n", [], 0),
-        ):
-            found = self.shapes(self.write("script", head + text))
-            self.assertEqual((found[0], len(found[1])), (rules, callers), text)
-            lines = [line for line in text.splitlines() if line]
-            self.assertEqual(page_of(self.room / "script").count('<td class="end">'), len(lines) - callers)
 
 
 class Colors(InRoom):

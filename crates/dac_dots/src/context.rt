@@ -10,7 +10,7 @@ ghost use Rattle.dac_dots.specs.Rows.{AreRowsOf, CanFollow, rows_of};
 use crate::counters::Counters;
 use crate::filter::DotFilter;
 use crate::further::Further;
-use crate::rows::{Rows, Unite, ascends_from, has_no_dots, room_after};
+use crate::rows::{Gapless, Rows, Unite, ascends_from, has_no_dots, room_after};
 use dac_base::{MAX_COUNTER, NoMemory};
 use dac_origins::{Dot, Origin};
 use dac_sorted::SortedMap;
@@ -152,13 +152,7 @@ impl Context {
     pub fn is_vector(&self) -> bool
         ensures { IsTrue result ↔ IsVector self.now }
     {
-        let mut entries = self.rows.entries();
-        while let Some((_, counters)) = entries.next() {
-            if counters.has_gap() {
-                return false;
-            }
-        }
-        true
+        self.rows.all(&Gapless)
     }
 
     /// The number of dots.

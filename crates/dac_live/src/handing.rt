@@ -36,59 +36,30 @@ fn result_from(records: &[Record], seat: u16, from: usize) -> Option<(&Answer, u
     None
 }
 
-/// The page in a box of its own, if there is one.
-fn boxed(alloc: Global, read: Option<Page>) -> Result<Option<BoxedPage>, NoMemory>
-    ensures { IfOk result (λ boxed. boxed ≡ read) }
-{
-    match read {
-        Some(page) => {
-            let page = BoxedPage::new(alloc, page)?;
-            Ok(Some(page))
-        }
-        None => Ok(None),
-    }
-}
-
 /// The result of a line that reads, and its page.
-fn seen_as(alloc: Global, reading: Reading) -> Result<(LineAnswer, Option<BoxedPage>), NoMemory>
-    ensures { IfOk result (λ told. told ≡ seen_as reading) }
+fn seen_as(reading: Reading) -> (LineAnswer, Option<Page>)
+    ensures { result ≡ seen_as reading }
 {
     match reading {
-        Reading::Fresh(page) => {
-            let page = BoxedPage::new(alloc, page)?;
-            Ok((LineAnswer::Fresh, Some(page)))
-        }
-        Reading::Stale(page) => {
-            let page = boxed(alloc, page)?;
-            Ok((LineAnswer::Stale, page))
-        }
+        Reading::Fresh(page) => (LineAnswer::Fresh, Some(page)),
+        Reading::Stale(page) => (LineAnswer::Stale, page),
     }
 }
 
 /// The result of the next line that reads, and its page, or `None` if the caller read no more.
-fn next_reading(
-    alloc: Global,
-    reads: &mut Vec<Reading>,
-) -> Result<Option<(LineAnswer, Option<BoxedPage>)>, NoMemory>
-    ensures { IfOk result (λ told. HandedReading reads.old.items reads.new.items told) }
+fn next_reading(reads: &mut Vec<Reading>) -> Option<(LineAnswer, Option<Page>)>
+    ensures { HandedReading reads.old.items reads.new.items result }
 {
     match reads.pop() {
-        Some(one) => {
-            let told = seen_as(alloc, one)?;
-            Ok(Some(told))
-        }
-        None => Ok(None),
+        Some(one) => Some(seen_as(one)),
+        None => None,
     }
 }
 
 impl Rest<'_> {
     /// The result of the caller's next line with this request, and the page of one that reads. `None` if the caller has
     /// no more results or reads.
-    fn next(
-        &mut self,
-        alloc: Global,
-        what: Ask,
-    ) -> Result<Option<(LineAnswer, Option<BoxedPage>)>, NoMemory>
+    fn next(&mut self, what: Ask) -> Result<Option<(LineAnswer, Option<Page>)>, NoMemory>
         ensures { IfOk result
             (λ told. Handed what self.old.reads.items self.new.reads.items told) }
     {
@@ -101,7 +72,7 @@ impl Rest<'_> {
                 }
                 None => Ok(None),
             },
-            Ask::Read => next_reading(alloc, &mut self.reads),
+            Ask::Read => Ok(next_reading(&mut self.reads)),
         }
     }
 }
@@ -140,17 +111,29 @@ fn rests_of(alloc: Global, closed: &[Closed], all: Vec<Seen>) -> Result<Vec<Rest
 
 /// The result of the next line of its caller, and its page, or `None` if there is none.
 fn next_of(
-    alloc: Global,
     rests: &mut [Rest<'_>],
     line: &Line,
-) -> Result<Option<(LineAnswer, Option<BoxedPage>)>, NoMemory> {
+) -> Result<Option<(LineAnswer, Option<Page>)>, NoMemory> {
     for i in 0..rests.len() {
         let rest = &mut rests[i];
         if rest.node == line.node && rest.caller == u16::from(line.caller) {
-            return rest.next(alloc, line.what);
+            return rest.next(line.what);
         }
     }
     Ok(None)
+}
+
+/// The page in a box of its own, if there is one.
+fn boxed(alloc: Global, read: Option<Page>) -> Result<Option<BoxedPage>, NoMemory>
+    ensures { IfOk result (λ boxed. boxed ≡ read) }
+{
+    match read {
+        Some(page) => {
+            let page = BoxedPage::new(alloc, page)?;
+            Ok(Some(page))
+        }
+        None => Ok(None),
+    }
 }
 
 /// The result of each line of a phase, and its page.
@@ -163,11 +146,11 @@ fn told_in(
     let mut reads = Vec::new(alloc);
     for i in 0..lines.len() {
         let line = &lines[i];
-        let Some((answer, read)) = next_of(alloc, rests, line)? else {
+        let Some((answer, read)) = next_of(rests, line)? else {
             return Err(mismatch(line.node));
         };
         answers.push(answer)?;
-        reads.push(read)?;
+        reads.push(boxed(alloc, read)?)?;
     }
     Ok((AnswerList::new(answers), ReadList::new(reads)))
 }

@@ -11,6 +11,7 @@ pub use Rattle.dac_config.specs.Canonical.{canonical_text}
 pub use Rattle.dac_config.specs.Table.{Table, node_count}
 pub use Rattle.dac_events.specs.declared.WorldEvent.{WorldEvent}
 pub use Rattle.dac_live.specs.Line.{Line}
+pub use Rattle.dac_weave.specs.Faults.{IsTrueFault}
 pub use Rattle.dac_script.specs.declared.failure.Failure.{Failure}
 pub use Rattle.dac_script.specs.declared.line.ScriptLine.{ScriptLine}
 pub use Rattle.dac_script.specs.declared.live_line.LiveLine.{LiveLine}

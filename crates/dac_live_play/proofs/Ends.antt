@@ -1,13 +1,12 @@
 -- The endings of `distac live` and `distac record`, from the input, the run and the output.
 use Rattle.std.proofs.Common.{◌≡◌, inr, ℕ, List, Option, Some, None, refl, sym, subst}
-use Rattle.dac_live_play.proofs.Common.{Table, LiveLine, Failure, PlayFault, IsFaultOf}
+use Rattle.dac_live_play.proofs.Common.{Table, WorldEvent, LiveLine, Failure, PlayFault, IsFaultOf}
 use Rattle.std.specs.Prelude.{IfSome}
 use Rattle.std.specs.Io.KnownBytes.{Appends}
 use Rattle.dac_script.specs.LiveInputs.{SaysLiveScript, IsLiveFailureOf}
 use Rattle.dac_play.specs.Texts.{failure_text}
 use Rattle.dac_script.specs.declared.source.Progress.TheVariants.{Ended}
 use Rattle.dac_script.specs.Sources.{Sourced, IsLeftBy}
-use Rattle.dac_weave.specs.declared.weaving.Woven.{Woven}
 use Rattle.dac_live_play.specs.declared.ending.LiveEnding.{LiveEnding}
 use Rattle.dac_live_play.specs.declared.ending.LiveEnding.TheVariants as ending
 use Rattle.dac_live_play.specs.Endings.{fault_text, details_text, IsRefusal, IsGivenUp, IsLeftAt}
@@ -63,8 +62,8 @@ given_up_left old new said told source table why ending.Stopped left given_up = 
 -- ---- `distac record`
 
 -- the script ran to its end, but its run isn't recorded
-pub unrecorded : (table : Table) (script : List LiveLine) (printed : List ℕ) (run : Woven) (why : PlayFault) → IsRunOf table script printed run → IsRecordFault table printed run why → IsUnkept table script why
-unrecorded table script printed run why ran fault_is = inr (record { printed = printed; run = run; ran = ran; fault_is = fault_is })
+pub unrecorded : (table : Table) (script : List LiveLine) (printed : List ℕ) (events : List WorldEvent) (why : PlayFault) → IsRunOf table script printed events → IsRecordFault table printed events why → IsUnkept table script why
+unrecorded table script printed events why ran fault_is = inr (record { printed = printed; events = events; ran = ran; fault_is = fault_is })
 
 -- a run of the script was printed
 pub recorded : (had old new said : Option (List ℕ)) (table : Table) (script given : List LiveLine) (text shown : List ℕ) → given ≡ script → shown ≡ text → IfSome had (λ bytes. SaysLiveScript bytes table script) → IsKept table given text → Appends old new shown

@@ -3,7 +3,6 @@ mod Asking
 mod Ends
 mod Lines
 mod Owed
-mod Phased
 mod Placing
 mod Reports
 mod Sayings

@@ -73,11 +73,11 @@ abbrev pub details_line : Option (List ℕ) → List ℕ
 details_line None = []
 details_line (Some details) = codes "distac: " ++ (details ++ codes "\n")
 
--- what a fault prints on standard error: the details of a fault of the run, or how many phases of a recorded run fit
+-- what a fault prints on standard error
 abbrev pub details_text : Table → PlayFault → List ℕ
 details_text table (fault.Run why) = details_line (where_text table why)
 details_text table (fault.Unwoven node place) = []
-details_text table (fault.TooLong phases) = codes "distac: the first " ++ (decimal phases ++ codes " phases fit\n")
+details_text table fault.TooLong = []
 details_text table fault.Unspelled = []
 details_text table fault.NoMemory = []
 
@@ -85,7 +85,7 @@ details_text table fault.NoMemory = []
 abbrev pub fault_text : Table → PlayFault → List ℕ
 fault_text table (fault.Run why) = run_fault_text why
 fault_text table (fault.Unwoven node place) = weave_fault_text table node place
-fault_text table (fault.TooLong phases) = codes "record fault 1 TooLong\n"
+fault_text table fault.TooLong = codes "record fault 1 TooLong\n"
 fault_text table fault.Unspelled = codes "record fault 2 Unspelled\n"
 fault_text table fault.NoMemory = codes "out of memory\n"
 

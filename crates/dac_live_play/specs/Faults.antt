@@ -1,9 +1,9 @@
 -- Faults of the run and of the weave as faults of `distac live`, and the faults of recording a run.
 use Rattle.std.specs.Prelude.{ℕ, List}
 use Rattle.dac_config.specs.Table.{Table}
+use Rattle.dac_events.specs.declared.WorldEvent.{WorldEvent}
 use Rattle.dac_weave.specs.declared.fault.WeaveFault.{WeaveFault}
 use Rattle.dac_weave.specs.declared.fault.WeaveFault.TheVariants as weave
-use Rattle.dac_weave.specs.declared.weaving.Woven.{Woven}
 use Rattle.dac_live.specs.RunFault.{RunFault}
 use Rattle.dac_live.specs.RunFault.TheVariants as run
 use Rattle.dac_live_play.specs.declared.fault.PlayFault.{PlayFault}
@@ -26,10 +26,10 @@ abbrev pub unwoven_fault_of : WeaveFault → PlayFault
 unwoven_fault_of (weave.Unwoven node place) = fault.Unwoven node place
 unwoven_fault_of weave.NoMemory = fault.NoMemory
 
--- why a run with this output isn't recorded
-abbrev pub IsRecordFault : Table → List ℕ → Woven → PlayFault → Type 0
-IsRecordFault table printed run (fault.Run why) = ⊥
-IsRecordFault table printed run (fault.Unwoven node place) = ⊥
-IsRecordFault table printed run (fault.TooLong phases) = IsTooLong table printed run phases
-IsRecordFault table printed run fault.Unspelled = IsUnsaid table printed run
-IsRecordFault table printed run fault.NoMemory = Unit {0}
+-- why a run with this output and these events isn't recorded
+abbrev pub IsRecordFault : Table → List ℕ → List WorldEvent → PlayFault → Type 0
+IsRecordFault table printed events (fault.Run why) = ⊥
+IsRecordFault table printed events (fault.Unwoven node place) = ⊥
+IsRecordFault table printed events fault.TooLong = IsTooLong table printed events
+IsRecordFault table printed events fault.Unspelled = IsUnsaid table printed events
+IsRecordFault table printed events fault.NoMemory = Unit {0}

@@ -2,7 +2,7 @@
 use Rattle.std.specs.Prelude.{◌≡◌, ℕ, List, Option}
 use Rattle.std.specs.Io.KnownBytes.{Appends}
 use Rattle.dac_config.specs.Table.{Table}
-use Rattle.dac_weave.specs.declared.weaving.Woven.{Woven}
+use Rattle.dac_events.specs.declared.WorldEvent.{WorldEvent}
 use Rattle.dac_script.specs.declared.live_line.LiveLine.{LiveLine}
 use Rattle.dac_script.specs.LiveInputs.{SaysLiveScript, IsLiveFailureOf}
 use Rattle.dac_play.specs.Texts.{failure_text}
@@ -18,16 +18,16 @@ use Rattle.dac_live_play.specs.Texts.{live_text}
 pub record IsPlayed (table : Table) (script : List LiveLine) (text : List ℕ) : Type 0 where
   pub report : LiveReport
   pub reported : IsReportOf table script report
-  pub run : Woven
-  pub woven : IsWoven table reported.phases report run
+  pub woven : IsWoven table report
   pub text_is : text ≡ live_text table script report
 
--- text is the output of a run of the script, and its journals are woven into this run, so the guarantees of every run
--- hold.
-pub record IsRunOf (table : Table) (script : List LiveLine) (text : List ℕ) (run : Woven) : Type 0 where
+-- text is the output of a run of the script, and its journals are woven into these events, so the guarantees of every
+-- run hold.
+pub record IsRunOf (table : Table) (script : List LiveLine) (text : List ℕ) (events : List WorldEvent) : Type 0 where
   pub report : LiveReport
   pub reported : IsReportOf table script report
-  pub woven : IsWoven table reported.phases report run
+  pub woven : IsWoven table report
+  pub events_are : events ≡ woven.events
   pub text_is : text ≡ live_text table script report
 
 -- the output of a run of the input's script was printed

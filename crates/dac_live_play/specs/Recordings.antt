@@ -1,5 +1,5 @@
 -- A run of the world as a script of `distac sim`.
-use Rattle.std.specs.Prelude.{◌≡◌, ◌⊎◌, ℕ, ◌+◌, ◌<◌, ◌≤◌, Bool, true, false, List, [], ◌∷◌, ◌++◌, length, map, take, drop, replicate, zip, None, codes, nat_lt, if◌then◌else◌}
+use Rattle.std.specs.Prelude.{◌≡◌, ◌⊎◌, ℕ, ◌<◌, ◌≤◌, Bool, true, false, List, [], ◌∷◌, ◌++◌, length, map, replicate, None, codes, nat_lt, if◌then◌else◌}
 use Rattle.std.specs.List.{flat_map}
 use Rattle.std.specs.Fmt.{decimal}
 use Rattle.dac_base.specs.declared.NodeId.{NodeId}
@@ -19,7 +19,6 @@ use Rattle.dac_script.specs.Forms.{Spells}
 use Rattle.dac_script.specs.Input.{IsTaken, IsParted}
 use Rattle.dac_script.specs.LineFaults.{HasFault}
 use Rattle.dac_script.specs.Script.{lines_of, ReadsAs}
-use Rattle.dac_weave.specs.declared.weaving.Woven.{Woven}
 
 -- ---- words
 
@@ -111,41 +110,15 @@ comment (b ∷ bs) = codes "% " ++ fed (b ∷ bs)
 abbrev pub remarks_text : List ℕ → List ℕ
 remarks_text printed = flat_map comment (lines_of printed)
 
--- the number of the caller of a seat as a comment; the seats of shippers and link workers follow those of the four
--- callers
-abbrev pub caller_text : ℕ → List ℕ
-caller_text seat = if nat_lt seat 5 then codes "% caller " ++ fed (decimal seat) else []
-
--- an event, after its caller
-abbrev pub told_text : Table → List ℕ → WorldEvent × ℕ → List ℕ
-told_text table placeholder told = caller_text told.1 ++ event_text table placeholder told.0
-
--- a phase: its number as a comment, and its events with their seats
-abbrev pub phase_text : Table → List ℕ → ℕ → List (WorldEvent × ℕ) → List ℕ
-phase_text table placeholder number all =
-    codes "% phase " ++ (fed (decimal number) ++ flat_map (told_text table placeholder) all)
-
--- The phases that end at these bounds. Before them are `before` phases, which end at `start`.
-abbrev pub phases_from : Table → List ℕ → Woven → ℕ → ℕ → List ℕ → List ℕ
-phases_from table placeholder run before start [] = []
-phases_from table placeholder run before start (bound ∷ bounds) =
-    phase_text table placeholder (before + 1)
-    (zip (drop start (take bound run.events.items)) (drop start (take bound run.seats.items)))
-    ++ phases_from table placeholder run (before + 1) bound bounds
-
--- the run's first phases, this many
-abbrev pub phases_text : Table → List ℕ → Woven → ℕ → List ℕ
-phases_text table placeholder run count = phases_from table placeholder run 0 0 (take count run.bounds.items)
-
--- the script: the printed output as comments, the first phases, and each node's page
-abbrev pub script_text : Table → List ℕ → List ℕ → Woven → ℕ → List ℕ
-script_text table placeholder printed run count =
-    remarks_text printed ++ (phases_text table placeholder run count ++ page_lines table placeholder)
+-- the script: the printed output as comments, the events, and each node's page
+abbrev pub script_text : Table → List ℕ → List ℕ → List WorldEvent → List ℕ
+script_text table placeholder printed events =
+    remarks_text printed ++ (flat_map (event_text table placeholder) events ++ page_lines table placeholder)
 
 -- the configuration, the divider, and the script
-abbrev pub record_text : Table → List ℕ → List ℕ → Woven → ℕ → List ℕ
-record_text table placeholder printed run count =
-    canonical_text table ++ (codes "--\n" ++ script_text table placeholder printed run count)
+abbrev pub record_text : Table → List ℕ → List ℕ → List WorldEvent → List ℕ
+record_text table placeholder printed events =
+    canonical_text table ++ (codes "--\n" ++ script_text table placeholder printed events)
 
 -- the lines of this script: the events, then each node's page
 abbrev pub run_lines : Table → List WorldEvent → List ScriptLine
@@ -173,10 +146,10 @@ pub record IsPlaceholder (table : Table) (name : List ℕ) : Type 0 where
 -- ---- the run as an input
 
 -- text expresses the run
-pub record IsRecordText (table : Table) (printed : List ℕ) (run : Woven) (text : List ℕ) : Type 0 where
+pub record IsRecordText (table : Table) (printed : List ℕ) (events : List WorldEvent) (text : List ℕ) : Type 0 where
   pub placeholder : List ℕ
   pub placeholder_is : IsPlaceholder table placeholder
-  pub text_is : text ≡ record_text table placeholder printed run (length run.bounds.items)
+  pub text_is : text ≡ record_text table placeholder printed events
 
 -- The text is an input of `distac sim`: its configuration is the canonical text, and its script reads as the run's lines.
 -- Neither the text nor its configuration is too long.
@@ -187,37 +160,16 @@ pub record SaysRun (text : List ℕ) (table : Table) (events : List WorldEvent) 
   pub parted : IsParted text (canonical_text table) script
   pub reads : ReadsAs Spells HasFault table (lines_of script) (run_lines table events)
 
--- the text is no longer than an input, and its configuration no longer than one
-abbrev pub Fits : Table → List ℕ → Type 0
-Fits table text = IsTaken text × (length (canonical_text table) ≤ MAX_TEXT)
-
--- `last` is the greatest number up to `most` with the property, or 0 if there is none above
-pub record IsLastOf (Has : ℕ → Type 0) (most last : ℕ) : Type 0 where
-  pub within : last ≤ most
-  pub has : 0 < last → Has last
-  pub greatest : (more : ℕ) → last < more → more ≤ most → ¬ Has more
-
--- this many phases fit between these texts into an input
-abbrev pub PhasesFit : Table → List ℕ → Woven → List ℕ → List ℕ → ℕ → Type 0
-PhasesFit table placeholder run front pages count = IsTaken ((front ++ phases_text table placeholder run count) ++ pages)
-
--- the text expresses the run, and if its configuration isn't too long, as many of its phases fit
-pub record RecordsPhases (table : Table) (printed : List ℕ) (run : Woven) (text : List ℕ) (phases : ℕ) : Type 0 where
-  pub is : IsRecordText table printed run text
-  pub fit : IsLastOf (λ count. IsTaken (record_text table is.placeholder printed run count)) (length run.bounds.items) phases
-
--- The text that expresses the run is longer than an input can be, or its configuration longer than one can be. As many of
--- its phases as `phases` says fit: with the configuration, the comments and the pages as they are.
-pub record IsTooLong (table : Table) (printed : List ℕ) (run : Woven) (phases : ℕ) : Type 0 where
+-- the text that expresses the run is longer than an input can be, or its configuration longer than one can be
+pub record IsTooLong (table : Table) (printed : List ℕ) (events : List WorldEvent) : Type 0 where
   pub text : List ℕ
-  pub is : IsRecordText table printed run text
+  pub is : IsRecordText table printed events text
   pub long : (¬ IsTaken text) ⊎ (MAX_TEXT < length (canonical_text table))
-  pub fit : IsLastOf (λ count. Fits table (record_text table is.placeholder printed run count)) (length run.bounds.items) phases
 
 -- neither the text that expresses the run nor its configuration is too long, but the text doesn't say the run
-pub record IsUnsaid (table : Table) (printed : List ℕ) (run : Woven) : Type 0 where
+pub record IsUnsaid (table : Table) (printed : List ℕ) (events : List WorldEvent) : Type 0 where
   pub text : List ℕ
-  pub is : IsRecordText table printed run text
+  pub is : IsRecordText table printed events text
   pub taken : IsTaken text
   pub few : length (canonical_text table) ≤ MAX_TEXT
-  pub unsaid : ¬ SaysRun text table run.events.items
+  pub unsaid : ¬ SaysRun text table events

@@ -2,7 +2,7 @@
 use Rattle.std.specs.Prelude.{◌≡◌, ◌⊎◌, ℕ, List, Option}
 use Rattle.std.specs.Io.KnownBytes.{Appends}
 use Rattle.dac_config.specs.Table.{Table}
-use Rattle.dac_weave.specs.declared.weaving.Woven.{Woven}
+use Rattle.dac_events.specs.declared.WorldEvent.{WorldEvent}
 use Rattle.dac_script.specs.declared.live_line.LiveLine.{LiveLine}
 use Rattle.dac_script.specs.LiveInputs.{SaysLiveScript, IsLiveFailureOf}
 use Rattle.dac_play.specs.Texts.{failure_text}
@@ -16,15 +16,14 @@ use Rattle.dac_live_play.specs.Runs.{IsFaultOf}
 use Rattle.dac_live_play.specs.Faults.{IsRecordFault}
 use Rattle.dac_live_play.specs.declared.fault.PlayFault.{PlayFault}
 
--- text is an input of `distac sim` that expresses a run of the script: its configuration, its events phase by phase, then
--- each node's page. Its comments are the output of `distac live` for that run, the numbers of the phases, and before each
--- event of a caller's line the number of the caller.
+-- text is an input of `distac sim` that expresses a run of the script: its configuration, its events, then each node's
+-- page. Its comments are the output of `distac live` for that run.
 pub record IsKept (table : Table) (script : List LiveLine) (text : List ℕ) : Type 0 where
   pub printed : List ℕ
-  pub run : Woven
-  pub ran : IsRunOf table script printed run
-  pub says : SaysScript text table (run_lines table run.events.items)
-  pub text_is : IsRecordText table printed run text
+  pub events : List WorldEvent
+  pub ran : IsRunOf table script printed events
+  pub says : SaysScript text table (run_lines table events)
+  pub text_is : IsRecordText table printed events text
 
 -- a run of the input's script was printed as an input of `distac sim`
 pub record IsRecorded (bytes : List ℕ) (old new : Option (List ℕ)) : Type 0 where
@@ -38,9 +37,9 @@ pub record IsRecorded (bytes : List ℕ) (old new : Option (List ℕ)) : Type 0 
 -- the script ran to its end, but no input of `distac sim` expresses the run
 pub record IsUnrecorded (table : Table) (script : List LiveLine) (why : PlayFault) : Type 0 where
   pub printed : List ℕ
-  pub run : Woven
-  pub ran : IsRunOf table script printed run
-  pub fault_is : IsRecordFault table printed run why
+  pub events : List WorldEvent
+  pub ran : IsRunOf table script printed events
+  pub fault_is : IsRecordFault table printed events why
 
 -- why no run is recorded: the script didn't run to its end, or no input of `distac sim` expresses the run
 abbrev pub IsUnkept : Table → List LiveLine → PlayFault → Type 0

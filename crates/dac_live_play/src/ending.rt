@@ -2,7 +2,7 @@
 
 ghost use Rattle.std.specs.Prelude.{◌≡◌, ◌++◌, true, option_map, IfOk, OnOk};
 ghost use Rattle.std.specs.Io.KnownBytes.{Appends};
-ghost use Rattle.dac_live_play.specs.Endings.{status_of, run_fault_text, weave_fault_text, fault_text, cause_text, opening_name, call_name, mismatch_text, closing_text, where_text, details_line, details_text, IsRefusal, IsGivenUp};
+ghost use Rattle.dac_live_play.specs.Endings.{status_of, run_fault_text, weave_fault_text, fault_text, cause_text, opening_name, call_name, mismatch_text, closing_text, where_text, details_text, IsRefusal, IsGivenUp};
 
 use crate::fault::PlayFault;
 use dac_base::{NoMemory, NodeId};
@@ -159,10 +159,13 @@ pub fn where_of(alloc: Global, config: &Config, why: RunFault) -> Result<Option<
     Ok(Some(text))
 }
 
-/// The line of the details of a run's fault. Empty for a fault without details.
-fn cause_line(alloc: Global, config: &Config, why: RunFault) -> Result<Vec<u8>, NoMemory>
-    ensures { IfOk result (λ line. line.items ≡ details_line (where_text config.now why)) }
+/// The line of a fault on the standard error: its details. Empty for a fault without details.
+fn details_line(alloc: Global, config: &Config, fault: PlayFault) -> Result<Vec<u8>, NoMemory>
+    ensures { IfOk result (λ line. line.items ≡ details_text config.now fault) }
 {
+    let PlayFault::Run(why) = fault else {
+        return Ok(Vec::new(alloc));
+    };
     let Some(details) = where_of(alloc, config, why)? else {
         return Ok(Vec::new(alloc));
     };
@@ -170,23 +173,6 @@ fn cause_line(alloc: Global, config: &Config, why: RunFault) -> Result<Vec<u8>, 
     line.extend_from_slice(&details)?;
     line.extend_from_slice(b"\n")?;
     Ok(line)
-}
-
-/// The line of a fault on the standard error: the details of a fault of the run, or how many phases of a recorded run
-/// fit into an input. Empty for a fault without details.
-fn details_line(alloc: Global, config: &Config, fault: PlayFault) -> Result<Vec<u8>, NoMemory>
-    ensures { IfOk result (λ line. line.items ≡ details_text config.now fault) }
-{
-    match fault {
-        PlayFault::Run(why) => cause_line(alloc, config, why),
-        PlayFault::TooLong { phases } => {
-            let line = format!(in alloc; "distac: the first {phases} phases fit\n")?;
-            Ok(line.into_bytes())
-        }
-        PlayFault::Unwoven { node: _, place: _ } | PlayFault::Unspelled | PlayFault::NoMemory => {
-            Ok(Vec::new(alloc))
-        }
-    }
 }
 
 /// Prints the details of a fault to the standard error. Returns whether an allocation or the write didn't fail.
@@ -207,7 +193,7 @@ fn fault_line(alloc: Global, config: &Config, fault: PlayFault) -> Result<Vec<u8
     match fault {
         PlayFault::Run(why) => run_fault_line(alloc, why),
         PlayFault::Unwoven { node, place } => weave_fault_line(alloc, config, node, place),
-        PlayFault::TooLong { phases: _ } => {
+        PlayFault::TooLong => {
             let line = Vec::from_slice(alloc, b"record fault 1 TooLong\n")?;
             Ok(line)
         }

@@ -19,10 +19,7 @@ pub enum PlayFault {
         place: u64,
     },
     /// The recorded run has more bytes than an input of `distac sim` can have.
-    TooLong {
-        /// The number of its first phases that fit.
-        phases: usize,
-    },
+    TooLong,
     /// No input of `distac sim` expresses the run.
     Unspelled,
     /// An allocation failed.

@@ -13,10 +13,10 @@ use crate::printing::live_lines;
 use crate::recording::record_lines;
 use dac_base::NodeId;
 use dac_config::Config;
+use dac_events::WorldEvent;
 use dac_live::{Gate, run_live};
-use dac_phases::phase_ends;
 use dac_script::LiveLine;
-use dac_weave::{Woven, weave_phases};
+use dac_weave::weave;
 use std::alloc::Global;
 use std::sync::Wait;
 use std::thread::Threads;
@@ -30,28 +30,25 @@ impl Gate for Open {
     fn after(&self, _from: NodeId, _to: NodeId, _k: u64) {}
 }
 
-/// Runs a script at sites in threads, and merges the journals into one run of the world, phase by phase. Returns the
-/// output and the run.
+/// Runs a script at sites in threads, and merges the journals into one run of the world. Returns the output and the
+/// run.
 fn run_script<T: Threads + Wait + Sync>(
     rt: &T,
     alloc: Global,
     config: &Config,
     script: &[LiveLine],
-) -> Result<(Vec<u8>, Woven), PlayFault>
+) -> Result<(Vec<u8>, Vec<WorldEvent>), PlayFault>
     requires { All (HasActors (node_count config.now)) script.now }
     ensures ok { IfOk result
-        (λ both. IsRunOf config.now script.now both.0.items both.1) }
+        (λ both. IsRunOf config.now script.now both.0.items both.1.items) }
     ensures fault { IfErr result (IsFaultOf config.now script.now) }
 {
     let parts = parts_of(alloc, script)?;
     let phases = phases_of(alloc, &parts)?;
-    let asked = phases.as_slice();
-    let report = run_live(rt, alloc, config, asked, &Open)?;
-    let journals = report.closed.as_slice();
-    let ends = phase_ends(alloc, asked, journals)?;
-    let run = weave_phases(alloc, config, journals, &ends)?;
-    let text = live_lines(alloc, config, &parts, asked, &report)?;
-    Ok((text, run))
+    let report = run_live(rt, alloc, config, &phases, &Open)?;
+    let events = weave(alloc, config, report.closed.as_slice())?;
+    let text = live_lines(alloc, config, &parts, &phases, &report)?;
+    Ok((text, events))
 }
 
 /// Runs a script at sites in threads, merges the journals, and returns the output.
@@ -67,7 +64,7 @@ pub fn play_live<T: Threads + Wait + Sync>(
     ensures ok { IfOk result (λ text. IsPlayed config.now script.now text.items) }
     ensures fault { IfErr result (IsFaultOf config.now script.now) }
 {
-    let (text, _run) = run_script(rt, alloc, config, script)?;
+    let (text, _events) = run_script(rt, alloc, config, script)?;
     Ok(text)
 }
 
@@ -84,7 +81,7 @@ pub fn record_live<T: Threads + Wait + Sync>(
     ensures ok { IfOk result (λ text. IsKept config.now script.now text.items) }
     ensures fault { IfErr result (IsUnkept config.now script.now) }
 {
-    let (printed, run) = run_script(rt, alloc, config, script)?;
-    let text = record_lines(alloc, config, &printed, &run)?;
+    let (printed, events) = run_script(rt, alloc, config, script)?;
+    let text = record_lines(alloc, config, &printed, &events)?;
     Ok(text)
 }

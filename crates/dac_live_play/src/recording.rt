@@ -1,8 +1,8 @@
 //! Expresses a run of the world as a script of `distac sim`.
 
-ghost use Rattle.std.specs.Prelude.{◌≡◌, ◌↔◌, ◌++◌, ◌==◌, ◌+◌, length, map, zip, take, drop, IfOk, IfErr, IsTrue, OnOk};
+ghost use Rattle.std.specs.Prelude.{◌≡◌, ◌↔◌, ◌++◌, ◌==◌, map, IfOk, IfErr, IsTrue, OnOk};
 ghost use Rattle.std.specs.List.{flat_map};
-ghost use Rattle.dac_live_play.specs.Recordings.{node_word, app_word, flag_text, at_text, about_text, numbered_text, app_about_text, given_text, event_line, caller_text, told_text, phase_text, phases_text, page_lines, comment, run_lines, IsUnused, IsPlaceholder, IsRecordText, SaysRun, IsLastOf, PhasesFit, RecordsPhases};
+ghost use Rattle.dac_live_play.specs.Recordings.{node_word, app_word, flag_text, at_text, about_text, numbered_text, app_about_text, given_text, event_line, event_text, page_lines, comment, run_lines, IsUnused, IsPlaceholder, IsRecordText, SaysRun};
 ghost use Rattle.dac_config.specs.Canonical.{canonical_text};
 ghost use Rattle.dac_script.specs.Inputs.{SaysScript};
 ghost use Rattle.dac_script.specs.Script.{lines_of};
@@ -13,10 +13,8 @@ use crate::saying::is_said;
 use dac_base::{AppId, NoMemory, NodeId};
 use dac_config::{Config, put_printed_name};
 use dac_events::{Command, What, WorldEvent};
-use dac_live::CALLERS;
 use dac_script::MAX_INPUT;
 use dac_shapes::MAX_TEXT;
-use dac_weave::Woven;
 use std::alloc::Global;
 
 /// More underscores than a configuration has names.
@@ -224,100 +222,22 @@ fn put_line(
     }
 }
 
-/// Appends the number of the caller of a seat as a comment. Appends nothing for a seat of a shipper or a link worker.
-fn put_caller(alloc: Global, text: &mut Vec<u8>, seat: u16) -> Result<(), NoMemory>
-    ensures { OnOk result (text.new.items ≡ text.old.items ++ caller_text seat) }
-{
-    if seat > u16::from(CALLERS) {
-        return Ok(());
-    }
-    let comment = format!(in alloc; "% caller {seat}\n")?;
-    text.extend_from_slice(comment.as_bytes())?;
-    Ok(())
-}
-
-/// Appends the lines of events, each after its caller.
+/// Appends the lines of all events.
 fn put_events(
     alloc: Global,
     text: &mut Vec<u8>,
     config: &Config,
     placeholder: &[u8],
     events: &[WorldEvent],
-    seats: &[u16],
 ) -> Result<(), NoMemory>
-    requires { length seats.now ≡ length events.now }
-    ensures { OnOk result (text.new.items ≡ text.old.items
-        ++ flat_map (told_text config.now placeholder.now) (zip events.now seats.now)) }
+    ensures { OnOk result (text.new.items
+        ≡ text.old.items ++ flat_map (event_text config.now placeholder.now) events.now) }
 {
-    for i in 0..events.len() {
-        put_caller(alloc, text, seats[i])?;
-        put_line(alloc, text, config, placeholder, events[i])?;
+    for event in events {
+        put_line(alloc, text, config, placeholder, *event)?;
         text.push(b'\n')?;
     }
     Ok(())
-}
-
-/// Appends a phase: its number as a comment, and its events.
-fn put_phase(
-    alloc: Global,
-    text: &mut Vec<u8>,
-    config: &Config,
-    placeholder: &[u8],
-    number: usize,
-    events: &[WorldEvent],
-    seats: &[u16],
-) -> Result<(), NoMemory>
-    requires { length seats.now ≡ length events.now }
-    ensures { OnOk result (text.new.items ≡ text.old.items
-        ++ phase_text config.now placeholder.now number (zip events.now seats.now)) }
-{
-    let comment = format!(in alloc; "% phase {number}\n")?;
-    text.extend_from_slice(comment.as_bytes())?;
-    put_events(alloc, text, config, placeholder, events, seats)
-}
-
-/// The items from `start` up to `bound`. Empty if there are none.
-fn part_of<T>(items: &[T], start: usize, bound: usize) -> &[T]
-    ensures { result.now ≡ drop start (take bound items.now) }
-{
-    let (front, _later) = items.split_at(bound.min(items.len()));
-    let (_earlier, part) = front.split_at(start.min(front.len()));
-    part
-}
-
-/// Appends the run's phases. Returns how many of them fit into an input, with this text before and these pages after
-/// them.
-fn put_phases(
-    alloc: Global,
-    text: &mut Vec<u8>,
-    config: &Config,
-    placeholder: &[u8],
-    run: &Woven,
-    pages: &[u8],
-) -> Result<usize, NoMemory>
-    requires { length run.now.seats.items ≡ length run.now.events.items }
-    ensures text { OnOk result (text.new.items ≡ text.old.items
-        ++ phases_text config.now placeholder.now run.now (length run.now.bounds.items)) }
-    ensures fit { IfOk result (IsLastOf
-        (PhasesFit config.now placeholder.now run.now text.old.items pages.now)
-        (length run.now.bounds.items)) }
-{
-    let events = run.events.as_slice();
-    let seats = run.seats.as_slice();
-    let bounds = run.bounds.as_slice();
-    let mut start = 0;
-    let mut fit = 0;
-    for before in 0..bounds.len() {
-        let bound = bounds[before];
-        let told = part_of(events, start, bound);
-        let own = part_of(seats, start, bound);
-        put_phase(alloc, text, config, placeholder, before + 1, told, own)?;
-        if text.len().saturating_add(pages.len()) <= MAX_INPUT {
-            fit = before + 1;
-        }
-        start = bound;
-    }
-    Ok(fit)
 }
 
 /// Appends a `page` line for each node.
@@ -372,34 +292,29 @@ fn put_comments(text: &mut Vec<u8>, lines: &[&[u8]]) -> Result<(), NoMemory>
     Ok(())
 }
 
-/// The whole input, unchecked: the canonical configuration, the divider, and the script. Also how many of the phases fit
-/// into an input.
+/// The whole input, unchecked: the canonical configuration, the divider, and the script.
 fn spelled(
     alloc: Global,
     config: &Config,
     canonical: &[u8],
     printed: &[u8],
-    run: &Woven,
-) -> Result<(Vec<u8>, usize), NoMemory>
-    requires canonical { canonical.now ≡ canonical_text config.now }
-    requires seats { length run.now.seats.items ≡ length run.now.events.items }
-    ensures { IfOk result (λ both. RecordsPhases config.now printed.now run.now both.0.items both.1) }
+    events: &[WorldEvent],
+) -> Result<Vec<u8>, NoMemory>
+    requires { canonical.now ≡ canonical_text config.now }
+    ensures { IfOk result (λ text. IsRecordText config.now printed.now events.now text.items) }
 {
     let placeholder = placeholder_name(alloc, config)?;
     let lines = lines_of(alloc, printed)?;
-    let mut pages = Vec::new(alloc);
-    put_page_lines(&mut pages, config, &placeholder)?;
     let mut text = Vec::from_slice(alloc, canonical)?;
     text.extend_from_slice(b"--\n")?;
     put_comments(&mut text, &lines)?;
-    let fit = put_phases(alloc, &mut text, config, &placeholder, run, &pages)?;
-    text.extend_from_slice(&pages)?;
-    Ok((text, fit))
+    put_events(alloc, &mut text, config, &placeholder, events)?;
+    put_page_lines(&mut text, config, &placeholder)?;
+    Ok(text)
 }
 
-/// Expresses a run as an input of `distac sim`: the configuration, the printed output as comments, the events phase by
-/// phase, and each node's page. Comments give the numbers of phases and callers. The text is parsed again, so that it's
-/// known to express exactly that.
+/// Expresses a run as an input of `distac sim`: the configuration, the printed output as comments, the events, and each
+/// node's page. The text is parsed again, so that it's known to express exactly that.
 ///
 /// Fails with [`PlayFault::TooLong`] if the text exceeds the size of an input, or its configuration that of one, and with
 /// [`PlayFault::Unspelled`] if it doesn't parse as the run, because a script line can't contain a name with a space.
@@ -407,28 +322,23 @@ pub fn record_lines(
     alloc: Global,
     config: &Config,
     printed: &[u8],
-    run: &Woven,
+    events: &[WorldEvent],
 ) -> Result<Vec<u8>, PlayFault>
-    // Each event has a seat.
-    requires { length run.now.seats.items ≡ length run.now.events.items }
-    ensures text { IfOk result (λ text. IsRecordText config.now printed.now run.now text.items) }
+    ensures text { IfOk result
+        (λ text. IsRecordText config.now printed.now events.now text.items) }
     ensures says { IfOk result
-        (λ text. SaysScript text.items config.now (run_lines config.now run.now.events.items)) }
+        (λ text. SaysScript text.items config.now (run_lines config.now events.now)) }
     // The configuration is the canonical text.
-    ensures run { IfOk result (λ text. SaysRun text.items config.now run.now.events.items) }
-    // `TooLong`: the text is too long, or its configuration, and the fault has the number of phases that fit. `Unspelled`:
-    // neither is, but the text isn't read as the run.
-    ensures fault { IfErr result (IsRecordFault config.now printed.now run.now) }
+    ensures run { IfOk result (λ text. SaysRun text.items config.now events.now) }
+    // `TooLong`: the text is too long, or its configuration. `Unspelled`: neither is, but the text isn't read as the run.
+    ensures fault { IfErr result (IsRecordFault config.now printed.now events.now) }
 {
     let canonical = config.canonical_text()?;
-    let (text, phases) = spelled(alloc, config, &canonical, printed, run)?;
-    if canonical.len() > MAX_TEXT {
-        return Err(PlayFault::TooLong { phases: 0 });
+    let text = spelled(alloc, config, &canonical, printed, events)?;
+    if text.len() > MAX_INPUT || canonical.len() > MAX_TEXT {
+        return Err(PlayFault::TooLong);
     }
-    if text.len() > MAX_INPUT {
-        return Err(PlayFault::TooLong { phases });
-    }
-    if !is_said(alloc, config, &canonical, &text, run.events.as_slice())? {
+    if !is_said(alloc, config, &canonical, &text, events)? {
         return Err(PlayFault::Unspelled);
     }
     Ok(text)

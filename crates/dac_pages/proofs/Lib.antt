@@ -1,2 +1,2 @@
-pub mod Ready
+pub mod Last
 pub mod Places

@@ -1,9 +1,9 @@
 //! The writer of pages.
 
-ghost use Rattle.std.specs.Prelude.{◌≡◌, ◌↔◌, ◌^◌, ◌<◌, None, Some, IsSome, IsTrue, IfOk, MatchResult};
-ghost use Rattle.dac_pages.specs.Published.{PagesValue, Follows, latest, updated};
+ghost use Rattle.std.specs.Prelude.{◌≡◌, ◌^◌, ◌<◌, None, Some, IfOk, MatchResult};
+ghost use Rattle.dac_pages.specs.Published.{PagesValue, Follows};
 
-use crate::page::{Page, PageCopy, Update};
+use crate::page::Page;
 use crate::reading::RawReader;
 use crate::rule::{Rises, Sees};
 use dac_base::NoMemory;
@@ -13,7 +13,7 @@ use std::marker::Model;
 use std::sync::Wait;
 
 /// The writer of pages, bound to their rule.
-pub type PageWriter = Writer<PageCopy, Update, u64, Rises>;
+pub type PageWriter = Writer<Page, Page, u64, Rises>;
 
 /// Publishes pages. Contracts see the page that readers get, and the prepared one, if any. It can't be dropped: end it
 /// with [`Pages::end`].
@@ -46,9 +46,7 @@ impl Pages {
         requires { (0 < readers) × (readers < 2 ^ 32) }
         ensures { IfOk result (λ p. p ≡ record { shown = first; ready = None }) }
     {
-        let one = PageCopy::of(alloc, first)?;
-        let other = PageCopy::of(alloc, first)?;
-        match Writer::new(alloc, one, other, readers) {
+        match Writer::new(alloc, first, first, readers) {
             Ok(writer) => Ok(Pages {
                 writer: Some(writer),
             }),
@@ -61,32 +59,22 @@ impl Pages {
         ensures { result.now ≡ self.now.shown }
     {
         match &self.writer {
-            Some(writer) => &writer.published().page,
+            Some(writer) => writer.published(),
             None => unreachable!(),
         }
     }
 
-    /// Returns whether a page is prepared and not published yet.
-    pub fn is_ready(&self) -> bool
-        ensures { IsTrue result ↔ IsSome self.now.ready }
-    {
-        match &self.writer {
-            Some(writer) => writer.has_pending_operations(),
-            None => unreachable!(),
-        }
-    }
-
-    /// Prepares the page that this update makes of the one prepared last, or of the published one if none is, so that
-    /// [`Pages::publish`] can't fail. Readers still get the published page. A failed call changes nothing.
-    pub fn prepare(&mut self, update: Update) -> Result<(), NoMemory>
+    /// Prepares a page, so that [`Pages::publish`] can't fail. Readers still get the published page. A failed call
+    /// changes nothing.
+    pub fn prepare(&mut self, page: Page) -> Result<(), NoMemory>
         ensures { MatchResult result
-            (λ _. self.new ≡ record { shown = self.old.shown; ready = Some (updated (latest self.old) update) })
+            (λ _. self.new ≡ record { shown = self.old.shown; ready = Some page })
             (λ _. self.new ≡ self.old) }
     {
         let Some(writer) = &mut self.writer else {
             return Err(NoMemory);
         };
-        match writer.append(update) {
+        match writer.append(page) {
             Ok(()) => Ok(()),
             Err(_) => Err(NoMemory),
         }
@@ -117,7 +105,6 @@ impl Pages {
         ensures { result ≡ self.shown }
     {
         let Pages { writer } = self;
-        let last = writer.unwrap().take(rt);
-        *last.page
+        *writer.unwrap().take(rt)
     }
 }

@@ -2,13 +2,13 @@
 
 ghost use Rattle.std.specs.Prelude.{◌≡◌, ◌≤◌, max, IfSome, IfNone};
 
-use crate::page::{Page, PageCopy};
+use crate::page::Page;
 use crate::rule::{Rises, Sees};
 use left_right::reader::Reader;
 use std::marker::Model;
 
 /// A reader of pages, bound to their rule.
-pub type RawReader = Reader<PageCopy, u64, Rises>;
+pub type RawReader = Reader<Page, u64, Rises>;
 
 /// Reads pages without waiting. Contracts see the least place that its next page can have.
 #[derive(Drop)]
@@ -51,7 +51,7 @@ impl Follower {
                 return None;
             }
         };
-        let page = *reading.get().page;
+        let page = *reading.get();
         self.reader = Some(reading.leave());
         if page.place < self.learned {
             return None;

@@ -1,15 +1,15 @@
 //! The rule of the pages: places never decrease.
 
-use crate::page::PageCopy;
+use crate::page::Page;
 use crossbeam_utils::rule::{Outcome, Protocol};
 
 /// The protocol of the pages. A view is a place that was reached.
 pub struct Rises;
 
-impl Protocol<PageCopy, u64> for Rises {
+impl Protocol<Page, u64> for Rises {
     ghost use Rattle.dac_pages.specs.Rising.{AllBelow};
 
-    ghost holds = { λ p. AllBelow p.page.value.place };
+    ghost holds = { λ p. AllBelow p.place };
 
     ghost first = { 0 };
 }
@@ -17,8 +17,8 @@ impl Protocol<PageCopy, u64> for Rises {
 /// A page was read or published, and its place isn't below the view.
 pub(crate) struct Sees;
 
-impl Outcome<PageCopy, u64> for Sees {
+impl Outcome<Page, u64> for Sees {
     ghost use Rattle.std.specs.Prelude.{◌≡◌, ◌≤◌};
 
-    ghost then = { λ v x y w. (v ≤ x.page.value.place) × (w ≡ y.page.value.place) };
+    ghost then = { λ v x y w. (v ≤ x.place) × (w ≡ y.place) };
 }

@@ -1,5 +1,3 @@
-mod Counted
-mod Ended
 mod Parted
 mod Seating
 mod Shipped

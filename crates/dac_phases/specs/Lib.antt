@@ -1,5 +1,4 @@
 pub mod Asks
-pub mod Ends
 pub mod Pairs
 pub mod Phases
 pub mod Seating

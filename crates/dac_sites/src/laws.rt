@@ -10,7 +10,7 @@ ghost use Rattle.dac_sites.specs.Added.{Added, AddedRefused, WhereRecorded, Unle
 ghost use Rattle.dac_sites.specs.Paged.{page_after};
 
 use crate::faults::LiveFault;
-use crate::paged::{PagedJournal, prepare_page};
+use crate::paged::{PagedJournal, next_page};
 use crate::same::is_record;
 use dac_events::Refusal;
 use dac_journal::{Answer, Call, Record};
@@ -92,7 +92,8 @@ pub(crate) fn record_call<R: Wait>(
         pages,
     } = paged;
     let next = journal.prepare(seat, event)?;
-    prepare_page(*alloc, journal, pages, &next)?;
+    let page = next_page(*alloc, journal, pages.shown(), &next)?;
+    pages.prepare(page)?;
     let said = journal.commit(next)?;
     pages.publish(rt);
     Ok(said)

@@ -1,11 +1,10 @@
 //! A journal with its published pages.
 
-ghost use Rattle.std.specs.Prelude.{◌≡◌, ◌^◌, ◌<◌, ◌++◌, ◌∷◌, [], true, Some, IfOk, MatchResult};
+ghost use Rattle.std.specs.Prelude.{◌≡◌, ◌^◌, ◌<◌, ◌++◌, ◌∷◌, [], IfOk};
 ghost use Rattle.std.specs.Option.{option_copied};
 ghost use Rattle.dac_status.specs.Summaries.{summary_of};
 ghost use Rattle.dac_journal.specs.Keeping.{leaves_state};
 ghost use Rattle.dac_journal.specs.Going.{GoesOnBy, node_by};
-ghost use Rattle.dac_pages.specs.Published.{latest, updated};
 ghost use Rattle.dac_sites.specs.Paged.{page_after, page_of, known_in};
 
 use dac_base::NoMemory;
@@ -13,8 +12,7 @@ use dac_config::Config;
 use dac_journal::{Answer, Change, Journal, Next, Node};
 use dac_lattice::Bottom;
 use dac_messages::Reply;
-use dac_origins::Origin;
-use dac_pages::{Page, Pages, RawReader, Update};
+use dac_pages::{Page, Pages, RawReader};
 use dac_state::State;
 use dac_status::Summary;
 use std::alloc::Global;
@@ -32,57 +30,30 @@ pub fn page_of(alloc: Global, config: &Config, place: u64, node: &Node) -> Page
     }
 }
 
-/// The update of the pages by a prepared record. The summary is computed again only if the state can have changed, or if
-/// a page is prepared that belongs to a record that wasn't appended.
-fn next_update(
+/// The page after a prepared record, computed from the page before it. The summary is computed again only if the state
+/// can have changed.
+pub(crate) fn next_page(
     alloc: Global,
     journal: &Journal,
-    pages: &Pages,
+    shown: &Page,
     next: &Next,
-) -> Result<Update, NoMemory>
+) -> Result<Page, NoMemory>
     requires goes { GoesOnBy journal.now.beginning journal.now.records next.now.entry
         next.now.change }
-    requires shown { pages.now.shown ≡ page_after journal.now.beginning journal.now.records }
-    ensures { IfOk result (λ update. updated (latest pages.now) update
+    requires shown { shown.now ≡ page_after journal.now.beginning journal.now.records }
+    ensures { IfOk result (λ page. page
         ≡ page_after journal.now.beginning (journal.now.records ++ next.now.entry ∷ [])) }
 {
     let node = journal.node();
     let place = journal.records().len() as u64 + 1;
-    if leaves_page(next.answer(), pages) {
-        return Ok(Update::Place(place));
+    if leaves_state(next.answer()) {
+        return Ok(Page {
+            place,
+            origin: shown.origin,
+            summary: shown.summary,
+        });
     }
-    let page = page_by(alloc, journal.config(), place, node, next.change())?;
-    Ok(Update::Whole(page))
-}
-
-/// Prepares the page after a prepared record. A failed call changes nothing.
-pub(crate) fn prepare_page(
-    alloc: Global,
-    journal: &Journal,
-    pages: &mut Pages,
-    next: &Next,
-) -> Result<(), NoMemory>
-    requires goes { GoesOnBy journal.now.beginning journal.now.records next.now.entry
-        next.now.change }
-    requires shown { pages.old.shown ≡ page_after journal.now.beginning journal.now.records }
-    ensures { MatchResult result
-        (λ _. pages.new ≡ record {
-          shown = pages.old.shown;
-          ready = Some (page_after journal.now.beginning (journal.now.records ++ next.now.entry ∷ []));
-        })
-        (λ _. pages.new ≡ pages.old) }
-{
-    let update = next_update(alloc, journal, pages, next)?;
-    pages.prepare(update)?;
-    Ok(())
-}
-
-/// Returns whether after a result the newest page, but for its place, is the published one.
-fn leaves_page(answer: &Answer, pages: &Pages) -> bool
-    ensures state { result ≡ true → leaves_state answer.now ≡ true }
-    ensures latest { result ≡ true → latest pages.now ≡ pages.now.shown }
-{
-    leaves_state(answer) && !pages.is_ready()
+    page_by(alloc, journal.config(), place, node, next.change())
 }
 
 /// Returns whether a result implies that the state and the incarnation stay.
@@ -104,52 +75,19 @@ fn page_by(
     place: u64,
     node: &Node,
     change: Option<&Change>,
-) -> Result<Box<Page>, NoMemory>
-    ensures { IfOk result (λ page. page.value
+) -> Result<Page, NoMemory>
+    ensures { IfOk result (λ page. page
         ≡ page_of config.now place (node_by (option_copied change.entry) node.now)) }
 {
     let Some(change) = change else {
-        return page_with(alloc, config, place, node.origin(), node.state());
+        return Ok(page_of(alloc, config, place, node));
     };
     let state = node.state_after(change)?;
-    page_with(
-        alloc,
-        config,
+    Ok(Page {
         place,
-        node.origin_after(change),
-        state.as_ref(),
-    )
-}
-
-/// A page in a box of its own, with the summary of a state, or of the bottom state if there is none. It is made in the
-/// box, because each copy of it is several KiB.
-fn page_with(
-    alloc: Global,
-    config: &Config,
-    place: u64,
-    origin: Option<Origin>,
-    state: Option<&State>,
-) -> Result<Box<Page>, NoMemory>
-    ensures { IfOk result (λ page. page.value ≡ record {
-      place = place;
-      origin = origin;
-      summary = summary_of config.now (known_in (option_copied state.entry));
-    }) }
-{
-    let bottom = State::bottom(alloc);
-    let state = match state {
-        Some(state) => state,
-        None => &bottom,
-    };
-    let page = Box::new(
-        alloc,
-        Page {
-            place,
-            origin,
-            summary: Summary::of(config, state),
-        },
-    )?;
-    Ok(page)
+        origin: node.origin_after(change),
+        summary: summary_of(alloc, config, state.as_ref()),
+    })
 }
 
 /// The summary of a state, or of the bottom state if there is none.

@@ -4,5 +4,4 @@ mod Least
 mod Twice
 mod Replays
 mod Placed
-mod Cutting
 mod Converged

@@ -1,5 +1,5 @@
 -- The merge keeps its invariant.
-use Rattle.std.proofs.Common.{◌≡◌, ◌≢◌, ℕ, zero, suc, ◌+◌, ◌-◌, ◌<◌, ◌≤◌, Bool, true, false, cond, inl, inr, ◌⊎◌, List, [], ◌∷◌, ◌++◌, Option, Some, None, Result, Ok, Err, length, take, drop, get_or, nat_eq, refl, sym, ap, subst, ◌∙◌, append-nil, append_assoc, arith, below_more}
+use Rattle.std.proofs.Common.{◌≡◌, ◌≢◌, ℕ, zero, suc, ◌+◌, ◌-◌, ◌<◌, ◌≤◌, cond, inl, inr, ◌⊎◌, List, [], ◌∷◌, ◌++◌, Option, Some, None, Result, Ok, Err, length, take, drop, get_or, nat_eq, refl, sym, ap, subst, ◌∙◌, append-nil, arith, below_more}
 use Rattle.dac_weave.specs.laws.Common.{MatchOption, slice_get, AllZip, take_more, length-set, length-map, slice_get_within, NodeId, Table, Reply, Refusal, Message, Operation, WorldEvent, What, ModelNode, off_after, ModelWorld, start, event_of, JournalValue, Seen, seen_of, seen_in, as_seen, journal_seen, as_world_result, At, IsPrefixOf, Gives, ReproducesPrefixes, IsFirst, node_step, replayed, AreAnswered, run_from, Begins, Weaves, BlockedBetween, IsLeft, IsRecorded}
 use Rattle.std.proofs.Math.ListN.{set}
 use Rattle.std.proofs.lemmas.List.{take_all, take-append-drop, length-take-le, length-append}
@@ -8,11 +8,10 @@ use Rattle.dac_weave.specs.declared.cursor.Cursor.{Cursor}
 use Rattle.dac_weave.specs.declared.merge.Merge.{Merge}
 use Rattle.dac_weave.specs.Woven.{AllFit, IsStuckAt, IsUnwoven}
 use Rattle.dac_weave.specs.Names.{issued_in, shipped_in}
-use Rattle.dac_weave.specs.Placing.{IsCursor, CanBePlaced, IsBlocked, AllBlocked, Places, PlacesRecord, longer, IsLeftAt, AllWhole, reach, valids_of, Continues}
-use Rattle.dac_weave.specs.Seats.{seats_at, seats_of}
+use Rattle.dac_weave.specs.Placing.{IsCursor, HaveCursors, CanBePlaced, IsBlocked, AllBlocked, Places, PlacesRecord, longer, IsLeftAt, AllWhole}
 use Rattle.dac_weave.specs.laws.Members.{not_true}
 use Rattle.dac_weave.specs.laws.Runs.{eq_self, node-after, count-after, seen-append, run-append, steps_node, grows, shipped_of, issued_of}
-use Rattle.dac_weave.proofs.Replays.{take-push, journal_seen-at, seats_of-at, so_far}
+use Rattle.dac_weave.proofs.Replays.{take-push, journal_seen-at, so_far}
 use Rattle.dac_weave.specs.laws.Recorded.{kept, recorded-gives}
 use Rattle.dac_weave.specs.laws.Complete.{Stands, furthest, same_number}
 use Rattle.dac_weave.proofs.Least.{one_at}
@@ -41,13 +40,13 @@ set-cases (z ∷ xs) (suc i) x (suc k) y h = elim (set-cases xs i x k y h) [
     less : suc k ≡ suc i → k ≡ i
     less e = omega arith
 
-pub AllZip-length : {A B : Type 0} (R : A → B → Type 0) (xs : List A) (ys : List B) → AllZip R xs ys → length ys ≡ length xs
+AllZip-length : {A B : Type 0} (R : A → B → Type 0) (xs : List A) (ys : List B) → AllZip R xs ys → length ys ≡ length xs
 AllZip-length R [] [] h = refl
 AllZip-length R [] (y ∷ ys) h = elim h [ ]
 AllZip-length R (x ∷ xs) [] h = elim h [ ]
 AllZip-length R (x ∷ xs) (y ∷ ys) h = ap suc (AllZip-length R xs ys h.1)
 
-pub AllZip-at : {A B : Type 0} (R : A → B → Type 0) (xs : List A) (ys : List B) (i : ℕ) (x : A) (y : B) → AllZip R xs ys → slice_get xs i ≡ Some x → slice_get ys i ≡ Some y → R x y
+AllZip-at : {A B : Type 0} (R : A → B → Type 0) (xs : List A) (ys : List B) (i : ℕ) (x : A) (y : B) → AllZip R xs ys → slice_get xs i ≡ Some x → slice_get ys i ≡ Some y → R x y
 AllZip-at R [] [] i x y h a b = cc
 AllZip-at R [] (v ∷ ys) i x y h a b = elim h [ ]
 AllZip-at R (u ∷ xs) [] i x y h a b = elim h [ ]
@@ -59,6 +58,28 @@ AllZip-at {A} {B} R (u ∷ xs) (v ∷ ys) zero x y h a b = subst (λ v. R x v) (
     same_b : (p q : B) → Some p ≡ Some q → p ≡ q
     same_b p q e = cc
 AllZip-at R (u ∷ xs) (v ∷ ys) (suc i) x y h a b = AllZip-at R xs ys i x y h.1 a b
+
+-- ---- nothing placed
+pub record IsEmpty (l : Merge) : Type 0 where
+  pub events : l.events.items ≡ []
+  pub operations : l.operations ≡ []
+  pub messages : l.messages ≡ []
+
+zero_least : (n m : ℕ) → n ≡ 0 → n ≤ m
+zero_least n m e = omega arith
+
+pub weaves-new : (t : Table) (js : List JournalValue) (l : Merge) → AllZip (Begins t) js l.cursors.items → IsEmpty l → Weaves t js l
+weaves-new t js l zip empty = record {
+  count = AllZip-length (Begins t) js l.cursors.items zip;
+  cursors = λ i j s at sat. let b = AllZip-at (Begins t) js l.cursors.items i j s zip at sat in record { placed = zero_least s.placed s.valid b.placed; longest = b.longest };
+  seen = λ i j s at sat. let b = AllZip-at (Begins t) js l.cursors.items i j s zip at sat in ap (λ es. seen_in t es j.beginning.node) empty.events ∙ ap (λ k. take k (journal_seen j)) (sym b.placed);
+  others = λ n none. ap (λ es. seen_in t es n) empty.events;
+  operations = empty.operations ∙ ap (λ es. (run_from t (start t) es).operations) (sym empty.events);
+  messages = empty.messages ∙ ap (λ es. (run_from t (start t) es).messages) (sym empty.events);
+}
+
+pub fits-weaves : (t : Table) (js : List JournalValue) (l : Merge) → Weaves t js l → HaveCursors js l.cursors.items
+fits-weaves t js l w = record { count = w.count; within = λ i j s at sat. (w.cursors i j s at sat).longest.within }
 
 -- ---- placing one
 -- a result within the replayed prefix is the step's after the records before it
@@ -82,22 +103,6 @@ shipped-as_world_result : (a : Result Reply Refusal) → shipped_of (as_world_re
 shipped-as_world_result (Ok x) = refl
 shipped-as_world_result (Err x) = refl
 
--- the seat of one more event
-seats-push : (n : NodeId) (es : List WorldEvent) (seats : List ℕ) (e : WorldEvent) (seat : ℕ) → length seats ≡ length es → seats_at n (es ++ e ∷ []) (seats ++ seat ∷ []) ≡ seats_at n es seats ++ cond (nat_eq e.node.0 n.0) (seat ∷ []) []
-seats-push n [] [] e seat many = refl
-seats-push n [] (s ∷ seats) e seat many = absurd (omega arith)
-seats-push n (f ∷ es) [] e seat many = absurd (omega arith)
-seats-push n (f ∷ es) (s ∷ seats) e seat many =
-    ap (λ (xs : List ℕ). cond (nat_eq f.node.0 n.0) (s ∷ xs) xs) (seats-push n es seats e seat (less many))
-    ∙ either (nat_eq f.node.0 n.0) (seats_at n es seats) (cond (nat_eq e.node.0 n.0) (seat ∷ []) [])
-  where
-    less : suc (length seats) ≡ suc (length es) → length seats ≡ length es
-    less h = omega arith
-
-    either : (b : Bool) (xs ys : List ℕ) → cond b (s ∷ xs ++ ys) (xs ++ ys) ≡ cond b (s ∷ xs) xs ++ ys
-    either true xs ys = refl
-    either false xs ys = refl
-
 module _ (t : Table) (js : List JournalValue) (old : Merge) (i : ℕ) (what : What) (w : Weaves t js old) (fit : AllFit js) (ready : CanBePlaced js old i what) where
   abbrev world : ModelWorld
   world = run_from t (start t) old.events.items
@@ -115,7 +120,7 @@ module _ (t : Table) (js : List JournalValue) (old : Merge) (i : ℕ) (what : Wh
   placed_seen =
       let j = ready.journal in
       let steps = steps_node t j.beginning.node world event (count-after t (start t) old.events.items refl) (eq_self j.beginning.node.0) in
-      let history = history-at t j.beginning.node (off_after 0) (journal_seen j) (reach j ready.cursor) ready.cursor.placed (as_seen ready.next) (w.cursors i j ready.cursor ready.at ready.cursor_at).longest.answered ready.left (journal_seen-at j ready.cursor.placed ready.next ready.next_at) in
+      let history = history-at t j.beginning.node (off_after 0) (journal_seen j) ready.cursor.valid ready.cursor.placed (as_seen ready.next) (w.cursors i j ready.cursor ready.at ready.cursor_at).longest.answered ready.left (journal_seen-at j ready.cursor.placed ready.next ready.next_at) in
       let answer : (seen_of t world event).answer ≡ as_world_result ready.next.answer =
       steps.answer
       ∙ (ap (λ d. (node_step t j.beginning.node d (seen_of t world event).event).answer) (node-after t j.beginning.node (start t) old.events.items refl ∙ ap (replayed t j.beginning.node (off_after 0)) here_seen)
@@ -137,21 +142,6 @@ module _ (t : Table) (js : List JournalValue) (old : Merge) (i : ℕ) (what : Wh
       ∙ (ap (λ b. seen_in t old.events.items n ++ cond b (as_seen ready.next ∷ []) []) (not_true (nat_eq ready.journal.beginning.node.0 n.0) (λ e. apart (same_number ready.journal.beginning.node n e)))
       ∙ append-nil (seen_in t old.events.items n))
 
-  more_seats : (n : NodeId) → seats_at n (old.events.items ++ event ∷ []) (old.seats.items ++ ready.next.seat ∷ []) ≡ seats_at n old.events.items old.seats.items ++ cond (nat_eq ready.journal.beginning.node.0 n.0) (ready.next.seat ∷ []) []
-  more_seats n = seats-push n old.events.items old.seats.items event ready.next.seat w.many
-
-  seats_here : seats_at ready.journal.beginning.node (old.events.items ++ event ∷ []) (old.seats.items ++ ready.next.seat ∷ []) ≡ take (ready.cursor.placed + 1) (seats_of ready.journal)
-  seats_here =
-      more_seats ready.journal.beginning.node
-      ∙ (ap (λ b. seats_at ready.journal.beginning.node old.events.items old.seats.items ++ cond b (ready.next.seat ∷ []) []) (eq_self ready.journal.beginning.node.0)
-      ∙ (ap (λ (xs : List ℕ). xs ++ ready.next.seat ∷ []) (w.seats i ready.journal ready.cursor ready.at ready.cursor_at) ∙ sym (take-push (seats_of ready.journal) ready.cursor.placed ready.next.seat (seats_of-at ready.journal ready.cursor.placed ready.next ready.next_at))))
-
-  seats_else : (n : NodeId) → ready.journal.beginning.node ≢ n → seats_at n (old.events.items ++ event ∷ []) (old.seats.items ++ ready.next.seat ∷ []) ≡ seats_at n old.events.items old.seats.items
-  seats_else n apart =
-      more_seats n
-      ∙ (ap (λ b. seats_at n old.events.items old.seats.items ++ cond b (ready.next.seat ∷ []) []) (not_true (nat_eq ready.journal.beginning.node.0 n.0) (λ e. apart (same_number ready.journal.beginning.node n e)))
-      ∙ append-nil (seats_at n old.events.items old.seats.items))
-
   module _ (new : Merge) (placed : Places js old i what new) where
     abbrev does : PlacesRecord old i what new ready.journal ready.cursor ready.next
     does = placed.each ready.journal ready.cursor ready.next ready.at ready.cursor_at ready.next_at
@@ -166,18 +156,8 @@ module _ (t : Table) (js : List JournalValue) (old : Merge) (i : ℕ) (what : Wh
     own_journal : (k : ℕ) (b : JournalValue) → At js k b → k ≡ i → ready.journal ≡ b
     own_journal k b at e = one_at js i ready.journal b ready.at (subst (λ m. At js m b) e at)
 
-    up_to : ready.cursor.placed + 1 ≤ reach ready.journal ready.cursor
+    up_to : ready.cursor.placed + 1 ≤ ready.cursor.valid
     up_to = let lt = ready.left in omega arith
-
-    many_more : length new.seats.items ≡ length new.events.items
-    many_more =
-        let ss : length new.seats.items ≡ length old.seats.items + 1 = ap (λ (xs : List ℕ). length xs) does.seats ∙ length-append old.seats.items (ready.next.seat ∷ []) in
-        let es : length new.events.items ≡ length old.events.items + 1 = ap (λ (xs : List WorldEvent). length xs) does.events ∙ length-append old.events.items (event ∷ []) in
-        let so_far = w.many in
-        omega arith
-
-    seats_so : (n : NodeId) → seats_at n new.events.items new.seats.items ≡ seats_at n (old.events.items ++ event ∷ []) (old.seats.items ++ ready.next.seat ∷ [])
-    seats_so n = λ k. seats_at n (does.events k) (does.seats k)
 
     pub weaves-place : Weaves t js new
     weaves-place = record {
@@ -191,37 +171,12 @@ module _ (t : Table) (js : List JournalValue) (old : Merge) (i : ℕ) (what : Wh
         | inr other ↦ more_else b.beginning.node (apart k b at other.0) ∙ w.seen k b s at other.1
       ];
       others = λ n none. ap (λ es. seen_in t es n) does.events ∙ (more_else n (none i ready.journal ready.at) ∙ w.others n none);
-      many = many_more;
-      seats = λ k b s at sat. seats_so b.beginning.node ∙ elim (cursor_cases k s sat) as (λ _. seats_at b.beginning.node (old.events.items ++ event ∷ []) (old.seats.items ++ ready.next.seat ∷ []) ≡ take s.placed (seats_of b)) [
-        | inl own ↦ subst (λ (x : Cursor). seats_at b.beginning.node (old.events.items ++ event ∷ []) (old.seats.items ++ ready.next.seat ∷ []) ≡ take x.placed (seats_of b)) own.1 (subst (λ (x : JournalValue). seats_at x.beginning.node (old.events.items ++ event ∷ []) (old.seats.items ++ ready.next.seat ∷ []) ≡ take (ready.cursor.placed + 1) (seats_of x)) (own_journal k b at own.0) seats_here)
-        | inr other ↦ seats_else b.beginning.node (apart k b at other.0) ∙ w.seats k b s at other.1
-      ];
       operations = does.operations ∙ (ap (λ (os : List Operation). os ++ issued_in ready.next.answer) w.operations
           ∙ (ap (λ (os : List Operation). world.operations ++ os) (sym (issued-as_world_result ready.next.answer) ∙ ap (λ (x : Seen). issued_of x.answer) (sym placed_seen))
           ∙ (sym (grows t world event).operations ∙ (ap (λ (v : ModelWorld). v.operations) (sym (run-append t (start t) old.events.items (event ∷ []))) ∙ ap (λ es. (run_from t (start t) es).operations) (sym does.events)))));
       messages = does.messages ∙ (ap (λ (ms : List Message). ms ++ shipped_in ready.next.answer) w.messages
           ∙ (ap (λ (ms : List Message). world.messages ++ ms) (sym (shipped-as_world_result ready.next.answer) ∙ ap (λ (x : Seen). shipped_of x.answer) (sym placed_seen))
           ∙ (sym (grows t world event).messages ∙ (ap (λ (v : ModelWorld). v.messages) (sym (run-append t (start t) old.events.items (event ∷ []))) ∙ ap (λ es. (run_from t (start t) es).messages) (sym does.events)))));
-    }
-
--- ---- the events and the valid prefixes
-valids-set : (ss : List Cursor) (i : ℕ) (s : Cursor) → At ss i s → valids_of (set ss i (longer s)) ≡ valids_of ss
-valids-set [] zero s at = cc
-valids-set [] (suc i) s at = cc
-valids-set (r ∷ ss) zero s at = ap (λ (x : Cursor). x.valid ∷ valids_of ss) (same_cursor s r (sym at))
-valids-set (r ∷ ss) (suc i) s at = ap (λ (xs : List ℕ). r.valid ∷ xs) (valids-set ss i s at)
-
-pub continues-self : (l : Merge) → Continues l l
-continues-self l = record { valid = refl; more = []; events = sym (append-nil l.events.items) }
-
-pub continues-place : (js : List JournalValue) (first old : Merge) (i : ℕ) (what : What) (new : Merge) → Continues first old → CanBePlaced js old i what → Places js old i what new → Continues first new
-continues-place js first old i what new c ready placed =
-    let does = placed.each ready.journal ready.cursor ready.next ready.at ready.cursor_at ready.next_at in
-    let event : WorldEvent = record { node = ready.journal.beginning.node; what = what } in
-    record {
-      valid = ap valids_of does.cursors ∙ valids-set old.cursors.items i ready.cursor ready.cursor_at ∙ c.valid;
-      more = c.more ++ event ∷ [];
-      events = does.events ∙ ap (λ (es : List WorldEvent). es ++ event ∷ []) c.events ∙ append_assoc first.events.items c.more (event ∷ []);
     }
 
 -- ---- seeking
@@ -239,7 +194,7 @@ still-found js l from high long above Q None h = still-all js l from high long a
 still-found js l from high long above Q (Some x) h = h
 
 -- ---- the list of cursors
-pub both_push : {A B : Type 0} (R : A → B → Type 0) (xs : List A) (ys : List B) (x : A) (y : B) → AllZip R xs ys → R x y → AllZip R (xs ++ x ∷ []) (ys ++ y ∷ [])
+both_push : {A B : Type 0} (R : A → B → Type 0) (xs : List A) (ys : List B) (x : A) (y : B) → AllZip R xs ys → R x y → AllZip R (xs ++ x ∷ []) (ys ++ y ∷ [])
 both_push R [] [] x y h r = (r, tt)
 both_push R [] (v ∷ ys) x y h r = elim h [ ]
 both_push R (u ∷ xs) [] x y h r = elim h [ ]
@@ -302,8 +257,7 @@ stands t js l w still i j at x front answer what named =
     let there : At (journal_seen j) k.cursor.placed x = at_front (journal_seen j) k.cursor.placed x front.0 (journal_seen-long t j k.cursor cursor) (front.1 ∙ ap (λ xs. (xs ++ x ∷ []) ++ front.0) seen) in
     elim k.cause [
       | inl used ↦
-          let past : reach j k.cursor ≤ k.cursor.placed = subst (λ (y : JournalValue). reach y k.cursor ≤ k.cursor.placed) same used in
-          let whole : k.cursor.placed ≡ reach j k.cursor = (let a = cursor.placed in omega arith) in
+          let whole : k.cursor.placed ≡ k.cursor.valid = (let a = cursor.placed in omega arith) in
           cursor.longest.ends x (subst (λ n. At (journal_seen j) n x) whole there)
           (answer ∙ ap (λ d. (node_step t j.beginning.node d x.event).answer) (node-after t j.beginning.node (start t) l.events.items refl ∙ ap (replayed t j.beginning.node (off_after 0)) (seen ∙ ap (λ n. take n (journal_seen j)) whole)))
       | inr next ↦
@@ -316,50 +270,36 @@ stands t js l w still i j at x front answer what named =
     same_seen a b e = cc
 
 -- ---- the end
--- the records left of a journal are those after its cursor
-pub left_only : (js : List JournalValue) (ss : List Cursor) (i : ℕ) (j : JournalValue) (s : Cursor) → At js i j → At ss i s → (s.placed < length j.records → ⊥) → (b : JournalValue) → At js i b → IsLeft ss i b → ⊥
-left_only js ss i j s at sat not b there left =
-    let same : b ≡ j = one_at js i b j there at in
-    not (subst (λ (x : JournalValue). s.placed < length x.records) same (subst (λ (x : Cursor). x.placed < length b.records) (same_cursor left.0 s (sym left.1.0 ∙ sat)) left.1.1))
-
 take-whole : (j : JournalValue) (k : ℕ) → length j.records ≤ k → take k (journal_seen j) ≡ journal_seen j
 take-whole j k h = take_all k (journal_seen j) (rw length-map h)
 
 not_below : (a b : ℕ) → (a < b → ⊥) → b ≤ a
 not_below a b h = omega arith
 
--- two lists of one length have the same places
-pub there_too : {A B : Type 0} (xs : List A) (ys : List B) (i : ℕ) (x : A) → length ys ≡ length xs → At xs i x → (y : B) × At ys i y
-there_too [] [] i x e at = cc
-there_too [] (y ∷ ys) i x e at = absurd (omega arith)
-there_too (z ∷ xs) [] i x e at = absurd (omega arith)
-there_too (z ∷ xs) (y ∷ ys) zero x e at = (y, refl)
-there_too (z ∷ xs) (y ∷ ys) (suc i) x e at = there_too xs ys i x (less e) at
+cursor_there : (js : List JournalValue) (ss : List Cursor) (i : ℕ) (j : JournalValue) → length ss ≡ length js → At js i j → (s : Cursor) × At ss i s
+cursor_there [] [] i j e at = cc
+cursor_there [] (r ∷ ss) i j e at = absurd (omega arith)
+cursor_there (k ∷ js) [] i j e at = absurd (omega arith)
+cursor_there (k ∷ js) (r ∷ ss) zero j e at = (r, refl)
+cursor_there (k ∷ js) (r ∷ ss) (suc i) j e at = cursor_there js ss i j (less e) at
   where
-    less : suc (length ys) ≡ suc (length xs) → length ys ≡ length xs
+    less : suc (length ss) ≡ suc (length js) → length ss ≡ length js
     less e = omega arith
 
-module _ (t : Table) (js : List JournalValue) (l : Merge) (w : Weaves t js l) where
+module _ (t : Table) (js : List JournalValue) (l : Merge) (w : Weaves t js l) (fit : AllFit js) where
   -- a journal placed whole is reproduced whole
-  pub given_whole : (i : ℕ) (j : JournalValue) → At js i j → (IsLeft l.cursors.items i j → ⊥) → seen_in t l.events.items j.beginning.node ≡ journal_seen j
+  given_whole : (i : ℕ) (j : JournalValue) → At js i j → (IsLeft l.cursors.items i j → ⊥) → seen_in t l.events.items j.beginning.node ≡ journal_seen j
   given_whole i j at not =
-      let s = there_too js l.cursors.items i j w.count at in
+      let s = cursor_there js l.cursors.items i j w.count at in
       w.seen i j s.0 at s.1 ∙ take-whole j s.0.placed (not_below s.0.placed (length j.records) (λ lt. not (s.0, (s.1, lt))))
 
-  pub seats_whole : (i : ℕ) (j : JournalValue) → At js i j → (IsLeft l.cursors.items i j → ⊥) → seats_at j.beginning.node l.events.items l.seats.items ≡ seats_of j
-  seats_whole i j at not =
-      let s = there_too js l.cursors.items i j w.count at in
-      let all = not_below s.0.placed (length j.records) (λ lt. not (s.0, (s.1, lt))) in
-      w.seats i j s.0 at s.1 ∙ take_all s.0.placed (seats_of j) (rw length-map all)
-
-module _ (t : Table) (js : List JournalValue) (l : Merge) (w : Weaves t js l) (fit : AllFit js) where
   pub gives : AllWhole js l.cursors.items → Gives t js l.events.items
-  gives whole = record { fit = fit; each = λ i j at. given_whole t js l w i j at (whole i j at); others = w.others }
+  gives whole = record { fit = fit; each = λ i j at. given_whole i j at (whole i j at); others = w.others }
 
   pub gives_fronts : ReproducesPrefixes t js l.events.items
   gives_fronts = record {
     each = λ i j at.
-        let s = there_too js l.cursors.items i j w.count at in
+        let s = cursor_there js l.cursors.items i j w.count at in
         (drop s.0.placed (journal_seen j), sym (take-append-drop s.0.placed (journal_seen j)) ∙ ap (λ xs. xs ++ drop s.0.placed (journal_seen j)) (sym (w.seen i j s.0 at s.1)));
     others = w.others;
   }
@@ -378,7 +318,7 @@ module _ (t : Table) (js : List JournalValue) (l : Merge) (w : Weaves t js l) (f
       record {
         there = at;
         within = next (subst (λ (x : Cursor). x.placed < length j.records) own left.1.1);
-        reached = (l.events.items, (gives_fronts, (ap (λ n. n + 1) placed, λ k b there lt. given_whole t js l w k b there (λ more. before (first.least k b there more) lt))));
+        reached = (l.events.items, (gives_fronts, (ap (λ n. n + 1) placed, λ k b there lt. given_whole k b there (λ more. before (first.least k b there more) lt))));
         never = λ es fronts. below (front_length _ _ (furthest t js l.events.items gives_fronts (stands t js l w still) es fronts j.beginning.node)) placed;
       }
     where

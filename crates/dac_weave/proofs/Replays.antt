@@ -8,7 +8,6 @@ use Rattle.dac_journal.specs.ModelNode.{shown}
 use Rattle.dac_journal.specs.laws.Histories.{refused_stays}
 use Rattle.dac_journal.specs.NodeValue.{off}
 use Rattle.dac_weave.specs.Replay.{IsLongest}
-use Rattle.dac_weave.specs.Seats.{seats_of}
 use Rattle.dac_weave.specs.laws.Runs.{replayed-append, AreAnswered-push}
 
 -- ---- lists by place
@@ -17,9 +16,6 @@ take-push xs i x h = take_more xs i x (slice_get_within xs i x h) ∙ ap (λ z. 
 
 pub journal_seen-at : (j : JournalValue) (i : ℕ) (r : Record) → At j.records i r → At (journal_seen j) i (as_seen r)
 journal_seen-at j i r h = slice_get-map as_seen j.records i ∙ ap (option_map as_seen) h
-
-pub seats_of-at : (j : JournalValue) (i : ℕ) (r : Record) → At j.records i r → slice_get (seats_of j) i ≡ Some r.seat
-seats_of-at j i r h = slice_get-map (λ (x : Record). x.seat) j.records i ∙ ap (option_map (λ (x : Record). x.seat)) h
 
 -- ---- one step
 pub as_world_result-same : (a b : Result Reply Refusal) → as_world_result a ≡ as_world_result b → a ≡ b

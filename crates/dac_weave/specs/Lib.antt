@@ -1,7 +1,4 @@
 pub mod Woven
-pub mod Cut
-pub mod Seats
-pub mod Phased
 pub mod Recording
 pub mod Faults
 pub mod Converging

@@ -1,34 +1,27 @@
 -- The invariant of the merge, and its steps.
-use Rattle.std.specs.Prelude.{◌≡◌, ℕ, ◌+◌, ◌<◌, ◌≤◌, ◌⊎◌, List, [], ◌∷◌, ◌++◌, length, take, set, map, min, Ok}
-use Rattle.std.specs.List.{AllZip}
+use Rattle.std.specs.Prelude.{◌≡◌, ℕ, ◌+◌, ◌<◌, ◌≤◌, ◌⊎◌, List, [], ◌∷◌, ◌++◌, length, take, set, Ok}
 use Rattle.dac_base.specs.declared.NodeId.{NodeId}
 use Rattle.dac_config.specs.Table.{Table}
 use Rattle.dac_events.specs.declared.What.{What}
-use Rattle.dac_events.specs.declared.WorldEvent.{WorldEvent}
 use Rattle.dac_journal.specs.ModelWorld.{start, event_of}
 use Rattle.dac_journal.specs.declared.record.Record.{Record}
 use Rattle.dac_weave.specs.declared.cursor.Cursor.{Cursor}
 use Rattle.dac_weave.specs.declared.merge.Merge.{Merge}
 use Rattle.dac_journal.specs.Journals.{JournalValue}
-use Rattle.dac_weave.specs.Cut.{cut}
-use Rattle.dac_weave.specs.Seats.{seats_at, seats_of}
 use Rattle.dac_weave.specs.Woven.{journal_seen, At, HasNone, IsFirst, seen_in}
 use Rattle.dac_journal.specs.EveryList.{run_from}
 use Rattle.dac_weave.specs.Replay.{IsLongest}
-use Rattle.dac_weave.specs.Names.{Begins, IsUnnamed, issued_in, shipped_in}
-
--- how many records agree with the replay of the node; the journal may be cut, and the cursor is that of the whole one
-abbrev pub reach : JournalValue → Cursor → ℕ
-reach j s = min s.valid (length j.records)
+use Rattle.dac_weave.specs.Names.{IsUnnamed, issued_in, shipped_in}
 
 -- every placed record agrees with the replay of its node
 pub record IsCursor (t : Table) (j : JournalValue) (s : Cursor) : Type 0 where
-  pub placed : s.placed ≤ reach j s
-  pub longest : IsLongest t j (reach j s)
+  pub placed : s.placed ≤ s.valid
+  pub longest : IsLongest t j s.valid
 
--- there is a cursor for each journal
-abbrev pub HaveCursors : List JournalValue → List Cursor → Type 0
-HaveCursors js ss = length ss ≡ length js
+-- there is a cursor for each journal, within its records
+pub record HaveCursors (js : List JournalValue) (ss : List Cursor) : Type 0 where
+  pub count : length ss ≡ length js
+  pub within : (i : ℕ) (j : JournalValue) (s : Cursor) → At js i j → At ss i s → s.valid ≤ length j.records
 
 -- The invariant: the run of the events placed so far reproduces exactly the placed records, and issues the operations
 -- and messages of the merge.
@@ -38,9 +31,6 @@ pub record Weaves (t : Table) (js : List JournalValue) (l : Merge) : Type 0 wher
   pub seen : (i : ℕ) (j : JournalValue) (s : Cursor) → At js i j → At l.cursors.items i s
       → seen_in t l.events.items j.beginning.node ≡ take s.placed (journal_seen j)
   pub others : (n : NodeId) → HasNone js n → seen_in t l.events.items n ≡ []
-  pub many : length l.seats.items ≡ length l.events.items
-  pub seats : (i : ℕ) (j : JournalValue) (s : Cursor) → At js i j → At l.cursors.items i s
-      → seats_at j.beginning.node l.events.items l.seats.items ≡ take s.placed (seats_of j)
   pub operations : l.operations ≡ (run_from t (start t) l.events.items).operations
   pub messages : l.messages ≡ (run_from t (start t) l.events.items).messages
 
@@ -51,7 +41,7 @@ pub record CanBePlaced (js : List JournalValue) (l : Merge) (i : ℕ) (what : Wh
   pub next : Record
   pub at : At js i journal
   pub cursor_at : At l.cursors.items i cursor
-  pub left : cursor.placed < reach journal cursor
+  pub left : cursor.placed < cursor.valid
   pub next_at : At journal.records cursor.placed next
   pub named : event_of l.operations l.messages what ≡ Ok next.event
 
@@ -61,7 +51,7 @@ pub record IsBlocked (js : List JournalValue) (l : Merge) (i : ℕ) : Type 0 whe
   pub cursor : Cursor
   pub at : At js i journal
   pub cursor_at : At l.cursors.items i cursor
-  pub cause : (reach journal cursor ≤ cursor.placed)
+  pub cause : (cursor.valid ≤ cursor.placed)
       ⊎ ((r : Record) × (At journal.records cursor.placed r × IsUnnamed l.operations l.messages r.event))
 
 abbrev pub AllBlocked : List JournalValue → Merge → Type 0
@@ -80,7 +70,6 @@ pub record PlacesRecord (old : Merge) (i : ℕ) (what : What) (new : Merge) (j :
     (r : Record) : Type 0 where
   pub cursors : new.cursors.items ≡ set old.cursors.items i (longer s)
   pub events : new.events.items ≡ old.events.items ++ (record { node = j.beginning.node; what = what }) ∷ []
-  pub seats : new.seats.items ≡ old.seats.items ++ r.seat ∷ []
   pub operations : new.operations ≡ old.operations ++ issued_in r.answer
   pub messages : new.messages ≡ old.messages ++ shipped_in r.answer
 
@@ -106,43 +95,3 @@ pub record IsLeftAt (js : List JournalValue) (ss : List Cursor) (node : NodeId) 
 -- every journal is placed whole
 abbrev pub AllWhole : List JournalValue → List Cursor → Type 0
 AllWhole js ss = (i : ℕ) (j : JournalValue) → At js i j → IsLeft ss i j → ⊥
-
--- ---- phases
--- no record is placed
-pub record IsBegun (t : Table) (js : List JournalValue) (l : Merge) : Type 0 where
-  pub cursors : AllZip (Begins t) js l.cursors.items
-  pub events : l.events.items ≡ []
-  pub seats : l.seats.items ≡ []
-  pub operations : l.operations ≡ []
-  pub messages : l.messages ≡ []
-
-abbrev pub valids_of : List Cursor → List ℕ
-valids_of ss = map (λ (s : Cursor). s.valid) ss
-
--- events are only appended, and the valid prefixes stay
-pub record Continues (old new : Merge) : Type 0 where
-  pub valid : valids_of new.cursors.items ≡ valids_of old.cursors.items
-  pub more : List WorldEvent
-  pub events : new.events.items ≡ old.events.items ++ more
-
--- Between two phases: exactly the records up to the row are placed, and they agree with the replay.
-pub record Rests (t : Table) (js : List JournalValue) (row : List ℕ) (l : Merge) : Type 0 where
-  pub long : length row ≡ length js
-  pub count : length l.cursors.items ≡ length js
-  pub longest : (i : ℕ) (j : JournalValue) (s : Cursor) → At js i j → At l.cursors.items i s → IsLongest t j s.valid
-  pub valid : (i : ℕ) (s : Cursor) → At l.cursors.items i s → s.placed ≤ s.valid
-  pub placed : (i : ℕ) (j : JournalValue) (s : Cursor) → At (cut js row) i j → At l.cursors.items i s
-      → s.placed ≡ length j.records
-  pub seen : (i : ℕ) (j : JournalValue) → At (cut js row) i j → seen_in t l.events.items j.beginning.node ≡ journal_seen j
-  pub others : (n : NodeId) → HasNone js n → seen_in t l.events.items n ≡ []
-  pub many : length l.seats.items ≡ length l.events.items
-  pub seats : (i : ℕ) (j : JournalValue) → At (cut js row) i j
-      → seats_at j.beginning.node l.events.items l.seats.items ≡ seats_of j
-  pub operations : l.operations ≡ (run_from t (start t) l.events.items).operations
-  pub messages : l.messages ≡ (run_from t (start t) l.events.items).messages
-
--- the records up to an earlier row are placed
-pub record PrecedesRow (t : Table) (js : List JournalValue) (row : List ℕ) (l : Merge) : Type 0 where
-  pub before : List ℕ
-  pub rests : Rests t js before l
-  pub rise : AllZip (λ (m n : ℕ). m ≤ n) before row

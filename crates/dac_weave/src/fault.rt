@@ -1,7 +1,6 @@
 //! Errors of the weave.
 
 use dac_base::{NoMemory, NodeId};
-use std::alloc::AllocFailed;
 use thiserror::Error;
 
 /// Why journals can't be woven.
@@ -28,17 +27,6 @@ impl From<NoMemory> for WeaveFault {
     ghost from_gives = { λ _ fault. fault ≡ WantOfMemory };
 
     fn from(_refused: NoMemory) -> Self {
-        WeaveFault::NoMemory
-    }
-}
-
-impl<T: Drop> From<AllocFailed<T>> for WeaveFault {
-    ghost use Rattle.std.specs.Prelude.{◌≡◌};
-    ghost use Rattle.dac_weave.specs.declared.fault.WeaveFault.TheVariants.{NoMemory as WantOfMemory};
-
-    ghost from_gives = { λ _ fault. fault ≡ WantOfMemory };
-
-    fn from(_failed: AllocFailed<T>) -> Self {
         WeaveFault::NoMemory
     }
 }

@@ -6,7 +6,6 @@ ghost use Rattle.dac_weave.specs.Names.{Names, issued_in, shipped_in};
 
 use crate::cursor::{Cursor, cursors_of};
 use crate::indexed_list::IndexedList;
-use crate::part::Part;
 use crate::unfit::lesser;
 use dac_base::{NoMemory, NodeId};
 use dac_config::Config;
@@ -16,14 +15,12 @@ use dac_messages::{Event, Message, OpList, Reply};
 use dac_operations::Op;
 use std::alloc::Global;
 
-/// The cursors, the events placed so far with the seats of their records, and the operations and messages that they
-/// issued.
+/// The cursors, the events placed so far, and the operations and messages that they issued.
 #[derive(Drop)]
 pub(crate) struct Merge<'a> {
     alloc: Global,
     pub(crate) cursors: Vec<Cursor>,
     pub(crate) events: Vec<WorldEvent>,
-    pub(crate) seats: Vec<u16>,
     pub(crate) operations: IndexedList<'a, Op>,
     pub(crate) messages: IndexedList<'a, Message>,
 }
@@ -115,7 +112,7 @@ impl<'a> Merge<'a> {
     ghost use Rattle.std.specs.Prelude.{◌<◌, ◌≤◌, IfOk, OnOk, IfSome, MatchOption, length};
     ghost use Rattle.dac_journal.specs.Journals.{JournalValue};
     ghost use Rattle.dac_weave.specs.Woven.{AllFit, IsFirst};
-    ghost use Rattle.dac_weave.specs.Placing.{HaveCursors, Weaves, CanBePlaced, IsBlocked, AllBlocked, BlockedBetween, Places, IsBegun, Continues, IsLeft, IsLeftAt, AllWhole};
+    ghost use Rattle.dac_weave.specs.Placing.{HaveCursors, Weaves, CanBePlaced, IsBlocked, AllBlocked, BlockedBetween, Places, IsLeft, IsLeftAt, AllWhole};
 
     /// A merge with no record placed.
     pub(crate) fn new(
@@ -123,7 +120,7 @@ impl<'a> Merge<'a> {
         config: &Config,
         journals: &'a [Closed],
     ) -> Result<Self, NoMemory>
-        ensures { IfOk result (IsBegun config.now journals.now) }
+        ensures { IfOk result (Weaves config.now journals.now) }
     {
         let cursors = cursors_of(alloc, config, journals)?;
         let room = count_all(journals);
@@ -133,14 +130,13 @@ impl<'a> Merge<'a> {
             alloc,
             cursors,
             events: Vec::new(alloc),
-            seats: Vec::new(alloc),
             operations,
             messages,
         })
     }
 
     /// Returns the world event that places the next record of a journal, if it can be placed.
-    fn ready(&self, journals: &[Part<'a>], i: usize) -> Option<What>
+    fn ready(&self, journals: &[Closed], i: usize) -> Option<What>
         requires fits { HaveCursors journals.now self.now.cursors.items }
         requires within { i < length journals.now }
         ensures { MatchOption result (IsBlocked journals.now self.now i)
@@ -148,7 +144,7 @@ impl<'a> Merge<'a> {
     {
         let cursor = &self.cursors[i];
         let records = journals[i].records();
-        if cursor.placed < cursor.valid.min(records.len()) {
+        if cursor.placed < cursor.valid {
             name_event(
                 &self.operations,
                 &self.messages,
@@ -160,7 +156,7 @@ impl<'a> Merge<'a> {
     }
 
     /// Returns a journal in `low..high` whose next record can be placed, with its world event.
-    fn find_between(&self, journals: &[Part<'a>], low: usize, high: usize) -> Option<(usize, What)>
+    fn find_between(&self, journals: &[Closed], low: usize, high: usize) -> Option<(usize, What)>
         requires fits { HaveCursors journals.now self.now.cursors.items }
         requires within { high ≤ length journals.now }
         ensures { MatchOption result (BlockedBetween journals.now self.now low high)
@@ -178,14 +174,14 @@ impl<'a> Merge<'a> {
 
     /// Returns the world event that places the next record of a journal, if it can be placed and delivers no message
     /// of which each copy was delivered.
-    fn ready_once(&self, journals: &[Part<'a>], i: usize) -> Option<What>
+    fn ready_once(&self, journals: &[Closed], i: usize) -> Option<What>
         requires fits { HaveCursors journals.now self.now.cursors.items }
         requires within { i < length journals.now }
         ensures { IfSome result (CanBePlaced journals.now self.now i) }
     {
         let cursor = &self.cursors[i];
         let records = journals[i].records();
-        if cursor.placed < cursor.valid.min(records.len()) {
+        if cursor.placed < cursor.valid {
             name_once(
                 &self.operations,
                 &self.messages,
@@ -197,7 +193,7 @@ impl<'a> Merge<'a> {
     }
 
     /// Returns a journal in `low..high` as [`Merge::ready_once`] does for one, with its world event.
-    fn once_between(&self, journals: &[Part<'a>], low: usize, high: usize) -> Option<(usize, What)>
+    fn once_between(&self, journals: &[Closed], low: usize, high: usize) -> Option<(usize, What)>
         requires fits { HaveCursors journals.now self.now.cursors.items }
         requires within { high ≤ length journals.now }
         ensures { IfSome result (λ found. (found.0 < length journals.now)
@@ -214,7 +210,7 @@ impl<'a> Merge<'a> {
 
     /// Returns a journal whose next record can be placed, with its world event. The search starts at `from` and wraps
     /// around.
-    fn find_any(&self, journals: &[Part<'a>], from: usize) -> Option<(usize, What)>
+    fn find_any(&self, journals: &[Closed], from: usize) -> Option<(usize, What)>
         requires fits { HaveCursors journals.now self.now.cursors.items }
         requires within { from ≤ length journals.now }
         ensures { MatchOption result (AllBlocked journals.now self.now)
@@ -229,7 +225,7 @@ impl<'a> Merge<'a> {
 
     /// Returns a journal as [`Merge::find_any`] does, and delivers a copy of a message a second time only if no other
     /// record can be placed.
-    fn find(&self, journals: &[Part<'a>], from: usize) -> Option<(usize, What)>
+    fn find(&self, journals: &[Closed], from: usize) -> Option<(usize, What)>
         requires fits { HaveCursors journals.now self.now.cursors.items }
         requires within { from ≤ length journals.now }
         ensures { MatchOption result (AllBlocked journals.now self.now)
@@ -249,7 +245,6 @@ impl<'a> Merge<'a> {
     fn note(&mut self, what: What)
         ensures cursors { self.new.cursors ≡ self.old.cursors }
         ensures events { self.new.events ≡ self.old.events }
-        ensures seats { self.new.seats ≡ self.old.seats }
         ensures operations { self.new.operations ≡ self.old.operations }
         ensures messages { self.new.messages ≡ self.old.messages }
     {
@@ -259,7 +254,7 @@ impl<'a> Merge<'a> {
     }
 
     /// Places the next record of a journal.
-    fn place(&mut self, journals: &[Part<'a>], i: usize, what: What) -> Result<(), NoMemory>
+    fn place(&mut self, journals: &'a [Closed], i: usize, what: What) -> Result<(), NoMemory>
         requires fits { HaveCursors journals.now self.old.cursors.items }
         requires within { i < length journals.now }
         requires ready { CanBePlaced journals.now self.old i what }
@@ -273,7 +268,6 @@ impl<'a> Merge<'a> {
             node: journal.node(),
             what,
         })?;
-        self.seats.push(record.seat)?;
         self.note(what);
         append_output(
             self.alloc,
@@ -286,12 +280,11 @@ impl<'a> Merge<'a> {
     }
 
     /// Places every record that can be placed. It stays with one journal as long as possible.
-    pub(crate) fn weave(&mut self, config: &Config, journals: &[Part<'a>]) -> Result<(), NoMemory>
+    pub(crate) fn weave(&mut self, config: &Config, journals: &'a [Closed]) -> Result<(), NoMemory>
         requires fit { AllFit journals.now }
         requires weaves { Weaves config.now journals.now self.old }
         ensures weaves { OnOk result (Weaves config.now journals.now self.new) }
         ensures still { OnOk result (AllBlocked journals.now self.new) }
-        ensures continues { OnOk result (Continues self.old self.new) }
     {
         let mut from = 0;
         while let Some((i, what)) = self.find(journals, from) {
@@ -302,7 +295,7 @@ impl<'a> Merge<'a> {
     }
 
     /// The journal of the least node that isn't placed whole.
-    fn least_left(&self, journals: &[Part<'a>]) -> Option<usize>
+    fn least_left(&self, journals: &[Closed]) -> Option<usize>
         requires { length self.now.cursors.items ≡ length journals.now }
         ensures { MatchOption result (AllWhole journals.now self.now.cursors.items)
             (λ i. (j : JournalValue) × IsFirst journals.now (IsLeft self.now.cursors.items) i j) }
@@ -317,7 +310,7 @@ impl<'a> Merge<'a> {
     }
 
     /// The node of [`Merge::least_left`], and the position of its first unplaced record, counted from 1.
-    pub(crate) fn first_left(&self, journals: &[Part<'a>]) -> Option<(NodeId, u64)>
+    pub(crate) fn first_left(&self, journals: &[Closed]) -> Option<(NodeId, u64)>
         requires { HaveCursors journals.now self.now.cursors.items }
         ensures { MatchOption result (AllWhole journals.now self.now.cursors.items)
             (λ found. IsLeftAt journals.now self.now.cursors.items found.0 found.1) }

@@ -5,10 +5,10 @@ ghost use Rattle.dac_journal.specs.Journals.{JournalValue};
 ghost use Rattle.dac_weave.specs.Woven.{At, IsFirst, IsUnfit, IsTwice, AllFit};
 ghost use Rattle.dac_weave.specs.Names.{IsLesser};
 
-use crate::part::Part;
+use dac_journal::Closed;
 
 /// Returns whichever of journals `least` and `i` has the lesser node, or `i` if `least` is `None`.
-pub(crate) fn lesser(journals: &[Part<'_>], least: Option<usize>, i: usize) -> usize
+pub(crate) fn lesser(journals: &[Closed], least: Option<usize>, i: usize) -> usize
     requires within { i < length journals.now }
     requires least { IfSome least (λ k. k < length journals.now) }
     ensures { MatchOption least (result ≡ i) (λ k. IsLesser journals.now k i result) }
@@ -26,7 +26,7 @@ pub(crate) fn lesser(journals: &[Part<'_>], least: Option<usize>, i: usize) -> u
 }
 
 /// Returns whether journals `i` and `k` are two journals of one node.
-fn is_other(journals: &[Part<'_>], i: usize, k: usize) -> bool
+fn is_other(journals: &[Closed], i: usize, k: usize) -> bool
     requires first { i < length journals.now }
     requires second { k < length journals.now }
     ensures { (j b : JournalValue) → At journals.now i j → At journals.now k b
@@ -36,7 +36,7 @@ fn is_other(journals: &[Part<'_>], i: usize, k: usize) -> bool
 }
 
 /// Returns whether another journal belongs to the same node.
-fn is_twice(journals: &[Part<'_>], i: usize) -> bool
+fn is_twice(journals: &[Closed], i: usize) -> bool
     requires { i < length journals.now }
     ensures { (j : JournalValue) → At journals.now i j → IsTrue result ↔ IsTwice journals.now i j }
 {
@@ -49,7 +49,7 @@ fn is_twice(journals: &[Part<'_>], i: usize) -> bool
 }
 
 /// Returns whether a journal begins after a boot or isn't the only one of its node.
-fn is_unfit(journals: &[Part<'_>], i: usize) -> bool
+fn is_unfit(journals: &[Closed], i: usize) -> bool
     requires { i < length journals.now }
     ensures { (j : JournalValue) → At journals.now i j → IsTrue result ↔ IsUnfit journals.now i j }
 {
@@ -57,7 +57,7 @@ fn is_unfit(journals: &[Part<'_>], i: usize) -> bool
 }
 
 /// The unfit journal of the least node.
-pub(crate) fn unfit(journals: &[Part<'_>]) -> Option<usize>
+pub(crate) fn unfit(journals: &[Closed]) -> Option<usize>
     ensures { MatchOption result (AllFit journals.now)
         (λ i. (j : JournalValue) × IsFirst journals.now (IsUnfit journals.now) i j) }
 {

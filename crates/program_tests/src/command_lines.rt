@@ -161,11 +161,10 @@ of `sim` that says the run: the configuration, a line `--`, what `live` prints o
 run of one world that gives all that the nodes did, and a line `page` for each node. So `sim` plays what the threads did,
 as often as you like, with the same answers and the same pages.
 
-The events stand phase by phase, each phase after a comment `% phase P`, and an event that a caller requests after
-`% caller C`. Those of a node stand in the order in which they happened there, those of different nodes in an order in
-which each message is shipped before it is heard. A name that the configuration hasn't is `unknown`. Reads and feeds are
-no events. If no input of `sim` can say the run, that is printed as `record fault 1 TooLong` (above 2,097,152 bytes;
-standard error says how many phases fit) or `record fault 2 Unspelled` (a node has a name with a space).
+The events of a node stand in the order in which they happened there. Those of different nodes stand in an order in which
+each message is shipped before it is heard. A name that the configuration hasn't is `unknown`. Reads and feeds are no events.
+If no input of `sim` can say the run, that is printed as `record fault 1 TooLong` (above 2,097,152 bytes) or
+`record fault 2 Unspelled` (a node has a name with a space).
 
 Exit status:
   0  The run is printed, also where some of its lines were refused

@@ -17,12 +17,6 @@ returns-clause-ok c n =
     let whole = c.in_ok-insert.ensures.items ∙ (λ i. c.absorb_touching-joined.ensures.front i ++ sym c.absorb_touching-joined.ensures.value i) in
     rw whole (put_has c.args.span spans c.place_for-place.result 0 c.requires.valid at c.requires.apart n)
 
-pub returns-in_err-insert-clause-apart : goal.returns-in_err-insert-clause-apart
-returns-in_err-insert-clause-apart c = elim c.absorb_touching-joined.ensures.room [
-  | inl same ↦ rw (c.in_err-insert.ensures.items, same.0) c.requires.apart
-  | inr room ↦ absurd (let full = c.in_err-insert.ensures.full in omega arith)
-]
-
 pub returns-in_err-insert-clause-first : goal.returns-in_err-insert-clause-first
 returns-in_err-insert-clause-first c = fails_so c.from_residual.result (elim c.absorb_touching-joined.ensures.room [
   | inl same ↦

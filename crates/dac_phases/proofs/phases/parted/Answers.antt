@@ -1,8 +1,5 @@
-use Rattle.std.proofs.Common.{◌≡◌, ◌+◌, List, Bor, length, map, min, ap, ◌∙◌, arith}
-use Rattle.dac_phases.specs.laws.Common.{Record, part_at}
-use Rattle.dac_phases.specs.Ends.{part_length}
-use Rattle.dac_phases.proofs.Ended.{lengths_more}
-use Rattle.dac_phases.proofs.Parted.{lent_at, pushed, parted_more, parted_whole}
+use Rattle.std.proofs.Common.{◌+◌, ap, ◌∙◌}
+use Rattle.dac_phases.proofs.Parted.{pushed, parted_more, parted_whole}
 use Rattle.dac_phases.proofs.phases.parted.Goals as goal
 
 pub loop-i-preserved : goal.loop-i-preserved
@@ -10,14 +7,10 @@ loop-i-preserved c =
     let part = c.split_at.result.0 in
     let rest = c.split_at.result.1 in
     let so_far = c.loop-i.invariant in
-    let js = map (λ (j : Bor (List Record)). j.now) c.args.journals.now in
-    let own : length (part_at js c.loop-i.i) ≡ length c.index-journals-i.result.now = ap length (lent_at c.args.journals.now c.loop-i.i c.index-journals-i.result c.loop-i-test.true c.index-journals-i.is) in
     rw (c.in_ok-push.ensures.items, c.in_ok-push-2.ensures.items) (record {
       parts = pushed c.loop-i.parts.items part ∙ ap (λ k. k + 1) so_far.parts;
       rests = pushed c.loop-i.rests.items rest ∙ ap (λ k. k + 1) so_far.rests;
       parted = parted_more c.args.journals.now c.loop-i.parts.items c.loop-i.rests.items c.loop-i.i c.index-journals-i.result part rest c.loop-i-test.true c.index-journals-i.is c.split_at.ensures.by_index.0 so_far.parted;
-      lengths = lengths_more c.loop-i.parts.items part (λ n. min (part_length c.args.phase.now js n) (length (part_at js n))) c.loop-i.i so_far.parts
-          (omega (arith, c.split_at.ensures.front_len, c.min.ensures, c.part_len-count.ensures, own)) so_far.lengths;
     })
 
 pub returns-clause-parted : goal.returns-clause-parted

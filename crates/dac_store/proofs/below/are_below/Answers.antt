@@ -1,18 +1,10 @@
-use Rattle.std.proofs.Common.{◌∙◌, Some, sym, refl, subst, arith}
+use Rattle.std.proofs.Common.{◌∙◌, Some, sym, subst}
 use Rattle.std.proofs.lemmas.Bool.{false≢true}
-use Rattle.std.proofs.lemmas.List.{take_all}
-use Rattle.dac_lattice.specs.Search.{AtEachEntry}
 use Rattle.dac_lattice.specs.laws.EntryLaws.{one_more}
 use Rattle.dac_store.specs.DotMaps.{store_at}
 use Rattle.dac_store.specs.Below.{IsBelowAt}
-use Rattle.dac_store.proofs.BelowLemmas.{found_before, later_all, later_more, later_same}
+use Rattle.dac_store.proofs.BelowLemmas.{found_before, later_more, later_same}
 use Rattle.dac_store.proofs.below.are_below.Goals as goal
-
-pub loop-key-init : goal.loop-key-init
-loop-key-init g c = record { below = λ i d p. absurd (omega arith); in_order = c.requires.left; later = λ k e. refl }
-
-pub seek-mine-requires : goal.seek-mine-requires
-seek-mine-requires g c = c.loop-key.invariant.in_order
 
 pub loop-key-preserved-then-is_unheard : goal.loop-key-preserved-then-is_unheard
 loop-key-preserved-then-is_unheard g c =
@@ -63,14 +55,4 @@ returns-then-not-is_below g c =
       );
       in_order = c.seek-mine.ensures.in_order;
       later = λ t. absurd (false≢true t);
-    }
-
-pub returns : goal.returns
-returns g c =
-    let s = g.S.DotStore in
-    let below = IsBelowAt g.K.Ord.cmp s.nothing s.below c.args.left.now c.args.heard.now c.args.other_heard.now in
-    record {
-      below = (λ _. subst (AtEachEntry below) (take_all _ _ c.loop-key-test.false) c.loop-key.invariant.below, λ _. refl);
-      in_order = c.loop-key.invariant.in_order;
-      later = λ _. later_all g.met.K.Ord.total g.met.K.MapKey.exact c.args.part.now c.args.left.now c.loop-key.left c.loop-key.key-index c.loop-key-test.false c.loop-key.invariant.later;
     }

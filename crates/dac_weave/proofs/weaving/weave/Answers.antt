@@ -1,36 +1,25 @@
-use Rattle.std.proofs.Common.{◌≡◌, ℕ, List, [], ◌∷◌, ◌++◌, sym, ap, subst, ◌∙◌}
-use Rattle.std.proofs.lemmas.Result.{err_from_is_err_and}
-use Rattle.dac_weave.specs.laws.Common.{Vec}
-use Rattle.dac_weave.specs.Cut.{AreEnds, rows_of}
-use Rattle.dac_weave.specs.Faults.{IsTrueFault, IsRefusal}
-use Rattle.dac_weave.specs.Phased.{IsPhaseFault}
-use Rattle.dac_weave.proofs.Cutting.{one_phase, one_fault}
+use Rattle.dac_weave.specs.laws.Recorded.{gives-recorded}
+use Rattle.dac_weave.proofs.Placed.{fits-weaves, gives, unwoven, none_recorded}
+use Rattle.dac_weave.proofs.Converged.{converged}
 use Rattle.dac_weave.proofs.weaving.weave.Goals as goal
 
-pub weave_phases-requires : goal.weave_phases-requires
-weave_phases-requires c =
-    let row = c.in_ok-lengths.field-0 in
-    let one : c.deref.result.now ≡ row ∷ [] = c.deref.ensures.value ∙ c.in_ok-push.ensures.items ∙ ap (λ (rows : List (Vec ℕ)). rows ++ row ∷ []) c.new-ends.ensures.items in
-    subst (λ (ends : List (Vec ℕ)). AreEnds c.args.journals.now (rows_of ends)) (sym one) (one_phase c.args.journals.now row.items c.in_ok-lengths.ensures)
+pub first_left-requires : goal.first_left-requires
+first_left-requires c = fits-weaves c.args.config.now c.args.journals.now c.weave.new.self c.in_ok-weave.ensures.weaves
 
-pub returns-in_err-woven-clause-unwoven : goal.returns-in_err-woven-clause-unwoven
-returns-in_err-woven-clause-unwoven c =
-    let t = c.args.config.now in
-    let js = c.args.journals.now in
-    let row = c.in_ok-lengths.field-0 in
-    let fault = c.in_err-woven.field-0.0 in
-    let one : c.deref.result.now ≡ row ∷ [] = c.deref.ensures.value ∙ c.in_ok-push.ensures.items ∙ ap (λ (rows : List (Vec ℕ)). rows ++ row ∷ []) c.new-ends.ensures.items in
-    let ends = subst (λ (rows : List (Vec ℕ)). IsPhaseFault t js (rows_of rows) fault) one c.in_err-woven.ensures.unwoven in
-    let e = err_from_is_err_and c.from_residual-in_err-woven.result c.from_residual-in_err-woven.ensures.1 in
-    rw e.1 (subst (IsTrueFault t js) (sym e.2) (one_fault t js row.items fault c.in_ok-lengths.ensures ends).0)
+pub returns-in-None-clause-woven : goal.returns-in-None-clause-woven
+returns-in-None-clause-woven c = gives c.args.config.now c.args.journals.now c.weave.new.self c.in_ok-weave.ensures.weaves c.in_default.ensures c.in-None.ensures
 
-pub returns-in_err-woven-clause-complete : goal.returns-in_err-woven-clause-complete
-returns-in_err-woven-clause-complete c =
-    let t = c.args.config.now in
-    let js = c.args.journals.now in
-    let row = c.in_ok-lengths.field-0 in
-    let fault = c.in_err-woven.field-0.0 in
-    let one : c.deref.result.now ≡ row ∷ [] = c.deref.ensures.value ∙ c.in_ok-push.ensures.items ∙ ap (λ (rows : List (Vec ℕ)). rows ++ row ∷ []) c.new-ends.ensures.items in
-    let ends = subst (λ (rows : List (Vec ℕ)). IsPhaseFault t js (rows_of rows) fault) one c.in_err-woven.ensures.unwoven in
-    let e = err_from_is_err_and c.from_residual-in_err-woven.result c.from_residual-in_err-woven.ensures.1 in
-    rw e.1 (subst (IsRefusal t js) (sym e.2) (one_fault t js row.items fault c.in_ok-lengths.ensures ends).1)
+pub returns-in-None-clause-recorded : goal.returns-in-None-clause-recorded
+returns-in-None-clause-recorded c = gives-recorded c.args.config.now c.args.journals.now c.weave.new.self.events.items (gives c.args.config.now c.args.journals.now c.weave.new.self c.in_ok-weave.ensures.weaves c.in_default.ensures c.in-None.ensures)
+
+pub returns-in-None-clause-converges : goal.returns-in-None-clause-converges
+returns-in-None-clause-converges c =
+    converged c.args.config.now c.args.journals.now c.weave.new.self.events.items c.every_list_converges.ensures.converges (gives c.args.config.now c.args.journals.now c.weave.new.self c.in_ok-weave.ensures.weaves c.in_default.ensures c.in-None.ensures)
+
+pub returns-in-Some-first_left-clause-unwoven : goal.returns-in-Some-first_left-clause-unwoven
+returns-in-Some-first_left-clause-unwoven c = unwoven c.args.config.now c.args.journals.now c.weave.new.self c.in_ok-weave.ensures.weaves c.in_default.ensures c.in_ok-weave.ensures.still c.in-Some-first_left.node c.in-Some-first_left.place c.in-Some-first_left.ensures
+
+pub returns-in-Some-first_left-clause-complete : goal.returns-in-Some-first_left-clause-complete
+returns-in-Some-first_left-clause-complete c =
+    none_recorded c.args.config.now c.args.journals.now c.in-Some-first_left.node c.in-Some-first_left.place
+    (unwoven c.args.config.now c.args.journals.now c.weave.new.self c.in_ok-weave.ensures.weaves c.in_default.ensures c.in_ok-weave.ensures.still c.in-Some-first_left.node c.in-Some-first_left.place c.in-Some-first_left.ensures)

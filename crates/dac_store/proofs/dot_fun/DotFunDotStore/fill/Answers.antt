@@ -16,6 +16,3 @@ pub returns-clause-own : goal.returns-clause-own
 returns-clause-own g c =
     let all = no_more dots_total exact_dots (λ x v. is_some v ≡ true → may_have c.loop-dot.filter.slots x ≡ true) (λ _ e. absurd (false≢true e)) _ _ c.loop-dot-test.false c.loop-dot.invariant.own in
     rw (← c.self.view_is, ← c.as_slice-dot-items.ensures) all
-
-pub returns-clause-more : goal.returns-clause-more
-returns-clause-more g c = c.loop-dot.invariant.more
