@@ -1,12 +1,12 @@
 -- The set of the dots of entries, where each origin has its counters.
-use Rattle.std.proofs.Common.{◌≡◌, ℕ, suc, ◌+◌, ◌-◌, ◌<◌, ◌≤◌, ◌⊎◌, inl, inr, Bool, true, false, cond, ◌||◌, ◌&&◌, T, List, [], ◌∷◌, ◌++◌, length, map, Option, None, Some, refl, sym, ap, ◌∙◌, subst, arith, length-append}
+use Rattle.std.proofs.Common.{◌≡◌, ℕ, suc, ◌+◌, ◌-◌, ◌<◌, ◌≤◌, ◌⊎◌, inl, inr, Bool, true, false, cond, ◌||◌, ◌&&◌, T, List, [], ◌∷◌, ◌++◌, get_or, length, map, Option, None, Some, refl, sym, ap, ◌∙◌, subst, arith, length-append}
 use Rattle.std.specs.declared.cmp.Ordering.TheVariants.{Less}
 use Rattle.std.specs.Ordering.{nat_cmp, eq_by_cmp, is_eq, is_lt, ordering_then}
 use Rattle.std.specs.FinSet as set
 use Rattle.std.specs.FinMap.{find, put, is_sorted}
 use Rattle.std.specs.FinMap.Entries.{below_all}
 use Rattle.std.specs.List.{list_any}
-use Rattle.std.proofs.lemmas.Bool.{and_parts, and_from, or_left, false≢true}
+use Rattle.std.proofs.lemmas.Bool.{and_parts, and_from, or_left, false≢true, cases_lt}
 use Rattle.std.proofs.lemmas.Cmp.{tied_itself, nat_cmp_total}
 use Rattle.std.proofs.lemmas.List.{length-map}
 use Rattle.std.proofs.lemmas.List.Folds.{list_any-append}
@@ -22,13 +22,13 @@ use Rattle.dac_origins.specs.laws.Dots.{dots_total, exact_dots, origins_total, e
 use Rattle.dac_origins.specs.declared.dot.Origin.{Origin}
 use Rattle.dac_origins.specs.declared.dot.Dot.{Dot}
 use Rattle.dac_lattice.specs.Search.{IsInOrder, AtEachKey}
-use Rattle.dac_lattice.specs.laws.EntryLaws.{first, second, less as below, greater, each_entry}
+use Rattle.dac_lattice.specs.laws.EntryLaws.{first, second, less as below, greater, find_at}
+use Rattle.dac_sorted.specs.Digests.{SaysAll}
 use Rattle.dac_dots.specs.Entries.{AreRows, AreSome, counted, dots_of, has_at, rows_at, united}
 use Rattle.dac_dots.specs.Rows.{IsGreatest, any_row, further_of, reach_of}
 use Rattle.dac_dots.specs.laws.CounterLaws.{is_same}
-use Rattle.dac_dots.specs.laws.EntryRows.{AreFull, AreIn, contains_at, not_full, put_at, row_counter, rows_put, some_there, united_has as has_both, vector_from}
+use Rattle.dac_dots.specs.laws.EntryRows.{AreIn, contains_at, full_without, not_full, put_at, row_counter, rows_put, some_there, united_has as has_both, vector_from}
 use Rattle.dac_dots.specs.laws.RowSets.{contains-dots_in, has_dots, some_length}
-use Rattle.dac_dots.proofs.DotLemmas.{below_append}
 
 -- ---- the dots of entries, without a search
 
@@ -138,11 +138,6 @@ module _ (P : Origin → Option (List ℕ) → Type 0) (whole : List (Origin × 
   pub passed_all : (old : List (Origin × List ℕ)) → old ≡ [] → ((o : Origin) → P o None) → ArePassed P whole old → AtEachKey origin_cmp P whole
   passed_all old none nothing passed = passed.each (subst (AtEachKey origin_cmp P) (sym none) nothing)
 
--- ---- gaps
-
-pub no_gap : (n : ℕ) (b : Bool) → b ≡ false → (1 ≤ n → b ≡ true) → n ≡ 0
-no_gap n b e h = grind arith
-
 -- ---- the next dot
 
 -- `last` is the greatest counter of the origin, or 0 if it has none
@@ -187,14 +182,19 @@ module _ (es : List (Origin × List ℕ)) (dots : Dots) (view : dots_of es ≡ d
       let found = first_key ns (subst (AreSome o) at (some_there es is o)).1 in
       false≢true (sym (none found.0) ∙ within (dot o found.0) (contains_there o ns at found.0 ∙ found.1))
 
-  pub vector_all : AtEachKey origin_cmp AreFull es → IsVector dots
-  vector_all all = subst IsVector view (vector_from es is.in_order (each_entry origins_total exact_origins AreFull es is.in_order all))
+  -- without gaps the set is a version vector, and a version vector has none
+  pub vector_all : SaysAll (λ _ ns. length (further_of (reach_of ns) ns) ≡ 0) es → IsVector dots
+  vector_all none = subst IsVector view (vector_from es is.in_order (λ i d p. full_without (get_or es i d).0 (get_or es i d).1 (none i d p)))
 
-  -- an origin's counters with a gap
-  pub vector_not : (o : Origin) (ns : List ℕ) → find origin_cmp o es ≡ Some ns → 1 ≤ length (further_of (reach_of ns) ns) → IsVector dots → ⊥
-  vector_not o ns at some vector = not_full o ns (subst (AreSome o) at (some_there es is o)).0 some (λ n e.
-      let full = vector o n (contains_there o ns at n ∙ e) in
-      (full.0, λ m p q. sym (contains_there o ns at m) ∙ full.1 m p q))
+  pub vector_none : IsVector dots → SaysAll (λ _ ns. length (further_of (reach_of ns) ns) ≡ 0) es
+  vector_none vector i d p =
+      let o = (get_or es i d).0 in
+      let ns = (get_or es i d).1 in
+      let at : find origin_cmp o es ≡ Some ns = find_at origins_total exact_origins es i d is.in_order p in
+      elim (cases_lt 0 (length (further_of (reach_of ns) ns))) [
+        | inl some ↦ absurd (not_full o ns (is.each i d p).0 some (λ n e. let full = vector o n (contains_there o ns at n ∙ e) in (full.0, λ m p q. sym (contains_there o ns at m) ∙ full.1 m p q)))
+        | inr none ↦ omega arith
+      ]
 
   pub last_found : (o : Origin) (ns : List ℕ) (last : ℕ) → find origin_cmp o es ≡ Some ns → IsGreatest ns last → IsLastIn dots o last
   last_found o ns last at is_last = record {
@@ -246,7 +246,7 @@ module _ (es now : List (Origin × List ℕ)) (d : Dot) (ms : List ℕ) (is : Ar
 -- ---- all dots, in order
 
 -- the dots of the entries, origin by origin
-abbrev listed : List (Origin × List ℕ) → List Dot
+abbrev pub listed : List (Origin × List ℕ) → List Dot
 listed [] = []
 listed (e ∷ es) = map (dot e.0) e.1 ++ listed es
 
@@ -257,6 +257,10 @@ has_listed (e ∷ es) q = list_any-append (eq_by_cmp dot_cmp q) (map (dot e.0) e
 length_listed : (es : List (Origin × List ℕ)) → length (listed es) ≡ counted es
 length_listed [] = refl
 length_listed (e ∷ es) = length-append (map (dot e.0) e.1) (listed es) ∙ (λ i. length-map e.1 (dot e.0) i + length_listed es i)
+
+below_append : (x : Dot) (xs ys : List Dot) → is_below_all dot_cmp x xs ≡ true → is_below_all dot_cmp x ys ≡ true → is_below_all dot_cmp x (xs ++ ys) ≡ true
+below_append x [] ys g h = h
+below_append x (y ∷ xs) ys g h = and_from _ _ (and_parts _ _ g).0 (below_append x xs ys (and_parts _ _ g).1 h)
 
 -- dots of one origin are in the order of their counters
 below_own : (o : Origin) (n : ℕ) (ns : List ℕ) → is_below_all nat_cmp n ns ≡ true → is_below_all dot_cmp (dot o n) (map (dot o) ns) ≡ true
@@ -283,20 +287,19 @@ later_rows e es is = record { in_order = second (below_all origin_cmp e.0 es) (i
 first_some : (e : Origin × List ℕ) (es : List (Origin × List ℕ)) → AreRows (e ∷ es) → IsRising nat_cmp e.1 × (1 ≤ length e.1)
 first_some e es is = is.each 0 e (omega arith)
 
-rising_listed : (es : List (Origin × List ℕ)) → AreRows es → IsRising dot_cmp (listed es)
+pub rising_listed : (es : List (Origin × List ℕ)) → AreRows es → IsRising dot_cmp (listed es)
 rising_listed [] is = refl
 rising_listed (e ∷ es) is = rising_own e.0 e.1 (listed es) (first_some e es is).0 (λ n. below_listed e.0 n es (first (below_all origin_cmp e.0 es) (is_sorted origin_cmp es) is.in_order)) (rising_listed es (later_rows e es is))
 
 module _ (es : List (Origin × List ℕ)) (dots : Dots) (view : dots_of es ≡ dots) where
-  -- ascending dots that are those of the entries are the set in order
-  pub in_order_is : (ds : List Dot) → IsRising dot_cmp ds → ((q : Dot) → has_key dot_cmp ds q ≡ any_at es q) → ds ≡ in_order dots
-  in_order_is ds rising has = in_order-one dots_total exact_dots dots ds rising (set.same_set dots_total exact_dots _ _ (λ q. set.contains-from_list dots_total ds q ∙ has q ∙ sym (contains_any es dots view q)))
+  pub listed_same : set.from_list (listed es) ≡ dots
+  listed_same = set.same_set dots_total exact_dots _ _ (λ q. set.contains-from_list dots_total (listed es) q ∙ has_listed es q ∙ sym (contains_any es dots view q))
+
+  pub listed_is : AreRows es → listed es ≡ in_order dots
+  listed_is is = in_order-one dots_total exact_dots dots (listed es) (rising_listed es is) listed_same
 
   pub counted_is : AreRows es → counted es ≡ set.len dots
-  counted_is is =
-      sym (length_listed es)
-      ∙ len_rising dots_total (listed es) (rising_listed es is)
-      ∙ ap (λ (s : Dots). set.len s) (set.same_set dots_total exact_dots _ _ (λ q. set.contains-from_list dots_total (listed es) q ∙ has_listed es q ∙ sym (contains_any es dots view q)))
+  counted_is is = sym (length_listed es) ∙ len_rising dots_total (listed es) (rising_listed es is) ∙ ap (λ (s : Dots). set.len s) listed_same
 
 pub counted_append : (es fs : List (Origin × List ℕ)) → counted (es ++ fs) ≡ counted es + counted fs
 counted_append [] fs = omega arith
@@ -314,9 +317,6 @@ counted_some (e ∷ es) is = let one = (first_some e es is).1 in let rest = coun
 -- ---- a loop over the entries
 
 module _ (e : Origin × List ℕ) (old rest whole : List (Origin × List ℕ)) (parted : old ≡ e ∷ rest) where
-  pub counted_first : counted old ≡ length e.1 + counted rest
-  counted_first = ap counted parted
-
   pub ahead_more : IsInOrder origin_cmp (e ∷ rest) → (mid new other : List (Origin × List ℕ)) → ((k : Origin) → is_lt (origin_cmp k e.0) ≡ false → find origin_cmp k new ≡ find origin_cmp k mid)
       → ((o : Origin) (ns : List ℕ) → find origin_cmp o old ≡ Some ns → find origin_cmp o mid ≡ find origin_cmp o other)
       → (o : Origin) (ns : List ℕ) → find origin_cmp o rest ≡ Some ns → find origin_cmp o new ≡ find origin_cmp o other
@@ -326,8 +326,5 @@ module _ (e : Origin × List ℕ) (old rest whole : List (Origin × List ℕ)) (
   ahead_first mid other ahead = ahead e.0 e.1 (ap (find origin_cmp e.0) parted ∙ found_first e rest)
 
 module _ (old whole : List (Origin × List ℕ)) (none : old ≡ []) where
-  pub taken_all : (mid : Dot → Bool) → ((q : Dot) → (mid q || any_at old q) ≡ any_at whole q) → (q : Dot) → mid q ≡ any_at whole q
-  taken_all mid so_far q = sym (or-false (mid q)) ∙ ap (λ es. mid q || any_at es q) (sym none) ∙ so_far q
-
   pub filled_all : (mid : Dot → Bool) → ((q : Dot) → any_at whole q ≡ true → (mid q || any_at old q) ≡ true) → (q : Dot) → any_at whole q ≡ true → mid q ≡ true
   filled_all mid so_far q at = sym (or-false (mid q)) ∙ ap (λ es. mid q || any_at es q) (sym none) ∙ so_far q at

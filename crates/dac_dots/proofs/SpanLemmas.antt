@@ -1,23 +1,20 @@
 -- The counters of spans, and of joined spans.
-use Rattle.std.proofs.Common.{◌≡◌, ℕ, zero, suc, ◌+◌, ◌-◌, ◌<◌, ◌≤◌, inl, inr, Bool, true, false, cond, ◌||◌, ◌&&◌, nat_le, nat_lt, nat_eq, List, [], ◌∷◌, ◌++◌, length, take, drop, get_or, min, max, refl, sym, ap, ◌∙◌, subst, arith, take-append-drop, length-append, length-drop}
+use Rattle.std.proofs.Common.{◌≡◌, ℕ, zero, suc, ◌+◌, ◌-◌, ◌<◌, ◌≤◌, inl, inr, Bool, true, false, cond, ◌||◌, ◌&&◌, nat_le, nat_lt, List, [], ◌∷◌, ◌++◌, length, take, drop, get_or, min, max, refl, sym, ap, ◌∙◌, subst, arith, take-append-drop, length-append, length-drop}
 use Rattle.std.specs.Ordering.{nat_cmp, eq_by_cmp}
 use Rattle.std.specs.List.{flat_map, AllWithin}
 use Rattle.std.specs.List.Sorted.{IsPartitionedBy}
-use Rattle.std.proofs.lemmas.Bool.{and_parts, and_from, or_left, or_right, or_cases, false≢true, true≢false, leb-true, le-leb, leb-false, ltb-true, cases_lt, cases_eq, cases_order, eqb-true, lt-ltb, le-ltb, false_from_ne_true, cases_Bool}
+use Rattle.std.proofs.lemmas.Bool.{and_parts, and_from, or_from, or_left, or_cases, false≢true, true≢false, leb-true, le-leb, leb-false, ltb-true, cases_lt, cases_eq, cases_order, lt-ltb, le-ltb}
 use Rattle.std.proofs.lemmas.Bool.Decides.{nat_tests}
 use Rattle.std.proofs.lemmas.List.{take_all}
 use Rattle.std.proofs.lemmas.List.Concat.{flat_map-cons}
-use Rattle.std.proofs.lemmas.List.Folds.{list_any-append, list_any_none, list_any_at, list_any_more}
+use Rattle.std.proofs.lemmas.List.Folds.{list_any-append, list_any_none, list_any_at}
 use Rattle.dac_origins.specs.Keys.{is_below_all, is_rising, IsRising, has_key}
-use Rattle.std.proofs.lemmas.Cmp.{nat_cmp_total}
-use Rattle.std.proofs.lemmas.Map.Lookups.{exact_unsigned}
-use Rattle.std.proofs.Math.Bool.{or-false, and-false, or_assoc, and-true}
-use Rattle.dac_origins.specs.laws.InOrder.{or_swap, same_rising}
-use Rattle.dac_dots.specs.laws.CounterLaws.{is_less, on_the_way, ends_there, rising_filter, has_key-filter}
-use Rattle.dac_dots.specs.Rows.{IsGreatest, further_of, reach_of}
-use Rattle.dac_dots.specs.Spans.{from_on, counters_of_span, counters_in, span_has, any_span, any_above, are_apart, AreSpans, HaveEnded, IsPlaceFor, hull, absorbed}
+use Rattle.std.proofs.Math.Bool.{or_assoc}
+use Rattle.dac_origins.specs.laws.InOrder.{or_swap}
+use Rattle.dac_dots.specs.laws.CounterLaws.{is_less, on_the_way, ends_there}
+use Rattle.dac_dots.specs.Rows.{IsGreatest, reach_of}
+use Rattle.dac_dots.specs.Spans.{from_on, counters_of_span, counters_in, span_has, any_span, are_apart, AreSpans, HaveEnded, IsPlaceFor, hull, absorbed}
 use Rattle.dac_dots.specs.declared.spans.Span.{Span}
-use Rattle.dac_dots.specs.laws.RowSets.{or_turn, or_last}
 
 -- ---- the counters of spans
 
@@ -85,7 +82,7 @@ pub apart_lower : (low more : ℕ) (spans : List Span) → low ≤ more → are_
 apart_lower low more [] p h = refl
 apart_lower low more (span ∷ spans) p h = let is = apart_first more span spans h in let q = is.0 in apart_from low span spans (omega arith) is.1.0 is.1.1
 
-below_spans : (x low : ℕ) (spans : List Span) → x < low → are_apart low spans ≡ true → is_below_all nat_cmp x (flat_map counters_of_span spans) ≡ true
+pub below_spans : (x low : ℕ) (spans : List Span) → x < low → are_apart low spans ≡ true → is_below_all nat_cmp x (flat_map counters_of_span spans) ≡ true
 below_spans x low [] p h = refl
 below_spans x low (span ∷ spans) p h =
     let is = apart_first low span spans h in
@@ -372,34 +369,12 @@ put_alone span spans place v at h is n e =
 
 -- ---- one span, or two
 
-pub one_apart : (span : Span) → span.first ≤ span.last → are_apart 0 (span ∷ []) ≡ true
-one_apart span v = apart_from 0 span [] (omega arith) v refl
-
 pub one_counter : (n : ℕ) → counters_in (record { first = n; last = n } ∷ []) ≡ n ∷ []
 unfolding counters_in counters_of_span from_on
 one_counter n = ap (λ k. from_on n k ++ []) (alone n)
   where
     alone : (n : ℕ) → n + 1 - n ≡ 1
     alone n = omega arith
-
-pub two_apart : (a b : Span) → a.first ≤ a.last → b.first ≤ b.last → nat_lt (a.last + 1) b.first ≡ true → are_apart 0 (a ∷ b ∷ []) ≡ true
-two_apart a b v w far = apart_from 0 a (b ∷ []) (omega arith) v (apart_from (a.last + 2) b [] (is_far a.last b.first far) w refl)
-
--- no counter of a later span is in a span that ends before it with a gap
-pub none_earlier : (a b : Span) → nat_lt (a.last + 1) b.first ≡ true → (n : ℕ) → span_has n b ≡ true → any_span (a ∷ []) n ≡ false
-none_earlier a b far n e = apart a.first a.last b.first b.last n far e
-  where
-    apart : (f l g m n : ℕ) → nat_lt (l + 1) g ≡ true → (nat_le g n && nat_le n m) ≡ true → ((nat_le f n && nat_le n l) || false) ≡ false
-    apart f l g m n far e = grind (arith, nat_tests)
-
-pub second_put : (a b : Span) (n : ℕ) → any_span (a ∷ b ∷ []) n ≡ (span_has n b || any_span (a ∷ []) n)
-second_put a b n = turn (span_has n a) (span_has n b)
-  where
-    turn : (a b : Bool) → (a || (b || false)) ≡ (b || (a || false))
-    turn a b = grind arith
-
-pub hull_valid : (a b : Span) → a.first ≤ a.last → b.first ≤ b.last → (hull a b).first ≤ (hull a b).last
-hull_valid a b v w = omega arith
 
 -- ---- the last counter, and the first gap
 
@@ -442,37 +417,15 @@ reaches ns rising u all end = elim (cases_order u (reach_of ns)) [
   | inr (inr more) ↦ absurd (true≢false (sym (all (reach_of ns + 1) (omega arith) (omega arith)) ∙ ends_there 0 ns rising))
 ]
 
-module _ (spans : List Span) (h : are_apart 0 spans ≡ true) (now : List ℕ) (view : counters_in spans ≡ now) where
-  pub rising_now : IsRising nat_cmp now
-  rising_now = subst (IsRising nat_cmp) view (rising_counters 0 spans h)
+-- by whether the first span begins no later than 1
+pub upto_first : (first : Span) (rest : List Span) → are_apart 0 (first ∷ rest) ≡ true → first.first ≤ 1 → first.last ≡ reach_of (counters_in (first ∷ rest))
+upto_first first rest h low =
+    reaches (counters_in (first ∷ rest)) (rising_counters 0 (first ∷ rest) h) first.last
+    (λ n p q. has_counters (first ∷ rest) n ∙ or_left _ _ (and_from _ _ (le-leb first.first n (omega arith)) (le-leb n first.last q)))
+    (has_counters (first ∷ rest) (first.last + 1) ∙ or_from _ _ (out_after (first.last + 1) first.first first.last (omega arith)) (none_below (first.last + 1) (first.last + 2) rest (omega arith) (apart_first 0 first rest h).1.1))
 
-  pub upto_first : (first : Span) → 0 < length spans → first ≡ get_or spans 0 first → first.first ≤ 1 → first.last ≡ reach_of now
-  upto_first first some is low = reaches now rising_now first.last
-      (λ n p q. has_now spans h now view n ∙ list_any_at (span_has n) spans 0 first some (subst (λ (r : Span). span_has n r ≡ true) is (and_from _ _ (le-leb first.first n (omega arith)) (le-leb n first.last q))))
-      (has_now spans h now view (first.last + 1) ∙ past spans h some is)
-    where
-      past : (l : List Span) → are_apart 0 l ≡ true → 0 < length l → first ≡ get_or l 0 first → any_span l (first.last + 1) ≡ false
-      past [] h p is = absurd (omega arith)
-      past (x ∷ l) h p is =
-          let same : x.last ≡ first.last = ap (λ (r : Span). r.last) (sym is) in
-          ap (λ b. b || any_span l (first.last + 1)) (out_after (first.last + 1) x.first x.last (omega arith)) ∙ none_below (first.last + 1) (x.last + 2) l (omega arith) (apart_first 0 x l h).1.1
-
-  pub upto_later : (first : Span) → 0 < length spans → first ≡ get_or spans 0 first → 1 < first.first → 0 ≡ reach_of now
-  upto_later first some is high = reaches now rising_now 0 (λ n p q. absurd (omega arith)) (has_now spans h now view 1 ∙ past spans h is)
-    where
-      past : (l : List Span) → are_apart 0 l ≡ true → first ≡ get_or l 0 first → any_span l 1 ≡ false
-      past [] h is = refl
-      past (x ∷ l) h is =
-          let same : x.first ≡ first.first = ap (λ (r : Span). r.first) (sym is) in
-          let valid : x.first ≤ x.last = (apart_first 0 x l h).1.0 in
-          ap (λ b. b || any_span l 1) (out_before 1 x.first x.last (omega arith)) ∙ none_below 1 (x.last + 2) l (omega arith) (apart_first 0 x l h).1.1
-
-  pub upto_none : length spans ≤ 0 → 0 ≡ reach_of now
-  upto_none none = reaches now rising_now 0 (λ n p q. absurd (omega arith)) (has_now spans h now view 1 ∙ past spans none)
-    where
-      past : (l : List Span) → length l ≤ 0 → any_span l 1 ≡ false
-      past [] p = refl
-      past (x ∷ l) p = absurd (omega arith)
+pub upto_later : (spans : List Span) → are_apart 2 spans ≡ true → 0 ≡ reach_of (counters_in spans)
+upto_later spans h = reaches (counters_in spans) (rising_counters 2 spans h) 0 (λ n p q. absurd (omega arith)) (has_counters spans 1 ∙ none_below 1 2 spans (omega arith) h)
 
 -- ---- no spans
 
@@ -490,41 +443,7 @@ valid_at [] all i d p = absurd (omega arith)
 valid_at (span ∷ spans) all zero d p = all.0
 valid_at (span ∷ spans) all (suc i) d p = valid_at spans all.1 i d (omega arith)
 
-pub valid_drop : (spans : List Span) → AreSpans spans → (i : ℕ) → AreSpans (drop i spans)
-valid_drop spans all zero = all
-valid_drop [] all (suc i) = tt
-valid_drop (span ∷ spans) all (suc i) = valid_drop spans all.1 i
-
 -- ---- one more span
-
--- ---- the counters of a span, one by one
-
-pub none_listed : (f : ℕ) (old : List ℕ) (n : ℕ) → has_key nat_cmp old n ≡ ((nat_le f n && nat_lt n f) || has_key nat_cmp old n)
-none_listed f old n = ap (λ b. b || has_key nat_cmp old n) (none f n)
-  where
-    none : (f n : ℕ) → false ≡ (nat_le f n && nat_lt n f)
-    none f n = grind (arith, nat_tests)
-
-pub further : (f l n : ℕ) → f ≤ l → (eq_by_cmp nat_cmp n l || (nat_le f n && nat_lt n l)) ≡ (nat_le f n && nat_lt n (l + 1))
-further f l n p = grind (arith, nat_tests)
-
-pub before_next : (n l : ℕ) → nat_lt n (l + 1) ≡ nat_le n l
-before_next n l = grind (arith, nat_tests)
-
-pub one_listed : (f l : ℕ) → f ≤ l → (old mid new : List ℕ) → ((n : ℕ) → has_key nat_cmp mid n ≡ ((nat_le f n && nat_lt n l) || has_key nat_cmp old n)) → ((n : ℕ) → has_key nat_cmp new n ≡ (eq_by_cmp nat_cmp n l || has_key nat_cmp mid n))
-    → (n : ℕ) → has_key nat_cmp new n ≡ ((nat_le f n && nat_lt n (l + 1)) || has_key nat_cmp old n)
-one_listed f l p old mid new so_far one n =
-    one n ∙ ap (λ b. eq_by_cmp nat_cmp n l || b) (so_far n) ∙ sym (or_assoc (eq_by_cmp nat_cmp n l) (nat_le f n && nat_lt n l) (has_key nat_cmp old n))
-    ∙ ap (λ b. b || has_key nat_cmp old n) (further f l n p)
-
-pub all_listed : (f l k : ℕ) → f ≤ k → k ≡ l → (old mid new : List ℕ) → ((n : ℕ) → has_key nat_cmp mid n ≡ ((nat_le f n && nat_lt n k) || has_key nat_cmp old n)) → ((n : ℕ) → has_key nat_cmp new n ≡ (eq_by_cmp nat_cmp n l || has_key nat_cmp mid n))
-    → (n : ℕ) → has_key nat_cmp new n ≡ ((nat_le f n && nat_le n l) || has_key nat_cmp old n)
-all_listed f l k p e old mid new so_far one n =
-    one_listed f l (omega arith) old mid new (λ m. so_far m ∙ ap (λ (k : ℕ). (nat_le f m && nat_lt m k) || has_key nat_cmp old m) e) one n
-    ∙ ap (λ b. (nat_le f n && b) || has_key nat_cmp old n) (before_next n l)
-
-pub any_more : (spans : List Span) (i : ℕ) (d : Span) → i < length spans → (n : ℕ) → any_span (take (i + 1) spans) n ≡ (any_span (take i spans) n || span_has n (get_or spans i d))
-any_more spans i d p n = list_any_more (span_has n) spans i d p
 
 -- the counters of a span of the set are in the set
 pub span_within : (spans : List Span) (now : List ℕ) → counters_in spans ≡ now → (i : ℕ) (d : Span) → i < length spans → (n : ℕ) → span_has n (get_or spans i d) ≡ true → has_key nat_cmp now n ≡ true
@@ -583,20 +502,6 @@ any_parts spans i n = ap (λ l. any_span l n) (sym (take-append-drop i spans)) �
 regroup : (dy dx ty tx : Bool) → (dy || (dx || (ty || tx))) ≡ ((ty || dy) || (tx || dx))
 regroup dy dx ty tx = grind arith
 
--- a span of the first list is inserted
-pub merged_first : (xs ys : List Span) (i j : ℕ) (d : Span) → i < length xs → (mid new : List ℕ) → ((n : ℕ) → has_key nat_cmp mid n ≡ (any_span (take j ys) n || any_span (take i xs) n)) → ((n : ℕ) → has_key nat_cmp new n ≡ (span_has n (get_or xs i d) || has_key nat_cmp mid n))
-    → (n : ℕ) → has_key nat_cmp new n ≡ (any_span (take j ys) n || any_span (take (i + 1) xs) n)
-merged_first xs ys i j d p mid new so_far one n =
-    one n ∙ ap (λ b. span_has n (get_or xs i d) || b) (so_far n) ∙ or_last (span_has n (get_or xs i d)) (any_span (take j ys) n) (any_span (take i xs) n)
-    ∙ ap (λ b. any_span (take j ys) n || b) (sym (any_more xs i d p n))
-
--- a span of the second list is inserted
-pub merged_second : (xs ys : List Span) (i j : ℕ) (d : Span) → j < length ys → (mid new : List ℕ) → ((n : ℕ) → has_key nat_cmp mid n ≡ (any_span (take j ys) n || any_span (take i xs) n)) → ((n : ℕ) → has_key nat_cmp new n ≡ (span_has n (get_or ys j d) || has_key nat_cmp mid n))
-    → (n : ℕ) → has_key nat_cmp new n ≡ (any_span (take (j + 1) ys) n || any_span (take i xs) n)
-merged_second xs ys i j d p mid new so_far one n =
-    one n ∙ ap (λ b. span_has n (get_or ys j d) || b) (so_far n) ∙ or_turn (span_has n (get_or ys j d)) (any_span (take j ys) n) (any_span (take i xs) n)
-    ∙ ap (λ b. b || any_span (take i xs) n) (sym (any_more ys j d p n))
-
 pub merged_both : (xs ys : List Span) (i j : ℕ) (both mid new : List ℕ) → ((n : ℕ) → has_key nat_cmp both n ≡ (any_span (take j ys) n || any_span (take i xs) n)) → ((n : ℕ) → has_key nat_cmp mid n ≡ (any_span (drop i xs) n || has_key nat_cmp both n)) → ((n : ℕ) → has_key nat_cmp new n ≡ (any_span (drop j ys) n || has_key nat_cmp mid n))
     → (n : ℕ) → has_key nat_cmp new n ≡ (any_span ys n || any_span xs n)
 merged_both xs ys i j both mid new so_far first second n =
@@ -607,88 +512,9 @@ merged_both xs ys i j both mid new so_far first second n =
 take_rest : (spans : List Span) (i : ℕ) → take (length spans - i) (drop i spans) ≡ drop i spans
 take_rest spans i = take_all (length spans - i) (drop i spans) (let left = length-drop i spans in omega arith)
 
-pub valid_rest : (spans : List Span) → AreSpans spans → (i : ℕ) → AreSpans (take (length spans - i) (drop i spans))
-valid_rest spans all i = subst AreSpans (sym (take_rest spans i)) (valid_drop spans all i)
-
 pub merged_rest : (xs ys : List Span) (i j : ℕ) (both mid new : List ℕ) → ((n : ℕ) → has_key nat_cmp both n ≡ (any_span (take j ys) n || any_span (take i xs) n))
     → ((n : ℕ) → has_key nat_cmp mid n ≡ (any_span (take (length xs - i) (drop i xs)) n || has_key nat_cmp both n)) → ((n : ℕ) → has_key nat_cmp new n ≡ (any_span (take (length ys - j) (drop j ys)) n || has_key nat_cmp mid n))
     → (n : ℕ) → has_key nat_cmp new n ≡ (any_span ys n || any_span xs n)
 merged_rest xs ys i j both mid new so_far first second = merged_both xs ys i j both mid new so_far
     (λ n. first n ∙ ap (λ l. any_span l n || has_key nat_cmp both n) (take_rest xs i))
     (λ n. second n ∙ ap (λ l. any_span l n || has_key nat_cmp mid n) (take_rest ys j))
-
--- ---- spans that begin above a number
-
-past_one : (upto : ℕ) (spans : List Span) (i : ℕ) (d : Span) → i < length spans → (n : ℕ) → any_above upto (take (i + 1) spans) n ≡ (any_above upto (take i spans) n || (nat_lt upto (get_or spans i d).first && span_has n (get_or spans i d)))
-past_one upto spans i d p n = list_any_more (λ (span : Span). nat_lt upto span.first && span_has n span) spans i d p
-
-pub past_more : (upto : ℕ) (spans : List Span) (i : ℕ) (d : Span) → i < length spans → nat_lt upto (get_or spans i d).first ≡ true → (old mid new : List ℕ) → ((n : ℕ) → has_key nat_cmp mid n ≡ (any_above upto (take i spans) n || has_key nat_cmp old n)) → ((n : ℕ) → has_key nat_cmp new n ≡ (span_has n (get_or spans i d) || has_key nat_cmp mid n))
-    → (n : ℕ) → has_key nat_cmp new n ≡ (any_above upto (take (i + 1) spans) n || has_key nat_cmp old n)
-past_more upto spans i d p above old mid new so_far one n =
-    one n ∙ ap (λ b. span_has n (get_or spans i d) || b) (so_far n) ∙ or_turn (span_has n (get_or spans i d)) (any_above upto (take i spans) n) (has_key nat_cmp old n)
-    ∙ ap (λ b. b || has_key nat_cmp old n) (ap (λ t. any_above upto (take i spans) n || (t && span_has n (get_or spans i d))) (sym above) ∙ sym (past_one upto spans i d p n))
-
-pub past_same : (upto : ℕ) (spans : List Span) (i : ℕ) (d : Span) → i < length spans → nat_lt upto (get_or spans i d).first ≡ false → (n : ℕ) → any_above upto (take (i + 1) spans) n ≡ any_above upto (take i spans) n
-past_same upto spans i d p below n = past_one upto spans i d p n ∙ ap (λ t. any_above upto (take i spans) n || (t && span_has n (get_or spans i d))) below ∙ or-false (any_above upto (take i spans) n)
-
--- ---- the further counters
-
-module _ (spans : List Span) (h : are_apart 0 spans ≡ true) (now : List ℕ) (view : counters_in spans ≡ now) where
-  -- a span that begins no later than upto ends no later than upto
-  begins_within : (u : ℕ) → has_key nat_cmp now (u + 1) ≡ false → (l : List Span) → ((n : ℕ) → any_span l n ≡ true → has_key nat_cmp now n ≡ true) → (n : ℕ) → u < n → any_above u l n ≡ any_span l n
-  begins_within u end [] there n p = refl
-  begins_within u end (span ∷ l) there n p = (λ i. one i || begins_within u end l (λ m e. there m (or_right _ _ e)) n p i)
-    where
-      one : (nat_lt u span.first && span_has n span) ≡ span_has n span
-      one = elim (cases_lt u span.first) [
-        | inl past ↦ ap (λ t. t && span_has n span) (lt-ltb u span.first past)
-        | inr low ↦
-            let none : span_has n span ≡ false = false_from_ne_true (span_has n span) (λ e.
-            let high : n ≤ span.last = leb-true n span.last (and_parts (nat_le span.first n) (nat_le n span.last) e).1 in
-            false≢true (sym end ∙ there (u + 1) (or_left _ _ (and_from _ _ (le-leb span.first (u + 1) (omega arith)) (le-leb (u + 1) span.last (omega arith)))))) in
-            ap (λ t. nat_lt u span.first && t) none ∙ and-false (nat_lt u span.first) ∙ sym none
-      ]
-
-  none_past : (u : ℕ) (l : List Span) (n : ℕ) → n ≤ u → any_above u l n ≡ false
-  none_past u [] n p = refl
-  none_past u (span ∷ l) n p = (λ i. out u n span.first span.last p i || none_past u l n p i)
-    where
-      out : (u n f l : ℕ) → n ≤ u → (nat_lt u f && (nat_le f n && nat_le n l)) ≡ false
-      out u n f l p = grind (arith, nat_tests)
-
-  pub further_has : (n : ℕ) → (any_above (reach_of now) spans n || (nat_eq n 0 && has_key nat_cmp now 0)) ≡ ((nat_lt (reach_of now) n || nat_eq n 0) && has_key nat_cmp now n)
-  further_has n = elim (cases_lt (reach_of now) n) [
-    | inl past ↦
-        let other : nat_eq n 0 ≡ false = not_zero n (reach_of now) past in
-        (λ i. begins_within (reach_of now) (ends_there 0 now (rising_now spans h now view)) spans (λ m e. has_now spans h now view m ∙ e) n past i || (other i && has_key nat_cmp now 0))
-        ∙ or-false (any_span spans n) ∙ sym (has_now spans h now view n)
-        ∙ ap (λ t. (t || nat_eq n 0) && has_key nat_cmp now n) (sym (lt-ltb (reach_of now) n past))
-    | inr within ↦
-        ap (λ b. b || (nat_eq n 0 && has_key nat_cmp now 0)) (none_past (reach_of now) spans n within)
-        ∙ at_zero n
-        ∙ ap (λ t. (t || nat_eq n 0) && has_key nat_cmp now n) (sym (le-ltb (reach_of now) n within))
-  ]
-    where
-      not_zero : (n u : ℕ) → u < n → nat_eq n 0 ≡ false
-      not_zero n u p = grind (arith, nat_tests)
-
-      at_zero : (n : ℕ) → (nat_eq n 0 && has_key nat_cmp now 0) ≡ (nat_eq n 0 && has_key nat_cmp now n)
-      at_zero n = elim (cases_Bool (nat_eq n 0)) [
-        | inl e ↦ ap (λ k. nat_eq n 0 && has_key nat_cmp now k) (sym (eqb-true n 0 e))
-        | inr e ↦ ap (λ t. t && has_key nat_cmp now 0) e ∙ sym (ap (λ t. t && has_key nat_cmp now n) e)
-      ]
-
-  pub further_is : (ns : List ℕ) → IsRising nat_cmp ns → ((n : ℕ) → has_key nat_cmp ns n ≡ (any_above (reach_of now) spans n || (nat_eq n 0 && has_key nat_cmp now 0))) → ns ≡ further_of (reach_of now) now
-  further_is ns rising all =
-      same_rising nat_cmp_total exact_unsigned ns (further_of (reach_of now) now) rising (rising_filter (λ n. nat_lt (reach_of now) n || nat_eq n 0) now (rising_now spans h now view))
-      (λ n. all n ∙ further_has n ∙ sym (has_key-filter (λ n. nat_lt (reach_of now) n || nat_eq n 0) now n))
-
--- 0 is a further counter if the set contains it
-pub zero_alone : (n : ℕ) → (eq_by_cmp nat_cmp n 0 || false) ≡ nat_eq n 0
-zero_alone n = grind (arith, nat_tests)
-
-pub zero_there : (now ns : List ℕ) → has_key nat_cmp now 0 ≡ true → ((n : ℕ) → has_key nat_cmp ns n ≡ (eq_by_cmp nat_cmp n 0 || has_key nat_cmp [] n)) → (n : ℕ) → has_key nat_cmp ns n ≡ (nat_eq n 0 && has_key nat_cmp now 0)
-zero_there now ns e all n = all n ∙ zero_alone n ∙ sym (and-true (nat_eq n 0)) ∙ ap (λ b. nat_eq n 0 && b) (sym e)
-
-pub zero_missing : (now ns : List ℕ) → has_key nat_cmp now 0 ≡ false → ns ≡ [] → (n : ℕ) → has_key nat_cmp ns n ≡ (nat_eq n 0 && has_key nat_cmp now 0)
-zero_missing now ns e none n = ap (λ l. has_key nat_cmp l n) none ∙ sym (and-false (nat_eq n 0)) ∙ ap (λ b. nat_eq n 0 && b) (sym e)

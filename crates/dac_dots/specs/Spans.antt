@@ -1,5 +1,5 @@
 -- Spans of consecutive counters.
-use Rattle.std.specs.Prelude.{◌≡◌, ℕ, zero, suc, ◌+◌, ◌-◌, ◌≤◌, min, max, nat_le, nat_lt, ◌&&◌, Bool, true, false, cond, if◌then◌else◌, Option, Some, None, List, [], ◌∷◌, ◌++◌, length}
+use Rattle.std.specs.Prelude.{◌≡◌, ℕ, zero, suc, ◌+◌, ◌-◌, ◌≤◌, min, max, nat_le, nat_lt, ◌&&◌, Bool, true, false, cond, if◌then◌else◌, Option, Some, None, List, [], ◌∷◌, length}
 use Rattle.std.specs.List.{flat_map, list_any, AllByRecursion, AllWithin}
 use Rattle.dac_dots.specs.declared.spans.Span.{Span}
 use Rattle.dac_dots.specs.declared.spans.Spans.{Spans}
@@ -25,15 +25,6 @@ span_has n span = nat_le span.first n && nat_le n span.last
 -- whether any of the spans contains the counter
 abbrev pub any_span : List Span → ℕ → Bool
 any_span spans n = list_any (span_has n) spans
-
--- whether any of the spans that begin above upto contains the counter
-abbrev pub any_above : ℕ → List Span → ℕ → Bool
-any_above upto spans n = list_any (λ (span : Span). nat_lt upto span.first && span_has n span) spans
-
--- the counters of the spans that begin above upto, in their order
-abbrev pub past : ℕ → List Span → List ℕ
-past upto [] = []
-past upto (span ∷ spans) = cond (nat_lt upto span.first) (counters_of_span span) [] ++ past upto spans
 
 -- No span is empty, the first begins at low or later, and there are gaps between the spans.
 abbrev pub are_apart : ℕ → List Span → Bool

@@ -1,21 +1,27 @@
 //! Causal contexts: sets of dots.
-ghost use Rattle.std.specs.Prelude.{◌≡◌, ◌↔◌, ◌≤◌, ◌<◌, ◌^◌, ◌∷◌, ◌++◌, [], length, slice_get, Some, false, if◌then◌else◌, IsTrue, IfOk, OnOk, OnErr, MatchOption};
+ghost use Rattle.std.specs.Prelude.{◌≡◌, ◌↔◌, ◌≤◌, ◌<◌, ◌^◌, ◌∷◌, ◌++◌, [], length, slice_get, Some, false, true, if◌then◌else◌, IsTrue, IfOk, OnOk, OnErr, MatchOption};
 ghost use Rattle.std.specs.FinSet as set;
 ghost use Rattle.dac_origins.specs.Dots.{dot_cmp, IsNext, IsSubset, IsUsedUp, IsVector};
 ghost use Rattle.dac_origins.specs.InOrder.{in_order};
 ghost use Rattle.dac_origins.specs.Keys.{IsRising};
 ghost use Rattle.dac_dots.specs.DotFilters.{MayHaveAll};
+ghost use Rattle.dac_dots.specs.News.{AreNews, IsDoneOr};
 ghost use Rattle.dac_dots.specs.Rows.{AreRowsOf, CanFollow, rows_of};
 
-use crate::counters::Counters;
+use crate::counters::{Counters, PutAfter};
 use crate::filter::DotFilter;
 use crate::further::Further;
-use crate::rows::{Rows, Unite, ascends_from, has_no_dots, room_after};
+use crate::last_step::LastStep;
+use crate::news::News;
+use crate::rows::{Gapless, Rows, Unite, ascends_from, has_no_dots, room_after};
 use dac_base::{MAX_COUNTER, NoMemory};
 use dac_origins::{Dot, Origin};
 use dac_sorted::SortedMap;
 use std::alloc::Global;
 use std::marker::Model;
+
+/// The greatest number of dots that are looked up in two other sets.
+const MOST_COMPARED: usize = 64;
 
 /// The greatest number of origins for which a filter is filled.
 const MOST_FILLED: usize = 128;
@@ -97,6 +103,80 @@ impl Context {
         Ok(())
     }
 
+    /// The allocator of the set's memory.
+    pub fn allocator(&self) -> Global {
+        self.rows.allocator()
+    }
+
+    /// What the other set has that this one lacks.
+    fn news_of(&self, other: &Self) -> News
+        ensures { AreNews (set.contains self.now) (set.contains other.now) result }
+    {
+        let mut news = News::Nothing;
+        let mut theirs = other.rows.entries();
+        while let Some((origin, counters)) = theirs.next() {
+            let Some(own) = self.rows.get(*origin) else {
+                return News::More;
+            };
+            let Some(more) = counters.news_beside(own) else {
+                return News::More;
+            };
+            let Some(span) = more else {
+                continue;
+            };
+            let News::Nothing = news else {
+                return News::More;
+            };
+            news = News::Consecutive(*origin, span);
+        }
+        news
+    }
+
+    /// Inserts the other set's dots in place, right after a step. Returns false, and does neither, if other contexts
+    /// share this one, or the new dots aren't consecutive dots of an origin that has others. After [`NoMemory`] neither
+    /// has happened.
+    #[inline(always)]
+    pub fn absorb_after<T, S: LastStep<T>>(
+        &mut self,
+        other: &Self,
+        step: &S,
+        target: &mut T,
+    ) -> Result<bool, NoMemory>
+        ensures ok { IfOk result (IsDoneOr
+            ((self.new ≡ set.union self.old other.now)
+            × S.steps step.now target.old target.new)
+            ((self.new ≡ self.old) × (target.new ≡ target.old))) }
+        ensures err { OnErr result ((self.new ≡ self.old) × (target.new ≡ target.old)) }
+    {
+        match self.news_of(other) {
+            News::Nothing => {
+                step.take(target)?;
+                Ok(true)
+            }
+            News::Consecutive(origin, span) => {
+                let how = PutAfter { span, step };
+                self.rows.alter(origin, &how, target)
+            }
+            News::More => Ok(false),
+        }
+    }
+
+    /// Whether each dot of this set, which has few, is in one of both others. If it has many, this can be false.
+    pub fn is_within_both(&self, first: &Self, second: &Self) -> bool
+        ensures { result ≡ true → IsSubset self.now (set.union first.now second.now) }
+    {
+        if !self.has_at_most(MOST_COMPARED) {
+            return false;
+        }
+        let mut entries = self.rows.entries();
+        while let Some((origin, counters)) = entries.next() {
+            if !counters.is_within_both(*origin, first, second) {
+                return false;
+            }
+        }
+        true
+    }
+
     /// The union of both sets.
     #[inline(always)]
     pub fn union(&self, other: &Self) -> Result<Self, NoMemory>
@@ -152,13 +232,7 @@ impl Context {
     pub fn is_vector(&self) -> bool
         ensures { IsTrue result ↔ IsVector self.now }
     {
-        let mut entries = self.rows.entries();
-        while let Some((_, counters)) = entries.next() {
-            if counters.has_gap() {
-                return false;
-            }
-        }
-        true
+        self.rows.all(&Gapless)
     }
 
     /// The number of dots.

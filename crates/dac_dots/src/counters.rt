@@ -1,73 +1,43 @@
 //! Sets of counters, stored as spans of consecutive counters.
-ghost use Rattle.std.specs.Prelude.{◌≡◌, ◌↔◌, ◌+◌, ◌^◌, ◌<◌, ◌≤◌, ◌||◌, ◌&&◌, ◌∷◌, [], false, true, length, nat_le, IfOk, IsTrue, OnErr, OnOk};
+ghost use Rattle.std.specs.Prelude.{◌≡◌, ◌↔◌, ◌+◌, ◌^◌, ◌<◌, ◌≤◌, ◌||◌, ◌&&◌, ◌∷◌, ◌++◌, [], false, true, length, map, nat_le, IfOk, IfSome, IsTrue, OnErr, OnOk};
 ghost use Rattle.std.specs.Ordering.{eq_by_cmp, nat_cmp};
-ghost use Rattle.dac_origins.specs.Dots.{dot, dot_cmp, origin_cmp};
+ghost use Rattle.dac_origins.specs.Dots.{dot};
 ghost use Rattle.dac_origins.specs.Keys.{IsRising, has_key};
 ghost use Rattle.dac_origins.specs.declared.dot.Dot.{Dot};
+ghost use Rattle.std.specs.FinSet as set;
 ghost use Rattle.dac_dots.specs.DotFilters.{may_have};
+ghost use Rattle.dac_dots.specs.News.{AreWithSpan};
 ghost use Rattle.dac_dots.specs.Rows.{IsGreatest, further_of, reach_of};
-ghost use Rattle.dac_dots.specs.Spans.{AreSpans, HaveEnded, any_above, any_span, are_apart, counters_in, past, span_has};
+ghost use Rattle.dac_dots.specs.Spans.{AreSpans, HaveEnded, any_span, are_apart, counters_in, span_has};
 ghost use Rattle.std.specs.List.{slice_get};
-ghost use Rattle.dac_dots.specs.Walking.{counters_left};
+ghost use Rattle.dac_dots.specs.Walking.{counters_after, counters_along, left_of};
 
+use crate::context::Context;
 use crate::filter::DotFilter;
+use crate::further::FurtherIter;
+use crate::last_step::LastStep;
 use crate::spans::{Span, Spans};
 use dac_base::NoMemory;
-use dac_origins::keys::insert_key;
 use dac_origins::{Dot, Origin};
+use dac_sorted::Alter;
 use std::alloc::Global;
 use std::marker::Model;
 
 /// Up to this many spans of another set are inserted one by one; more are merged in one pass over both sets.
 const FEW: usize = 8;
 
-/// Inserts the counters of a span into a sorted list.
-fn list_span(counters: &mut Vec<u64>, span: Span) -> Result<(), NoMemory>
-    requires valid { span.first ≤ span.last }
-    requires rising { IsRising nat_cmp counters.old.items }
-    ensures rising { IsRising nat_cmp counters.new.items }
-    ensures ok { OnOk result ((n : _)
-        → has_key nat_cmp counters.new.items n
-        ≡ (span_has n span || has_key nat_cmp counters.old.items n)) }
-{
-    for n in span.first..span.last {
-        insert_key(counters, n)?;
-    }
-    insert_key(counters, span.last)?;
-    Ok(())
-}
-
-/// Inserts the counters of the spans that begin above `upto` into a sorted list.
-fn list_above(counters: &mut Vec<u64>, upto: u64, spans: &[Span]) -> Result<(), NoMemory>
-    requires valid { AreSpans spans.now }
-    requires rising { IsRising nat_cmp counters.old.items }
-    ensures rising { IsRising nat_cmp counters.new.items }
-    ensures ok { OnOk result ((n : _)
-        → has_key nat_cmp counters.new.items n
-        ≡ (any_above upto spans.now n || has_key nat_cmp counters.old.items n)) }
-{
-    for span in spans {
-        if upto < span.first {
-            list_span(counters, *span)?;
-        }
-    }
-    Ok(())
-}
-
-/// The counter at index `place` among those of the spans that begin above `low`.
-fn counter_above(spans: &[Span], low: u64, place: u128) -> Option<u64>
+/// The counter at index `place` among those of the spans.
+fn counter_at(spans: &[Span], place: u128) -> Option<u64>
     requires { AreSpans spans.now }
-    ensures { result ≡ slice_get (past low spans.now) place }
+    ensures { result ≡ slice_get (counters_along spans.now) place }
 {
     let mut left = place;
     for span in spans {
-        if low < span.first {
-            let len = span.len();
-            if left < len {
-                return Some(span.at(left));
-            }
-            left -= len;
+        let len = span.len();
+        if left < len {
+            return Some(span.at(left));
         }
+        left -= len;
     }
     None
 }
@@ -85,40 +55,6 @@ fn fill_span(origin: Origin, span: Span, filter: &mut DotFilter)
         origin,
         n: span.last,
     });
-}
-
-/// Inserts the origin's dots with counters in the span into a sorted list.
-fn put_span_dots(origin: Origin, span: Span, dots: &mut Vec<Dot>) -> Result<(), NoMemory>
-    requires valid { span.first ≤ span.last }
-    requires rising { IsRising dot_cmp dots.old.items }
-    ensures rising { IsRising dot_cmp dots.new.items }
-    ensures ok { OnOk result ((q : Dot)
-        → has_key dot_cmp dots.new.items q
-        ≡ ((eq_by_cmp origin_cmp q.origin origin && span_has q.n span)
-        || has_key dot_cmp dots.old.items q)) }
-{
-    for n in span.first..span.last {
-        put_dot(dots, Dot { origin, n })?;
-    }
-    let n = span.last;
-    put_dot(dots, Dot { origin, n })?;
-    Ok(())
-}
-
-/// Inserts a dot into a sorted list, unless it is there. Compares with the last dot first, because most dots are
-/// appended.
-fn put_dot(dots: &mut Vec<Dot>, dot: Dot) -> Result<(), NoMemory>
-    requires { IsRising dot_cmp dots.old.items }
-    ensures rising { IsRising dot_cmp dots.new.items }
-    ensures ok { OnOk result ((q : _)
-        → has_key dot_cmp dots.new.items q
-        ≡ (eq_by_cmp dot_cmp q dot || has_key dot_cmp dots.old.items q)) }
-{
-    match dots.last() {
-        Some(last) if last.cmp(&dot).is_lt() => dots.push(dot)?,
-        _ => insert_key(dots, dot)?,
-    }
-    Ok(())
 }
 
 /// The number of spans that end before a counter. Tries the first span first, because a set without gaps is one span.
@@ -189,6 +125,7 @@ impl Counters {
     fn spans(&self) -> &[Span]
         ensures value { counters_in result.now ≡ self.now }
         ensures apart { are_apart 0 result.now ≡ true }
+        ensures valid { AreSpans result.now }
     {
         self.spans.as_slice()
     }
@@ -237,16 +174,6 @@ impl Counters {
         ensures { IsRising nat_cmp self.now }
     {
         let _spans = &self.spans;
-    }
-
-    /// Whether there are counters outside 1 to `upto`.
-    pub(crate) fn has_gap(&self) -> bool
-        ensures { IsTrue result ↔ (1 ≤ length (further_of (reach_of self.now) self.now)) }
-    {
-        match self.further_spans() {
-            (Some(_), _) => true,
-            (None, spans) => !spans.is_empty(),
-        }
     }
 
     /// Whether the set contains each counter of a span.
@@ -341,6 +268,39 @@ impl Counters {
         merge_spans(self.alloc, self.spans(), theirs)
     }
 
+    /// The span of this set that isn't in the other one, or `None` if there is none. `None` instead of both if there are
+    /// more.
+    pub(crate) fn news_beside(&self, other: &Self) -> Option<Option<Span>>
+        ensures { IfSome result
+            (AreWithSpan (has_key nat_cmp self.now) (has_key nat_cmp other.now)) }
+    {
+        let mut news = None;
+        for span in self.spans() {
+            if other.has_span(*span) {
+                continue;
+            }
+            if news.is_some() {
+                return None;
+            }
+            news = Some(*span);
+        }
+        Some(news)
+    }
+
+    /// Whether each counter of the origin in this set is in one of both contexts.
+    pub(crate) fn is_within_both(&self, origin: Origin, first: &Context, second: &Context) -> bool
+        ensures { result ≡ true → (n : _) → has_key nat_cmp self.now n ≡ true
+            → (set.contains first.now (dot origin n) || set.contains second.now (dot origin n))
+            ≡ true }
+    {
+        for span in self.spans() {
+            if !span_within_both(origin, *span, first, second) {
+                return false;
+            }
+        }
+        true
+    }
+
     /// Whether this set is a subset of the other one.
     pub(crate) fn is_subset(&self, other: &Self) -> bool
         ensures { IsTrue result
@@ -364,14 +324,25 @@ impl Counters {
         }
     }
 
+    /// The last counter before the first gap, or 0 if the set lacks 1, and the spans after it.
+    fn split_at_gap(&self) -> (u64, &[Span])
+        ensures upto { result.0 ≡ reach_of self.now }
+        ensures rest { counters_after (has_key nat_cmp self.now 0) result.1.now
+            ≡ further_of (reach_of self.now) self.now }
+        ensures valid { AreSpans result.1.now }
+    {
+        let spans = self.spans();
+        match spans.split_first() {
+            Some((first, rest)) if first.first <= 1 => (first.last, rest),
+            _ => (0, spans),
+        }
+    }
+
     /// The last counter before the first gap, or 0 if the set lacks 1.
     pub(crate) fn upto(&self) -> u64
         ensures { result ≡ reach_of self.now }
     {
-        match self.spans().first() {
-            Some(span) if span.first <= 1 => span.last,
-            _ => 0,
-        }
+        self.split_at_gap().0
     }
 
     /// The number of counters.
@@ -386,47 +357,30 @@ impl Counters {
         len
     }
 
-    /// The counters outside 1 to `upto`, in ascending order.
-    pub(crate) fn further(&self, alloc: Global) -> Result<Vec<u64>, NoMemory>
-        ensures { IfOk result (λ further. further.items ≡ further_of (reach_of self.now) self.now) }
+    /// Whether the set contains 0, and the spans after the first gap: their counters are those outside 1 to `upto`.
+    pub(crate) fn further(&self) -> (bool, &[Span])
+        ensures value { counters_after result.0 result.1.now ≡ further_of (reach_of self.now) self.now }
+        ensures valid { AreSpans result.1.now }
     {
-        let mut further = Vec::new(alloc);
-        if self.contains(0) {
-            insert_key(&mut further, 0)?;
-        }
-        list_above(&mut further, self.upto(), self.spans())?;
-        Ok(further)
+        (self.contains(0), self.split_at_gap().1)
     }
 
     /// The counter at index `place` among those outside 1 to `upto`, in ascending order.
     pub(crate) fn further_at(&self, place: u128) -> Option<u64>
         ensures { result ≡ slice_get (further_of (reach_of self.now) self.now) place }
     {
-        let spans = self.spans();
-        let mut left = place;
-        if self.contains(0) {
-            if left == 0 {
-                return Some(0);
-            }
-            left -= 1;
+        match self.further() {
+            (false, spans) => counter_at(spans, place),
+            (true, _) if place == 0 => Some(0),
+            (true, spans) => counter_at(spans, place - 1),
         }
-        counter_above(spans, self.upto(), left)
     }
 
-    /// The spans of the counters outside 1 to `upto`: that of 0 if the set contains it, and those after the first gap.
-    pub(crate) fn further_spans(&self) -> (Option<Span>, &[Span])
-        ensures { counters_left result.0 result.1.now ≡ further_of (reach_of self.now) self.now }
+    /// Iterates over the counters in ascending order.
+    fn iter(&self) -> FurtherIter<'_>
+        ensures { left_of result ≡ self.now }
     {
-        let zero = if self.contains(0) {
-            Some(Span { first: 0, last: 0 })
-        } else {
-            None
-        };
-        let spans = self.spans();
-        match spans.split_first() {
-            Some((first, rest)) if first.first <= 1 => (zero, rest),
-            _ => (zero, spans),
-        }
+        FurtherIter::of(false, self.spans())
     }
 
     /// Sets the slot of each dot of the origin whose counter is in the set.
@@ -441,19 +395,67 @@ impl Counters {
         }
     }
 
-    /// Inserts the origin's dots with counters in the set into a sorted list.
+    /// Appends the origin's dots with counters in the set, in the order of counters.
     pub(crate) fn put_dots(&self, origin: Origin, dots: &mut Vec<Dot>) -> Result<(), NoMemory>
-        requires { IsRising dot_cmp dots.old.items }
-        ensures rising { IsRising dot_cmp dots.new.items }
-        ensures ok { OnOk result ((q : Dot)
-            → has_key dot_cmp dots.new.items q
-            ≡ ((eq_by_cmp origin_cmp q.origin origin && has_key nat_cmp self.now q.n)
-            || has_key dot_cmp dots.old.items q)) }
+        ensures { OnOk result (dots.new.items ≡ dots.old.items ++ map (dot origin) self.now) }
     {
-        for span in self.spans() {
-            put_span_dots(origin, *span, dots)?;
+        let mut counters = self.iter();
+        while let Some(n) = counters.next() {
+            dots.push(Dot { origin, n })?;
         }
         Ok(())
+    }
+}
+
+/// Whether each counter of the origin in a span is in one of both contexts.
+fn span_within_both(origin: Origin, span: Span, first: &Context, second: &Context) -> bool
+    requires { span.first ≤ span.last }
+    ensures { result ≡ true → (n : _) → span_has n span ≡ true
+        → (set.contains first.now (dot origin n) || set.contains second.now (dot origin n)) ≡ true }
+{
+    for n in span.first..span.last {
+        if !is_in_either(first, second, Dot { origin, n }) {
+            return false;
+        }
+    }
+    let last = Dot {
+        origin,
+        n: span.last,
+    };
+    is_in_either(first, second, last)
+}
+
+/// Whether a dot is in one of both contexts.
+fn is_in_either(first: &Context, second: &Context, dot: Dot) -> bool
+    ensures { result ≡ (set.contains first.now dot || set.contains second.now dot) }
+{
+    first.contains(dot) || second.contains(dot)
+}
+
+/// Inserts the counters of a span right after a step.
+#[derive(Drop)]
+pub(crate) struct PutAfter<'a, S> {
+    pub(crate) span: Span,
+    pub(crate) step: &'a S,
+    ghost valid: { span.first ≤ span.last },
+}
+
+impl<T, S: LastStep<T>> Alter<Counters, T> for PutAfter<'_, S> {
+    ghost use Rattle.std.specs.Prelude.{◌≡◌, ℕ, ◌||◌};
+    ghost use Rattle.std.specs.Ordering.{nat_cmp};
+    ghost use Rattle.dac_origins.specs.Keys.{IsRising, has_key};
+    ghost use Rattle.dac_dots.specs.Spans.{span_has};
+
+    ghost does = { λ a ns t ms u. IsRising nat_cmp ms
+        × (((n : ℕ) → has_key nat_cmp ms n ≡ (span_has n a.span || has_key nat_cmp ns n))
+        × S.steps a.step.now t u) };
+
+    #[inline(always)]
+    fn alter(&self, counters: &mut Counters, target: &mut T) -> Result<(), NoMemory> {
+        let alloc = counters.alloc;
+        counters
+            .spans
+            .put_after(alloc, self.span, self.step, target)
     }
 }
 

@@ -42,7 +42,22 @@ impl<'a> FilteredContext<'a> {
     pub fn of(context: &'a Context, asked: usize) -> Self
         ensures { result ≡ context.now }
     {
-        let filter = filter_of(context, asked);
+        if asked >= MIN_TESTS && context.has_at_most(MAX_FILTERED_DOTS) {
+            return Self::filled(context);
+        }
+        FilteredContext {
+            context,
+            filter: DotFilter::all(),
+        }
+    }
+
+    /// This context, which has few dots, for several membership tests.
+    #[inline(always)]
+    pub fn filled(context: &'a Context) -> Self
+        ensures { result ≡ context.now }
+    {
+        let mut filter = DotFilter::none();
+        context.fill(&mut filter);
         FilteredContext { context, filter }
     }
 
@@ -67,16 +82,4 @@ impl<'a> FilteredContext<'a> {
     {
         self.filter.has(dot) && self.context.contains(dot)
     }
-}
-
-/// A filter that contains all dots of a context, for about `asked` membership tests.
-fn filter_of(context: &Context, asked: usize) -> DotFilter
-    ensures { MayHaveAll result.slots context.now }
-{
-    if asked < MIN_TESTS || !context.has_at_most(MAX_FILTERED_DOTS) {
-        return DotFilter::all();
-    }
-    let mut filter = DotFilter::none();
-    context.fill(&mut filter);
-    filter
 }

@@ -1,7 +1,7 @@
 //! The further counters of an origin.
 ghost use Rattle.std.specs.Prelude.{◌≡◌, ◌↔◌, [], length, IfOk, IsTrue};
 ghost use Rattle.std.specs.List.{slice_get};
-ghost use Rattle.dac_dots.specs.Walking.{left_of};
+ghost use Rattle.dac_dots.specs.Walking.{counters_after, left_of};
 
 use crate::counters::Counters;
 use crate::spans::Span;
@@ -34,7 +34,12 @@ impl<'a> Further<'a> {
     pub fn list(&self, alloc: Global) -> Result<Vec<u64>, NoMemory>
         ensures { IfOk result (λ further. further.items ≡ self.now) }
     {
-        self.counters.further(alloc)
+        let mut further = Vec::new(alloc);
+        let mut rest = self.iter();
+        while let Some(n) = rest.next() {
+            further.push(n)?;
+        }
+        Ok(further)
     }
 
     /// The counter at index `place`. The time grows with the number of gaps before it.
@@ -48,8 +53,8 @@ impl<'a> Further<'a> {
     pub fn iter(&self) -> FurtherIter<'a>
         ensures { left_of result ≡ self.now }
     {
-        let (span, spans) = self.counters.further_spans();
-        FurtherIter { span, spans }
+        let (has_zero, spans) = self.counters.further();
+        FurtherIter::of(has_zero, spans)
     }
 
     /// The number of counters.
@@ -74,6 +79,20 @@ pub struct FurtherIter<'a> {
     span: Option<Span>,
     /// The spans after it.
     spans: &'a [Span],
+}
+
+impl<'a> FurtherIter<'a> {
+    /// Iterates over 0, if the set has it, and the counters of these spans.
+    pub(crate) fn of(has_zero: bool, spans: &'a [Span]) -> Self
+        ensures { left_of result ≡ counters_after has_zero spans.now }
+    {
+        let span = if has_zero {
+            Some(Span { first: 0, last: 0 })
+        } else {
+            None
+        };
+        FurtherIter { span, spans }
+    }
 }
 
 impl<'a> Iterator for FurtherIter<'a> {

@@ -6,7 +6,7 @@ ghost use Rattle.dac_dots.specs.Rows.{rises_on};
 use crate::counters::Counters;
 use dac_base::NoMemory;
 use dac_origins::Origin;
-use dac_sorted::{Combine, Digest, Sharing};
+use dac_sorted::{Combine, Digest, Predicate, Sharing};
 
 /// The digest of counters, which says nothing of them.
 #[derive(Clone, Copy, Debug)]
@@ -74,6 +74,21 @@ impl Sharing<Origin, Counters, Rows> for Unite {
 
     fn is_same(&self, mine: &Counters, theirs: &Counters) -> bool {
         theirs.is_subset(mine)
+    }
+}
+
+/// Whether an origin's counters have no gap.
+#[derive(Drop)]
+pub(crate) struct Gapless;
+
+impl Predicate<Origin, Counters, Rows> for Gapless {
+    ghost use Rattle.std.specs.Prelude.{◌≡◌, length};
+    ghost use Rattle.dac_dots.specs.Rows.{further_of, reach_of};
+
+    ghost holds = { λ _ _ ns. length (further_of (reach_of ns) ns) ≡ 0 };
+
+    fn passes(&self, _origin: Origin, counters: &Counters) -> bool {
+        counters.further_at(0).is_none()
     }
 }
 

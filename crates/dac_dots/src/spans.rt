@@ -2,6 +2,7 @@
 ghost use Rattle.std.specs.Prelude.{◌≡◌, ◌+◌, ◌-◌, ◌^◌, ◌<◌, ◌≤◌, ◌⊎◌, ◌||◌, ◌∷◌, [], false, true, length, nat_le, nat_lt, take, drop, vec_capacity, IfOk, OnErr, OnOk};
 ghost use Rattle.dac_dots.specs.Spans.{IsPlaceFor, absorbed, any_span, are_apart, hull, rest_of, span_has, spans_of};
 
+use crate::last_step::LastStep;
 use dac_base::NoMemory;
 use std::alloc::Global;
 use std::slice::from_ref;
@@ -128,6 +129,45 @@ impl Spans {
     }
 }
 
+impl Spans {
+    /// Inserts the counters of a span right after a step. After [`NoMemory`] neither has happened.
+    pub(crate) fn put_after<T, S: LastStep<T>>(
+        &mut self,
+        alloc: Global,
+        span: Span,
+        step: &S,
+        target: &mut T,
+    ) -> Result<(), NoMemory>
+        requires valid { span.first ≤ span.last }
+        requires apart { are_apart 0 (spans_of self.old) ≡ true }
+        ensures apart { are_apart 0 (spans_of self.new) ≡ true }
+        ensures ok { OnOk result ((n : _)
+            → any_span (spans_of self.new) n
+            ≡ (span_has n span || any_span (spans_of self.old) n)) }
+        ensures step { OnOk result (S.steps step.now target.old target.new) }
+        ensures err { OnErr result
+            ((spans_of self.new ≡ spans_of self.old) × (target.new ≡ target.old)) }
+    {
+        match self {
+            Spans::Empty => {
+                step.take(target)?;
+                *self = Spans::One(span);
+            }
+            Spans::One(single) => {
+                let both = one_or_two(alloc, *single, span)?;
+                step.take(target)?;
+                *self = both;
+            }
+            Spans::Listed(spans) => {
+                spans.reserve(1)?;
+                step.take(target)?;
+                put_among(spans, span)?;
+            }
+        }
+        Ok(())
+    }
+}
+
 /// A list of the same spans, with room for one more.
 fn copy_listed(alloc: Global, spans: &[Span]) -> Result<Vec<Span>, NoMemory>
     ensures { IfOk result (λ copied. copied.items ≡ spans.now) }
@@ -164,7 +204,7 @@ fn two(alloc: Global, lower: Span, upper: Span) -> Result<Spans, NoMemory>
     Ok(Spans::Listed(both))
 }
 
-/// Inserts the counters of a span into a list of spans. Allocates nothing if all are there.
+/// Inserts the counters of a span into a list of spans. Allocates nothing if all are there, or there is room.
 fn put_among(spans: &mut Vec<Span>, span: Span) -> Result<(), NoMemory>
     requires valid { span.first ≤ span.last }
     requires apart { are_apart 0 spans.old.items ≡ true }
@@ -174,6 +214,7 @@ fn put_among(spans: &mut Vec<Span>, span: Span) -> Result<(), NoMemory>
     ensures err { OnErr result (spans.new.items ≡ spans.old.items) }
     ensures first { OnErr result
         ((n : _) → span_has n span ≡ true → any_span spans.old.items n ≡ false) }
+    ensures full { OnErr result (vec_capacity spans.old ≤ length spans.old.items) }
 {
     let place = place_for(spans, span);
     let joined = absorb_touching(spans, place, span);
@@ -187,6 +228,7 @@ fn absorb_touching(spans: &mut Vec<Span>, place: usize, span: Span) -> Span
     ensures value { absorbed span (drop place spans.old.items) ≡ result ∷ drop place spans.new.items }
     ensures room { ((spans.new.items ≡ spans.old.items) × (result ≡ span))
         ⊎ (length spans.new.items < vec_capacity spans.new) }
+    ensures capacity { vec_capacity spans.new ≡ vec_capacity spans.old }
 {
     let mut joined = span;
     while place < spans.len() && joined.reaches(spans[place]) {

@@ -4,6 +4,7 @@ pub mod Flags
 pub mod Entries
 pub mod Merges
 pub mod Search
+pub mod Altered
 pub mod Maps
 pub mod Pieces
 pub mod laws

@@ -3,6 +3,7 @@ ghost use Rattle.std.specs.Prelude.{◌≡◌, ◌++◌, [], length, None, Some,
 ghost use Rattle.std.specs.List.Sorted.{IsSearchInRange, IsBinarySearchResult};
 ghost use Rattle.std.specs.Option.{option_copied};
 ghost use Rattle.std.specs.FinMap.{find, put};
+ghost use Rattle.dac_lattice.specs.Altered.{Altering, IsAlteredIf};
 ghost use Rattle.dac_lattice.specs.Entries.{merge_entries, keep};
 ghost use Rattle.dac_lattice.specs.Merges.{lowest_of, keep_lowest};
 ghost use Rattle.dac_lattice.specs.Search.{IsInOrder, IsPlaceOf, without};
@@ -184,5 +185,40 @@ pub fn remove_entry<K: MapKey, X: Drop>(entries: &mut Vec<(K, X)>, key: K)
 {
     if let Ok(place) = place_of(entries, key) {
         let _removed = entries.remove(place);
+    }
+}
+
+/// A change of a value in place, and of a target with it.
+pub trait Alter<X, T> {
+    /// What the change does to both.
+    ghost does: { Self → X → T → X → T → Type 0 };
+
+    /// Changes both. After [`NoMemory`] both are unchanged.
+    fn alter(&self, value: &mut X, target: &mut T) -> Result<(), NoMemory>
+        ensures ok { OnOk result (does self.now value.old target.old value.new target.new) }
+        ensures err { OnErr result ((value.new ≡ value.old) × (target.new ≡ target.old)) };
+}
+
+/// Changes the value at a key of a list in key order, and a target with it. Returns false, and changes nothing, if the
+/// key is absent. After [`NoMemory`] both are unchanged.
+pub fn alter_entry<K: MapKey, X: Drop, T, C: Alter<X, T>>(
+    entries: &mut Vec<(K, X)>,
+    key: K,
+    how: &C,
+    target: &mut T,
+) -> Result<bool, NoMemory>
+    requires { IsInOrder K.cmp entries.old.items }
+    ensures ok { IfOk result (IsAlteredIf K.cmp (C.does how.now) key entries.old.items target.old
+        entries.new.items target.new) }
+    ensures err { OnErr result
+        ((entries.new.items ≡ entries.old.items) × (target.new ≡ target.old)) }
+{
+    match place_of(entries, key) {
+        Ok(place) => {
+            let entry = &mut entries[place];
+            how.alter(&mut entry.1, target)?;
+            Ok(true)
+        }
+        Err(_) => Ok(false),
     }
 }

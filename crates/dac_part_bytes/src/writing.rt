@@ -11,7 +11,7 @@ use dac_bytes::{ByteWriter, Version};
 use dac_chains::{Claim, Claims, How, Life, Lives};
 use dac_lattice::Flag;
 use dac_origins::{Dot, Origin};
-use dac_wishes::{Drains, Key, Permissions, Wishes};
+use dac_wishes::{DrainsRef, Key, PermissionsRef, WishesRef};
 
 /// A key: its application in two bytes, its node in one, and its incarnation in four or eight.
 pub fn write_key(writer: ByteWriter, version: Version, key: Key) -> Result<ByteWriter, NoMemory>
@@ -116,7 +116,7 @@ fn write_permits(
 pub fn write_permissions(
     writer: ByteWriter,
     version: Version,
-    permissions: &Permissions,
+    permissions: &PermissionsRef<'_>,
 ) -> Result<ByteWriter, NoMemory>
     ensures { IfOk result
         (λ written. written ≡ writer ++ permits_bytes version permissions.now.standing) }
@@ -146,7 +146,7 @@ fn write_drains_of(
 
 /// The standing drains in version two.
 #[tactic(auto, unfolding(crate::specs::Spelling::votes_bytes))]
-fn write_all_drains(writer: ByteWriter, drains: &Drains) -> Result<ByteWriter, NoMemory>
+fn write_all_drains(writer: ByteWriter, drains: &DrainsRef<'_>) -> Result<ByteWriter, NoMemory>
     ensures { IfOk result (λ written. written
         ≡ writer ++ votes_bytes origin_cmp (origin_bytes Two) Two Down drains.now.standing) }
 {
@@ -164,7 +164,7 @@ fn write_all_drains(writer: ByteWriter, drains: &Drains) -> Result<ByteWriter, N
 pub fn write_drains(
     writer: ByteWriter,
     version: Version,
-    drains: &Drains,
+    drains: &DrainsRef<'_>,
 ) -> Result<ByteWriter, NoMemory>
     ensures { IfOk result
         (λ written. written ≡ writer ++ drains_bytes version drains.now.standing) }
@@ -203,7 +203,7 @@ fn write_dots(
 pub fn write_wishes(
     writer: ByteWriter,
     version: Version,
-    wishes: &Wishes,
+    wishes: &WishesRef<'_>,
 ) -> Result<ByteWriter, NoMemory>
     ensures { IfOk result
         (λ written. written ≡ writer ++ starts_bytes version wishes.now.standing) }

@@ -56,7 +56,7 @@ module _ {K X : Type 0} {R : K → K → Ordering} (o : IsTotalOrder R) where
   counted_put m new k v count s counted few is =
       subst (λ es. IsCounted R es count) (sym is) (record { in_order = is_sorted-put R o k v m s; counted = counted; few = few })
 
-  some_put : (k : K) (v : X) (es : List (K × X)) → 0 < length (put R k v es)
+  pub some_put : (k : K) (v : X) (es : List (K × X)) → 0 < length (put R k v es)
   some_put k v [] = omega arith
   some_put k v (e ∷ es) = elim (R k e.0) as (λ r. 0 < length (by_order r ((k, v) ∷ e ∷ es) ((e.0, v) ∷ es) (e ∷ put R k v es))) [
     | Less ↦ omega arith

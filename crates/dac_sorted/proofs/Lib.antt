@@ -5,3 +5,4 @@ mod ChangeLemmas
 mod ReplaceLemmas
 mod SeekLemmas
 mod ChunkLemmas
+mod AlterLemmas

@@ -137,7 +137,7 @@ module _ {K X : Type 0} {R : K → K → Ordering} (o : IsTotalOrder R) (exact :
       ∙ find_past k xs ys (and_parts _ _ h).1
 
   -- in a part with a key that isn't below the key
-  find_here : (k : K) (xs ys : List (K × X)) → IsInOrder R (xs ++ ys) → is_above_entries R xs k ≡ false → find R k (xs ++ ys) ≡ find R k xs
+  pub find_here : (k : K) (xs ys : List (K × X)) → IsInOrder R (xs ++ ys) → is_above_entries R xs k ≡ false → find R k (xs ++ ys) ≡ find R k xs
   find_here k [] ys s h = absurd (false≢true (sym h))
   find_here k (x ∷ xs) ys s h = elim (R x.0 k) as (λ r. R x.0 k ≡ r → find R k (x ∷ xs ++ ys) ≡ find R k (x ∷ xs)) [
     | Less ↦ λ e. ap (λ f. cond (eq_by_cmp R k x.0) (Some x.1) f) (find_here k xs ys (second _ _ s) (sym (ap (λ r. is_lt r && is_above_entries R xs k) e) ∙ h))

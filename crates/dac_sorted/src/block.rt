@@ -1,12 +1,13 @@
 //! Blocks of entries, which maps share.
 ghost use Rattle.std.specs.Prelude.{◌≡◌, IfOk, OnOk, OnErr};
 ghost use Rattle.std.specs.Arc.{arc_value};
+ghost use Rattle.dac_lattice.specs.Altered.{IsAlteredIf};
 ghost use Rattle.dac_lattice.specs.Search.{IsInOrder};
 ghost use Rattle.dac_sorted.specs.Digests.{SaysAll};
 ghost use Rattle.dac_sorted.specs.Parts.{changed};
 
 use crate::digest::Digest;
-use dac_lattice::merging::{put_entry, remove_entry};
+use dac_lattice::merging::{Alter, alter_entry, put_entry, remove_entry};
 use dac_origins::{MapKey, NoMemory};
 use std::alloc::Global;
 use std::marker::Model;
@@ -66,6 +67,26 @@ impl<K: MapKey, V: Drop, D: Digest<K, V>> Block<K, V, D> {
         // A digest only gains entries, so the one of the new entries is made anew.
         self.digest = digest_of(&self.entries);
         Ok(())
+    }
+
+    /// Changes the value at a key in place, and a target with it. Returns false, and changes nothing, if the key is
+    /// absent. After [`NoMemory`] both are unchanged.
+    pub(crate) fn alter<T, C: Alter<V, T>>(
+        &mut self,
+        key: K,
+        how: &C,
+        target: &mut T,
+    ) -> Result<bool, NoMemory>
+        requires { IsInOrder K.cmp self.old }
+        ensures ok { IfOk result (IsAlteredIf K.cmp (C.does how.now) key self.old target.old
+            self.new target.new) }
+        ensures err { OnErr result ((self.new ≡ self.old) × (target.new ≡ target.old)) }
+    {
+        if !alter_entry(&mut self.entries, key, how, target)? {
+            return Ok(false);
+        }
+        self.digest = digest_of(&self.entries);
+        Ok(true)
     }
 }
 

@@ -4,6 +4,7 @@ ghost use Rattle.std.specs.Arc.{arc_value};
 ghost use Rattle.std.specs.List.{flat_map};
 ghost use Rattle.std.specs.Option.{option_copied};
 ghost use Rattle.std.specs.FinMap.{find, put};
+ghost use Rattle.dac_lattice.specs.Altered.{IsAlteredIf};
 ghost use Rattle.dac_lattice.specs.Search.{IsInOrder, without};
 ghost use Rattle.dac_sorted.specs.Appending.{is_above_entries};
 ghost use Rattle.dac_sorted.specs.Parts.{HaveEntries};
@@ -11,6 +12,7 @@ ghost use Rattle.dac_sorted.specs.Parts.{HaveEntries};
 use crate::block::Block;
 use crate::digest::Digest;
 use crate::parts::Parts;
+use dac_lattice::merging::Alter;
 use dac_origins::{MapKey, NoMemory};
 use std::alloc::{AllocError, Global};
 use std::marker::Model;
@@ -144,6 +146,21 @@ impl<K: MapKey, V: Drop, D: Digest<K, V>> Counted<K, V, D> {
             Some(_) => Some(self.count),
             None => one_more(self.count),
         }
+    }
+
+    /// Changes the value at a key in place, and a target with it. Returns false, and changes nothing, if the key is
+    /// absent or its block is shared. After [`NoMemory`] nothing has changed.
+    pub(crate) fn alter<T, C: Alter<V, T>>(
+        &mut self,
+        key: K,
+        how: &C,
+        target: &mut T,
+    ) -> Result<bool, NoMemory>
+        ensures ok { IfOk result (IsAlteredIf K.cmp (C.does how.now) key self.old target.old
+            self.new target.new) }
+        ensures err { OnErr result ((self.new ≡ self.old) × (target.new ≡ target.old)) }
+    {
+        self.parts.alter(key, how, target)
     }
 
     /// Removes a key, if it is there. After [`NoMemory`] nothing has changed.

@@ -1,15 +1,17 @@
 //! Sorted maps whose copies share memory.
-ghost use Rattle.std.specs.Prelude.{◌≡◌, ◌↔◌, ◌<◌, ◌^◌, [], ◌∷◌, ◌++◌, length, true, IsTrue, IfOk, OnOk, OnErr};
+ghost use Rattle.std.specs.Prelude.{◌≡◌, ◌↔◌, ◌<◌, ◌^◌, [], ◌∷◌, ◌++◌, length, true, Some, IsTrue, IfOk, OnOk, OnErr};
 ghost use Rattle.std.specs.Arc.{arc_value};
 ghost use Rattle.std.specs.List.{flat_map, slice_get};
 ghost use Rattle.std.specs.Option.{option_copied};
 ghost use Rattle.std.specs.FinMap.{find, put};
-ghost use Rattle.dac_lattice.specs.Entries.{merge_entries};
+ghost use Rattle.dac_lattice.specs.Altered.{IsAlteredIf};
+ghost use Rattle.dac_lattice.specs.Entries.{keep, merge_entries};
 ghost use Rattle.dac_lattice.specs.Search.{IsInOrder, without};
 ghost use Rattle.dac_sorted.specs.Appending.{is_above_entries};
 ghost use Rattle.dac_sorted.specs.Digests.{SaysAll};
 ghost use Rattle.dac_sorted.specs.Parts.{HaveEntries};
 
+use crate::appending::ends_below;
 use crate::block::Block;
 use crate::chunks::Chunks;
 use crate::counted::Counted;
@@ -17,21 +19,34 @@ use crate::digest::Digest;
 use crate::entries::Entries;
 use crate::merging::merge_parts;
 use crate::parts::Parts;
+use crate::predicate::{Predicate, chunk_passes};
 use crate::sharing::Sharing;
-use crate::test::{Test, chunk_passes};
+use crate::single::Single;
+use dac_lattice::merging::{Alter, value_at};
 use dac_origins::{MapKey, NoMemory};
 use std::alloc::Global;
 use std::marker::Model;
 use std::sync::Arc;
 
+/// The entries of a map, which its copies share.
+#[derive(Drop)]
+enum Kept<K: MapKey, V: Drop, D: Digest<K, V>> {
+    /// No entries.
+    Nothing,
+    /// A single entry, which needs no list.
+    One(Arc<Single<(K, V)>, Global>),
+    /// A list of entries.
+    Many(Arc<Counted<K, V, D>, Global>),
+}
+
 /// A map from keys to values. Contracts treat it as the list of its entries in key order.
 ///
 /// Copies share all entries, so a copy only increments a reference count. A change copies what it must and others share:
-/// a block, or the entries in no block. An empty map needs no allocation.
+/// a block, or the entries in no block. An empty map needs no allocation, and one with a single entry needs one.
 #[derive(Drop)]
 pub struct SortedMap<K: MapKey, V: Drop, D: Digest<K, V>> {
     alloc: Global,
-    kept: Option<Arc<Counted<K, V, D>, Global>>,
+    kept: Kept<K, V, D>,
 }
 
 impl<K: MapKey, V: Drop, D: Digest<K, V>> Model for SortedMap<K, V, D> {
@@ -48,7 +63,39 @@ impl<K: MapKey, V: Drop, D: Digest<K, V>> SortedMap<K, V, D> {
     pub fn empty(alloc: Global) -> Self
         ensures { result ≡ [] }
     {
-        SortedMap { alloc, kept: None }
+        SortedMap {
+            alloc,
+            kept: Kept::Nothing,
+        }
+    }
+
+    /// The map of one entry.
+    fn one(alloc: Global, key: K, value: V) -> Result<Self, NoMemory>
+        ensures { IfOk result (λ map. map ≡ (key, value) ∷ []) }
+    {
+        let entry = Single::of(alloc, (key, value))?;
+        Ok(SortedMap {
+            alloc,
+            kept: Kept::One(entry),
+        })
+    }
+
+    /// The map of one entry, in which a value is put at a key.
+    fn two(alloc: Global, entry: &(K, V), key: K, value: V) -> Result<Self, NoMemory>
+        ensures { IfOk result (λ map. map ≡ put K.cmp key value (entry.now ∷ [])) }
+    {
+        let (other, kept) = entry;
+        if key.cmp(other).is_eq() {
+            return Self::one(alloc, *other, value);
+        }
+        let mut counted = Counted::empty(alloc);
+        counted.push(*other, D::copy(kept)?)?;
+        counted.put(key, value)?;
+        let kept = Arc::new(alloc, counted)?;
+        Ok(SortedMap {
+            alloc,
+            kept: Kept::Many(kept),
+        })
     }
 
     /// The map of these entries.
@@ -63,7 +110,7 @@ impl<K: MapKey, V: Drop, D: Digest<K, V>> SortedMap<K, V, D> {
         let kept = Arc::new(alloc, counted)?;
         Ok(SortedMap {
             alloc,
-            kept: Some(kept),
+            kept: Kept::Many(kept),
         })
     }
 
@@ -71,7 +118,7 @@ impl<K: MapKey, V: Drop, D: Digest<K, V>> SortedMap<K, V, D> {
     pub fn tells_order(&self)
         ensures { IsInOrder K.cmp self.now }
     {
-        if let Some(kept) = &self.kept {
+        if let Kept::Many(kept) = &self.kept {
             kept.tells_invariant();
         }
     }
@@ -86,8 +133,9 @@ impl<K: MapKey, V: Drop, D: Digest<K, V>> SortedMap<K, V, D> {
         ensures { IfOk result (λ copied. copied ≡ self.now) }
     {
         let kept = match &self.kept {
-            Some(kept) => Some(Arc::try_clone(kept)?),
-            None => None,
+            Kept::Nothing => Kept::Nothing,
+            Kept::One(entry) => Kept::One(Arc::try_clone(entry)?),
+            Kept::Many(kept) => Kept::Many(Arc::try_clone(kept)?),
         };
         Ok(SortedMap {
             alloc: self.alloc,
@@ -101,8 +149,9 @@ impl<K: MapKey, V: Drop, D: Digest<K, V>> SortedMap<K, V, D> {
         ensures few { result < 2 ^ 63 }
     {
         match &self.kept {
-            Some(kept) => kept.len(),
-            None => 0,
+            Kept::Nothing => 0,
+            Kept::One(_) => 1,
+            Kept::Many(kept) => kept.len(),
         }
     }
 
@@ -111,8 +160,9 @@ impl<K: MapKey, V: Drop, D: Digest<K, V>> SortedMap<K, V, D> {
         ensures { option_copied result ≡ find K.cmp key self.now }
     {
         match &self.kept {
-            Some(kept) => kept.get(key),
-            None => None,
+            Kept::Nothing => None,
+            Kept::One(entry) => value_at(entry.as_slice(), key),
+            Kept::Many(kept) => kept.get(key),
         }
     }
 
@@ -136,8 +186,9 @@ impl<K: MapKey, V: Drop, D: Digest<K, V>> SortedMap<K, V, D> {
         ensures { result ≡ is_above_entries K.cmp self.now key }
     {
         match &self.kept {
-            Some(kept) => kept.end_below(key),
-            None => true,
+            Kept::Nothing => true,
+            Kept::One(entry) => ends_below(entry.as_slice(), key),
+            Kept::Many(kept) => kept.end_below(key),
         }
     }
 
@@ -147,8 +198,9 @@ impl<K: MapKey, V: Drop, D: Digest<K, V>> SortedMap<K, V, D> {
         ensures filled { HaveEntries arc_value result.0.now }
     {
         match &self.kept {
-            Some(kept) => kept.pieces(),
-            None => (&[], &[]),
+            Kept::Nothing => (&[], &[]),
+            Kept::One(entry) => (&[], entry.as_slice()),
+            Kept::Many(kept) => kept.pieces(),
         }
     }
 
@@ -169,12 +221,12 @@ impl<K: MapKey, V: Drop, D: Digest<K, V>> SortedMap<K, V, D> {
     }
 
     /// Whether each entry passes.
-    pub fn all<T: Test<K, V, D>>(&self, test: &T) -> bool
-        ensures { IsTrue result ↔ SaysAll (T.holds test.now) self.now }
+    pub fn all<T: Predicate<K, V, D>>(&self, predicate: &T) -> bool
+        ensures { IsTrue result ↔ SaysAll (T.holds predicate.now) self.now }
     {
         let mut chunks = self.chunks();
         while let Some(chunk) = chunks.next() {
-            if !chunk_passes(&chunk, test) {
+            if !chunk_passes(&chunk, predicate) {
                 return false;
             }
         }
@@ -188,13 +240,8 @@ impl<K: MapKey, V: Drop, D: Digest<K, V>> SortedMap<K, V, D> {
         ensures err { OnErr result (self.new ≡ self.old) }
     {
         match &mut self.kept {
-            Some(kept) => Arc::make_mut(kept)?.push(key, value),
-            None => {
-                let mut made = Counted::empty(self.alloc);
-                made.push(key, value)?;
-                self.kept = Some(Arc::new(self.alloc, made)?);
-                Ok(())
-            }
+            Kept::Many(kept) => Arc::make_mut(kept)?.push(key, value),
+            _ => self.put(key, value),
         }
     }
 
@@ -203,9 +250,35 @@ impl<K: MapKey, V: Drop, D: Digest<K, V>> SortedMap<K, V, D> {
         ensures ok { OnOk result (self.new ≡ put K.cmp key value self.old) }
         ensures err { OnErr result (self.new ≡ self.old) }
     {
-        match &mut self.kept {
-            Some(kept) => Arc::make_mut(kept)?.put(key, value),
-            None => self.push(key, value),
+        if let Kept::Many(kept) = &mut self.kept {
+            return Arc::make_mut(kept)?.put(key, value);
+        }
+        let changed = match &self.kept {
+            Kept::One(entry) => Self::two(self.alloc, entry.element(), key, value)?,
+            _ => Self::one(self.alloc, key, value)?,
+        };
+        *self = changed;
+        Ok(())
+    }
+
+    /// Changes the value at a key in place, and a target with it. Returns false, and changes nothing, if the key is
+    /// absent, others share its entry, or there is no other entry. After [`NoMemory`] both are unchanged.
+    pub fn alter<T, C: Alter<V, T>>(
+        &mut self,
+        key: K,
+        how: &C,
+        target: &mut T,
+    ) -> Result<bool, NoMemory>
+        ensures ok { IfOk result (IsAlteredIf K.cmp (C.does how.now) key self.old target.old
+            self.new target.new) }
+        ensures err { OnErr result ((self.new ≡ self.old) × (target.new ≡ target.old)) }
+    {
+        let Kept::Many(kept) = &mut self.kept else {
+            return Ok(false);
+        };
+        match Arc::get_mut(kept) {
+            Some(own) => own.alter(key, how, target),
+            None => Ok(false),
         }
     }
 
@@ -214,13 +287,18 @@ impl<K: MapKey, V: Drop, D: Digest<K, V>> SortedMap<K, V, D> {
         ensures ok { OnOk result (self.new ≡ without K.cmp key self.old) }
         ensures err { OnErr result (self.new ≡ self.old) }
     {
-        let Some(kept) = &mut self.kept else {
+        if let Kept::Many(kept) = &mut self.kept {
+            let own = Arc::make_mut(kept)?;
+            own.remove(key)?;
+            if own.len() == 0 {
+                self.kept = Kept::Nothing;
+            }
             return Ok(());
-        };
-        let own = Arc::make_mut(kept)?;
-        own.remove(key)?;
-        if own.len() == 0 {
-            self.kept = None;
+        }
+        if let Kept::One(entry) = &self.kept {
+            if key.cmp(&entry.element().0).is_eq() {
+                self.kept = Kept::Nothing;
+            }
         }
         Ok(())
     }
@@ -231,10 +309,38 @@ impl<K: MapKey, V: Drop, D: Digest<K, V>> SortedMap<K, V, D> {
         ensures { IfOk result (λ merged.
             merged ≡ merge_entries K.cmp (C.combined how.now) self.now other.now) }
     {
+        if let (Kept::One(mine), Kept::One(theirs)) = (&self.kept, &other.kept) {
+            let (key, mine) = mine.element();
+            let (other, theirs) = theirs.element();
+            if key.cmp(other).is_eq() {
+                return self.merge_at(how, *key, mine, theirs);
+            }
+        }
         self.tells_order();
         other.tells_order();
         let (blocks, last) = self.pieces();
         let parts = merge_parts(self.alloc, how, blocks, last, other.entries())?;
         Self::of(self.alloc, parts)
+    }
+
+    /// The merge of this map, which has a single entry, with one that has a single entry at the same key.
+    fn merge_at<C: Sharing<K, V, D>>(
+        &self,
+        how: &C,
+        key: K,
+        mine: &V,
+        theirs: &V,
+    ) -> Result<Self, NoMemory>
+        requires { self.now ≡ (key, mine.now) ∷ [] }
+        ensures { IfOk result (λ merged. merged
+            ≡ keep key (C.combined how.now key (Some mine.now) (Some theirs.now)) []) }
+    {
+        if how.stays(key, mine, Some(theirs)) {
+            return self.copy();
+        }
+        match how.both(key, mine, theirs)? {
+            Some(value) => Self::one(self.alloc, key, value),
+            None => Ok(Self::empty(self.alloc)),
+        }
     }
 }

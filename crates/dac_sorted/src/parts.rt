@@ -4,6 +4,7 @@ ghost use Rattle.std.specs.Arc.{arc_value};
 ghost use Rattle.std.specs.List.{flat_map};
 ghost use Rattle.std.specs.Option.{option_copied};
 ghost use Rattle.std.specs.FinMap.{find};
+ghost use Rattle.dac_lattice.specs.Altered.{IsAlteredIf};
 ghost use Rattle.dac_lattice.specs.Search.{IsInOrder};
 ghost use Rattle.dac_sorted.specs.Appending.{is_above_entries};
 ghost use Rattle.dac_sorted.specs.Parts.{HaveEntries, IsChangedUnless, IsPartAt, IsPlaceOf, IsReplaced, changed};
@@ -11,7 +12,7 @@ ghost use Rattle.dac_sorted.specs.Parts.{HaveEntries, IsChangedUnless, IsPartAt,
 use crate::appending::{ends_below, last_is_below};
 use crate::block::{Block, change_entry};
 use crate::digest::Digest;
-use dac_lattice::merging::value_at;
+use dac_lattice::merging::{Alter, alter_entry, value_at};
 use dac_origins::{MapKey, NoMemory};
 use std::alloc::Global;
 use std::marker::Model;
@@ -223,6 +224,26 @@ impl<K: MapKey, V: Drop, D: Digest<K, V>> Parts<K, V, D> {
         change_entry(&mut self.last, key, value)
     }
 
+    /// Changes the value at a key in place, and a target with it. Returns false, and changes nothing, if the key is
+    /// absent or its block is shared. After [`NoMemory`] nothing has changed.
+    pub(crate) fn alter<T, C: Alter<V, T>>(
+        &mut self,
+        key: K,
+        how: &C,
+        target: &mut T,
+    ) -> Result<bool, NoMemory>
+        requires { IsInOrder K.cmp self.old }
+        ensures ok { IfOk result (IsAlteredIf K.cmp (C.does how.now) key self.old target.old
+            self.new target.new) }
+        ensures err { OnErr result ((self.new ≡ self.old) × (target.new ≡ target.old)) }
+    {
+        let place = place_in(&self.blocks, key);
+        if place < self.blocks.len() {
+            return alter_in_block(&mut self.blocks, place, key, how, target);
+        }
+        alter_entry(&mut self.last, key, how, target)
+    }
+
     /// Whether a shared block can follow without first making a block of fewer than [`Digest::least`] entries.
     pub(crate) fn ends_whole(&self) -> bool {
         self.last.is_empty() || self.last.len() >= D::least()
@@ -297,6 +318,49 @@ fn change_in_place<K: MapKey, V: Drop, D: Digest<K, V>>(
             Ok(None)
         }
         _ => Ok(Some(value)),
+    }
+}
+
+/// Changes the value at a key of the block at an index in place, and a target with it. Returns false, and changes
+/// nothing, if the key is absent or the block is shared. After [`NoMemory`] nothing has changed.
+fn alter_in_block<K: MapKey, V: Drop, D: Digest<K, V>, T, C: Alter<V, T>>(
+    blocks: &mut Vec<Arc<Block<K, V, D>, Global>>,
+    place: usize,
+    key: K,
+    how: &C,
+    target: &mut T,
+) -> Result<bool, NoMemory>
+    requires in_order { IsInOrder K.cmp (flat_map arc_value blocks.old.items) }
+    requires filled { HaveEntries arc_value blocks.old.items }
+    requires place { IsPlaceOf K.cmp arc_value key blocks.old.items place }
+    requires within { place < length blocks.old.items }
+    ensures filled { HaveEntries arc_value blocks.new.items }
+    ensures ok { IfOk result (IsAlteredIf K.cmp (C.does how.now) key
+        (flat_map arc_value blocks.old.items) target.old
+        (flat_map arc_value blocks.new.items) target.new) }
+    ensures err { OnErr result ((flat_map arc_value blocks.new.items
+        ≡ flat_map arc_value blocks.old.items) × (target.new ≡ target.old)) }
+{
+    alter_in_place(&mut blocks[place], key, how, target)
+}
+
+/// Changes the value at a key of a block in place, and a target with it. Returns false, and changes nothing, if the key
+/// is absent or the block is shared. After [`NoMemory`] nothing has changed.
+fn alter_in_place<K: MapKey, V: Drop, D: Digest<K, V>, T, C: Alter<V, T>>(
+    shared: &mut Arc<Block<K, V, D>, Global>,
+    key: K,
+    how: &C,
+    target: &mut T,
+) -> Result<bool, NoMemory>
+    requires { IsInOrder K.cmp (arc_value shared.old) }
+    ensures ok { IfOk result (IsAlteredIf K.cmp (C.does how.now) key (arc_value shared.old)
+        target.old (arc_value shared.new) target.new) }
+    ensures err { OnErr result
+        ((arc_value shared.new ≡ arc_value shared.old) × (target.new ≡ target.old)) }
+{
+    match Arc::get_mut(shared) {
+        Some(block) => block.alter(key, how, target),
+        None => Ok(false),
     }
 }
 

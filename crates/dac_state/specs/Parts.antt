@@ -1,29 +1,22 @@
--- The representation of a state: permissions, wishes and drains, each paired with the dots that they know.
-use Rattle.std.specs.Prelude.{◌≡◌}
+-- The representation of a state: what stands, with one context, and the other parts.
 use Rattle.dac_origins.specs.Dots.{Dots}
 use Rattle.dac_chains.specs.Lives.{Lives}
 use Rattle.dac_chains.specs.Claims.{Claims}
-use Rattle.dac_wishes.specs.WishesValue.{WishesValue}
-use Rattle.dac_wishes.specs.PermissionsValue.{PermissionsValue}
-use Rattle.dac_wishes.specs.DrainsValue.{DrainsValue}
-use Rattle.dac_meaning.specs.StateValue.{StateValue, IsState}
+use Rattle.dac_wishes.specs.StandingValue.{StandingValue}
+use Rattle.dac_meaning.specs.StateValue.{StateValue}
 
 -- the state with these parts
-abbrev pub state_of_parts : Dots → PermissionsValue → WishesValue → Lives → Claims → DrainsValue → StateValue
-state_of_parts heard permissions wishes lives claims drains = record {
+abbrev pub state_of_parts : Dots → StandingValue → Lives → Claims → StateValue
+state_of_parts heard standing lives claims = record {
   heard = heard;
-  known = wishes.known;
-  permits = permissions.standing;
-  starts = wishes.standing;
+  known = standing.known;
+  permits = standing.permits;
+  starts = standing.starts;
   lives = lives;
   claims = claims;
-  drains = drains.standing;
+  drains = standing.drains;
 }
 
--- these are the parts of a state
-pub record AreParts (heard : Dots) (permissions : PermissionsValue) (wishes : WishesValue) (lives : Lives)
-    (claims : Claims) (drains : DrainsValue) : Type 0 where
-  -- permissions, wishes and drains know the same dots
-  pub alike : permissions.known ≡ wishes.known
-  pub drained : drains.known ≡ wishes.known
-  pub state : IsState (state_of_parts heard permissions wishes lives claims drains)
+-- what stands in a state
+abbrev pub standing_in : StateValue → StandingValue
+standing_in s = record { known = s.known; permits = s.permits; starts = s.starts; drains = s.drains }

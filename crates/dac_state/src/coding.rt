@@ -27,11 +27,11 @@ impl State {
         let dots = writer
             .write_context(version, self.heard())?
             .write_context(version, self.known())?;
-        let permits = write_permissions(dots, version, self.permissions())?;
-        let wishes = write_wishes(permits, version, self.wishes())?;
+        let permits = write_permissions(dots, version, &self.permissions())?;
+        let wishes = write_wishes(permits, version, &self.wishes())?;
         let lives = write_lives(wishes, version, self.lives())?;
         let claims = write_claims(lives, version, self.claims())?;
-        let whole = write_drains(claims, version, self.drains())?;
+        let whole = write_drains(claims, version, &self.drains())?;
         Ok(whole)
     }
 }

@@ -16,7 +16,7 @@ use dac_chains::{Claims, Lives};
 use dac_dots::Context;
 use dac_meaning::{Act, Op, laws};
 use dac_origins::Origin;
-use dac_wishes::{Drains, Key, Permissions, Wishes};
+use dac_wishes::{DrainsRef, Key, PermissionsRef, WishesRef};
 
 impl State {
     /// Whether the delta of an operation is below the state, so that receiving it would change nothing.
@@ -26,16 +26,16 @@ impl State {
         if !holds_dot(self.heard(), op) {
             return false;
         }
-        if !holds_permit(self.permissions(), op) {
+        if !holds_permit(&self.permissions(), op) {
             return false;
         }
-        if !holds_start(self.wishes(), op) {
+        if !holds_start(&self.wishes(), op) {
             return false;
         }
         if !holds_life(self.lives(), op) {
             return false;
         }
-        holds_claim(self.claims(), op) && holds_drain(self.drains(), op)
+        holds_claim(self.claims(), op) && holds_drain(&self.drains(), op)
     }
 }
 
@@ -48,7 +48,7 @@ fn holds_dot(heard: &Context, op: &Op) -> bool
 }
 
 /// Whether the operation's permit and known dots are below these permissions.
-fn holds_permit(permissions: &Permissions, op: &Op) -> bool
+fn holds_permit(permissions: &PermissionsRef<'_>, op: &Op) -> bool
     ensures { IsTrue result
         ↔ IsPermissionsBelow (permissions_of (meaning_of (op.now ∷ []))) permissions.now }
 {
@@ -58,7 +58,7 @@ fn holds_permit(permissions: &Permissions, op: &Op) -> bool
 }
 
 /// Whether the operation's start wish and known dots are below these wishes.
-fn holds_start(wishes: &Wishes, op: &Op) -> bool
+fn holds_start(wishes: &WishesRef<'_>, op: &Op) -> bool
     ensures { IsTrue result ↔ AreWishesBelow (wishes_of (meaning_of (op.now ∷ []))) wishes.now }
 {
     laws::delta_is_meaning();
@@ -67,7 +67,7 @@ fn holds_start(wishes: &Wishes, op: &Op) -> bool
 }
 
 /// Whether the operation's drain and known dots are below these drains.
-fn holds_drain(drains: &Drains, op: &Op) -> bool
+fn holds_drain(drains: &DrainsRef<'_>, op: &Op) -> bool
     ensures { IsTrue result ↔ AreDrainsBelow (drains_of (meaning_of (op.now ∷ []))) drains.now }
 {
     laws::delta_is_meaning();
@@ -92,7 +92,7 @@ fn holds_claim(claims: &Claims, op: &Op) -> bool
 }
 
 /// The key and value of a permit; `None` for any other act.
-fn permit_in(act: &Act) -> Option<(Key, bool)>
+pub(crate) fn permit_in(act: &Act) -> Option<(Key, bool)>
     ensures { result ≡ permit_vote act.now }
 {
     match act {
@@ -106,7 +106,7 @@ fn permit_in(act: &Act) -> Option<(Key, bool)>
 }
 
 /// The key of a start wish; `None` for any other act.
-fn started_in(act: &Act) -> Option<Key>
+pub(crate) fn started_in(act: &Act) -> Option<Key>
     ensures { result ≡ started_in act.now }
 {
     match act {
@@ -116,7 +116,7 @@ fn started_in(act: &Act) -> Option<Key>
 }
 
 /// The incarnation and value of a drain; `None` for any other act.
-fn drain_in(act: &Act) -> Option<(Origin, bool)>
+pub(crate) fn drain_in(act: &Act) -> Option<(Origin, bool)>
     ensures { result ≡ drain_vote act.now }
 {
     match act {

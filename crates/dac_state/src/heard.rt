@@ -1,11 +1,13 @@
 //! The dots heard, stored relative to the dots known.
-ghost use Rattle.std.specs.Prelude.{◌≡◌, ◌↔◌, IsTrue, IfOk};
+ghost use Rattle.std.specs.Prelude.{◌≡◌, ◌↔◌, true, IsTrue, IfOk, OnOk, OnErr};
 ghost use Rattle.std.specs.FinSet as set;
 ghost use Rattle.dac_origins.specs.Dots.{IsSubset};
+ghost use Rattle.dac_wishes.specs.StandingValue.{join_standing};
 ghost use Rattle.dac_state.specs.Heard.{heard_given};
 
 use dac_base::NoMemory;
 use dac_dots::Context;
+use dac_wishes::{AbsorbStanding, Standing};
 
 /// The dots heard, a subset of the dots known.
 #[derive(Drop)]
@@ -87,6 +89,64 @@ impl Heard {
         }
         let both = known.union(other_known)?;
         Ok((both, Heard::These(heard)))
+    }
+
+    /// Joins the dots heard on the other side into these, and what stands there into `standing`, in place where
+    /// possible. After [`NoMemory`] both are unchanged.
+    pub(crate) fn absorb(
+        &mut self,
+        standing: &mut Standing,
+        other: &Self,
+        other_standing: &Standing,
+    ) -> Result<(), NoMemory>
+        requires mine { IsSubset (heard_given self.old standing.old.known) standing.old.known }
+        requires theirs { IsSubset (heard_given other.now other_standing.now.known)
+            other_standing.now.known }
+        ensures standing { OnOk result
+            (standing.new ≡ join_standing standing.old other_standing.now) }
+        ensures heard { OnOk result (heard_given self.new standing.new.known
+            ≡ set.union (heard_given self.old standing.old.known)
+            (heard_given other.now other_standing.now.known)) }
+        ensures err { OnErr result ((standing.new ≡ standing.old) × (self.new ≡ self.old)) }
+    {
+        match self {
+            Heard::All => {
+                if other.is_all_with(standing.known(), other_standing.known()) {
+                    return standing.absorb(other_standing);
+                }
+                let heard = standing
+                    .known()
+                    .union(other.beside(other_standing.known()))?;
+                standing.absorb(other_standing)?;
+                *self = Heard::These(heard);
+            }
+            Heard::These(heard) => {
+                let theirs = other.beside(other_standing.known());
+                let step = AbsorbStanding {
+                    other: other_standing,
+                };
+                if !heard.absorb_after(theirs, &step, standing)? {
+                    let both = heard.union(theirs)?;
+                    standing.absorb(other_standing)?;
+                    *heard = both;
+                }
+                if standing.known().is_subset(heard) {
+                    *self = Heard::All;
+                }
+            }
+        }
+        Ok(())
+    }
+
+    /// Whether all dots that this side knows, given as `known`, were heard here or are among these dots.
+    fn is_all_with(&self, dots: &Context, known: &Context) -> bool
+        ensures { result ≡ true
+            → IsSubset known.now (set.union dots.now (heard_given self.now known.now)) }
+    {
+        match self {
+            Heard::All => true,
+            Heard::These(heard) => known.is_within_both(dots, heard),
+        }
     }
 
     /// Whether all of `dots`, which are known, were heard.

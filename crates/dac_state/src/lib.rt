@@ -17,7 +17,9 @@ pub mod laws;
 pub use dac_bytes::{ReadFault as StateFault, ReadFaultKind as StateFaultKind};
 pub use dac_chains::{Claim, Claims, How, Life, Lives};
 pub use dac_meaning::{Act, Op, OpFault};
-pub use dac_wishes::{DotList, Drains, Key, Permissions, Wishes};
+pub use dac_wishes::{
+    DotList, Drains, DrainsRef, Key, Permissions, PermissionsRef, Standing, Wishes, WishesRef,
+};
 pub use state::State;
 
 mod coding;

@@ -3,16 +3,14 @@ ghost use Rattle.std.specs.Prelude.{◌≡◌, ◌∷◌, [], IfOk, OnOk, OnErr}
 ghost use Rattle.dac_meaning.specs.StateValue.{drains_of, join, permissions_of, wishes_of};
 ghost use Rattle.dac_meaning.specs.Meaning.{meaning_of};
 
-use crate::delta::{
-    claims_by, drains_by, heard_by, lives_by, permissions_by, replaced_by, wishes_by,
-};
+use crate::delta::{claims_by, heard_by, lives_by, standing_by};
 use crate::parts::Parts;
 use dac_base::NoMemory;
 use dac_chains::{Claims, Lives};
 use dac_dots::Context;
 use dac_lattice::{Bottom, Lattice};
 use dac_meaning::{Op, laws};
-use dac_wishes::{Drains, Permissions, Wishes};
+use dac_wishes::{DrainsRef, PermissionsRef, Standing, WishesRef};
 use std::alloc::Global;
 use std::marker::Model;
 use std::sync::Arc;
@@ -64,14 +62,11 @@ impl State {
         ensures { IfOk result (λ state. state ≡ meaning_of (op.now ∷ [])) }
     {
         laws::parts_of_meaning();
-        let over = replaced_by(alloc, op)?;
-        let (wishes, over) = wishes_by(alloc, op, over)?;
-        let heard = heard_by(alloc, op, wishes.context())?;
-        let (permissions, over) = permissions_by(alloc, op, over, wishes.context())?;
+        let standing = standing_by(alloc, op)?;
+        let heard = heard_by(alloc, op, standing.known())?;
         let lives = lives_by(alloc, op)?;
         let claims = claims_by(alloc, op)?;
-        let drains = drains_by(alloc, op, over, wishes.context())?;
-        let parts = Parts::beside(alloc, heard, permissions, wishes, lives, claims, drains);
+        let parts = Parts::beside(alloc, heard, standing, lives, claims);
         let state = State::of(parts)?;
         Ok(state)
     }
@@ -131,15 +126,15 @@ impl State {
     }
 
     /// The standing permits, which no heard operation replaced, paired with the known dots.
-    pub fn permissions(&self) -> &Permissions
-        ensures { result.now ≡ permissions_of self.now }
+    pub fn permissions(&self) -> PermissionsRef<'_>
+        ensures { result ≡ permissions_of self.now }
     {
         self.parts().permissions()
     }
 
     /// The standing start wishes, which no heard operation replaced, paired with the known dots.
-    pub fn wishes(&self) -> &Wishes
-        ensures { result.now ≡ wishes_of self.now }
+    pub fn wishes(&self) -> WishesRef<'_>
+        ensures { result ≡ wishes_of self.now }
     {
         self.parts().wishes()
     }
@@ -159,8 +154,8 @@ impl State {
     }
 
     /// The standing drains, which no heard operation replaced, paired with the known dots.
-    pub fn drains(&self) -> &Drains
-        ensures { result.now ≡ drains_of self.now }
+    pub fn drains(&self) -> DrainsRef<'_>
+        ensures { result ≡ drains_of self.now }
     {
         self.parts().drains()
     }
@@ -223,11 +218,9 @@ impl Bottom for State {
         let parts = Parts::new(
             alloc,
             Context::empty(alloc),
-            Permissions::bottom(alloc),
-            Wishes::bottom(alloc),
+            Standing::nothing(alloc),
             Lives::bottom(alloc),
             Claims::bottom(alloc),
-            Drains::bottom(alloc),
         );
         State {
             kept: KeptParts::Here(parts),

@@ -3,3 +3,4 @@ mod ChunkLemmas
 mod EntryLemmas
 mod JoinLemmas
 mod BelowLemmas
+mod CausalLemmas

@@ -12,6 +12,10 @@ IsHeld has c = (x : Dot) → has x ≡ true → set.contains c x ≡ true
 abbrev pub IsUnheard : (Dot → Bool) → Dots → Type 0
 IsUnheard has c = (x : Dot) → has x ≡ true → set.contains c x ≡ false
 
+-- two contexts have the same dots of the store
+abbrev pub AreAlikeAt : (Dot → Bool) → Dots → Dots → Type 0
+AreAlikeAt has c d = (x : Dot) → has x ≡ true → set.contains c x ≡ set.contains d x
+
 -- the store satisfies its invariant, and its dots are in the context
 pub record IsStoreWithin {S : Type 0} (is_store : S → Type 0) (has : S → Dot → Bool) (s : S) (c : Dots) : Type 0 where
   pub store : is_store s
@@ -56,6 +60,9 @@ pub record IsDotStore {S : Type 0} (is_store : S → Type 0) (has : S → Dot �
   pub same : (s : S) (c d : Dots) → is_store s → below s c s d
   -- a store is above each one whose context has none of its dots
   pub unheard : (s t : S) (c d : Dots) → IsUnheard (has t) c → below s c t d
+  -- a join depends on each context only at the dots of the other side's store
+  pub alike : (s : S) (c : Dots) (t : S) (d : Dots) (b e : Dots) → is_store s → is_store t → AreAlikeAt (has t) c b → AreAlikeAt (has s) d e
+      → join s c t d ≡ join s b t e
 
 -- ---- a dot store paired with its context is a lattice
 

@@ -5,14 +5,12 @@ ghost use Rattle.dac_origins.specs.Dots.{IsSubset};
 ghost use Rattle.dac_store.specs.Stores.{IsHeld, IsStoredBelow, IsUnheard, join_stored};
 
 use crate::DotStore;
-use dac_dots::{Context, FilteredContext};
+use crate::causal_ref::{CausalRef, absorb_store};
+use dac_dots::Context;
 use dac_lattice::{Bottom, Lattice};
 use dac_origins::NoMemory;
 use std::alloc::Global;
 use std::marker::Model;
-
-/// The greatest number of dots that a join looks up in the other side's store, to see whether that store is unchanged.
-const MOST_LOOKED_UP: usize = 16;
 
 /// A dot store paired with its causal context, which contains all its dots. Ordered by the contexts, and by the stores
 /// given the contexts.
@@ -58,6 +56,14 @@ impl<S: DotStore> Causal<S> {
         }
     }
 
+    /// The store and the context.
+    pub fn into_parts(self) -> (S, Context)
+        ensures { result ≡ (self.store, self.context) }
+    {
+        let Causal { store, context } = self;
+        (store, context)
+    }
+
     /// The store without its context.
     pub fn store(&self) -> &S
         ensures { result.now ≡ self.now.store }
@@ -79,7 +85,7 @@ impl<S: DotStore> Causal<S> {
     {
         self.tells_invariant();
         other.tells_invariant();
-        let store = self.join_stores(other)?;
+        let store = self.borrowed().join_stores(&other.borrowed())?;
         let context = union.copy()?;
         Ok(Causal { store, context })
     }
@@ -93,16 +99,7 @@ impl<S: DotStore> Causal<S> {
     {
         self.tells_invariant();
         other.tells_invariant();
-        if other.leaves(self) {
-            self.context = union;
-            return Ok(());
-        }
-        if self.leaves(other) || self.is_much_smaller(other) {
-            self.store = self.join_stores(other)?;
-        } else {
-            self.store
-                .absorb_in(&self.context, &other.store, other.context())?;
-        }
+        absorb_store(&mut self.store, &self.context, &other.borrowed())?;
         self.context = union;
         Ok(())
     }
@@ -112,82 +109,16 @@ impl<S: DotStore> Causal<S> {
         requires { IsSubset self.now.context other.now.context }
         ensures { IsTrue result ↔ IsStoredBelow S.below self.now other.now }
     {
-        self.store()
-            .leq_in(self.context(), other.store(), other.context())
+        self.borrowed().leq_with_contexts(&other.borrowed())
     }
 
-    /// Whether both contexts are equal.
-    fn has_same_context(&self, other: &Self) -> bool
-        ensures { IsTrue result ↔ (self.now.context ≡ other.now.context) }
-    {
-        let mine = self.context();
-        let theirs = other.context();
-        mine.is_subset(theirs) && theirs.is_subset(mine)
-    }
-
-    /// Whether both stores are equal, if both contexts are. Tries `is_same` first, which mostly suffices for equal
-    /// stores.
-    fn has_same_store(&self, other: &Self) -> bool
-        requires { self.now.context ≡ other.now.context }
-        ensures { IsTrue result ↔ (self.now ≡ other.now) }
+    /// The same value, borrowed.
+    #[inline(always)]
+    pub fn borrowed(&self) -> CausalRef<'_, S>
+        ensures { result ≡ self.now }
     {
         self.tells_invariant();
-        other.tells_invariant();
-        if self.store.is_same(&other.store) {
-            return true;
-        }
-        self.leq_with_contexts(other) && other.leq_with_contexts(self)
-    }
-
-    /// Whether this side's store is empty and its context is known to contain no dot of the other's store, so that a
-    /// join doesn't change that store.
-    #[inline(always)]
-    fn leaves(&self, other: &Self) -> bool
-        ensures nothing { result ≡ true → self.now.store ≡ S.nothing }
-        ensures unheard { result ≡ true → IsUnheard (S.has other.now.store) self.now.context }
-    {
-        self.store.tells_invariant();
-        if !self.store.is_empty() {
-            return false;
-        }
-        other.store.tells_invariant();
-        if other.store.is_empty() {
-            return true;
-        }
-        let heard = self.context();
-        if !heard.has_at_most(MOST_LOOKED_UP) {
-            return false;
-        }
-        let filtered = FilteredContext::of(heard, MOST_LOOKED_UP);
-        other.store.is_unheard(&filtered)
-    }
-
-    /// Whether the other context has more than twice as many origins: then its store is much longer, as after a reboot.
-    fn is_much_smaller(&self, other: &Self) -> bool {
-        self.context().rows() < other.context().rows() / 2
-    }
-
-    /// The store of the join. Joins into the longer store, because the result shares most memory with that one.
-    #[inline(always)]
-    fn join_stores(&self, other: &Self) -> Result<S, NoMemory>
-        ensures { IfOk result (λ joined. joined
-            ≡ S.join self.now.store self.now.context other.now.store other.now.context) }
-    {
-        self.tells_invariant();
-        other.tells_invariant();
-        if other.leaves(self) {
-            return self.store.copy();
-        }
-        if self.leaves(other) {
-            return other.store.copy();
-        }
-        if self.is_much_smaller(other) {
-            return other
-                .store
-                .join_in(other.context(), &self.store, self.context());
-        }
-        self.store
-            .join_in(self.context(), &other.store, other.context())
+        CausalRef::of(self.store(), self.context())
     }
 }
 
@@ -218,7 +149,8 @@ impl<S: DotStore> Lattice for Causal<S> {
     }
 
     fn equal(&self, other: &Self) -> bool {
-        self.has_same_context(other) && self.has_same_store(other)
+        self.borrowed().has_same_context(&other.borrowed())
+            && self.borrowed().has_same_store(&other.borrowed())
     }
 
     fn copy(&self) -> Result<Self, NoMemory> {

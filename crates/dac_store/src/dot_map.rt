@@ -10,7 +10,7 @@ ghost use Rattle.dac_store.specs.DotMaps.{join_keyed};
 use crate::chunk::{chunk_below, chunk_first_heard, fill_each};
 use crate::digest::StoreFilter;
 use crate::joining::{JoinStores, join_at};
-use crate::tests::{Lacks, OtherUnheard, Unheard, Within};
+use crate::predicates::{Lacks, OtherUnheard, Unheard, Within};
 use crate::{DotStore, Entries};
 use dac_dots::{Context, DotFilter, FilteredContext};
 use dac_origins::{Dot, MapKey, NoMemory};

@@ -15,6 +15,8 @@ pub mod PermitMeaning
 pub mod DrainsValue
 pub mod StoredDrains
 pub mod DrainMeaning
+pub mod StandingValue
+pub mod StoredStanding
 pub mod StoredDeltas
 pub mod ByKey
 pub mod StartsByKey

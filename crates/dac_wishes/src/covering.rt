@@ -12,16 +12,16 @@ ghost use Rattle.dac_wishes.specs.PermitMeaning.{vote_of as permits_by};
 ghost use Rattle.dac_wishes.specs.DrainMeaning.{vote_of as drains_by};
 
 use crate::drain_act::flag_of as drain_flag;
-use crate::drains::Drains;
+use crate::drains_ref::DrainsRef;
 use crate::key::Key;
-use crate::permissions::Permissions;
+use crate::permissions_ref::PermissionsRef;
 use crate::permit_act::flag_of as permit_flag;
-use crate::wishes::Wishes;
+use crate::wishes_ref::WishesRef;
 use dac_lattice::Flag;
 use dac_origins::{Dot, MapKey, Origin};
 use dac_store::{Context, DotFun, DotSet, Entries};
 
-impl Permissions {
+impl PermissionsRef<'_> {
     ghost use Rattle.dac_wishes.specs.PermissionsValue.{IsPermissionsBelow};
     ghost use Rattle.dac_wishes.specs.PermitMeaning.{permit_delta};
 
@@ -36,7 +36,7 @@ impl Permissions {
     }
 }
 
-impl Drains {
+impl DrainsRef<'_> {
     ghost use Rattle.dac_wishes.specs.DrainMeaning.{drain_delta};
     ghost use Rattle.dac_wishes.specs.DrainsValue.{AreDrainsBelow};
 
@@ -51,7 +51,7 @@ impl Drains {
     }
 }
 
-impl Wishes {
+impl WishesRef<'_> {
     ghost use Rattle.dac_wishes.specs.WishMeaning.{wish_delta};
     ghost use Rattle.dac_wishes.specs.WishesValue.{AreWishesBelow};
 
@@ -66,7 +66,7 @@ impl Wishes {
 }
 
 /// The vote of a permit.
-fn permit_vote(permit: Option<(Key, bool)>) -> Option<(Key, Flag)>
+pub(crate) fn permit_vote(permit: Option<(Key, bool)>) -> Option<(Key, Flag)>
     ensures { (over : List DotValue) → result ≡ permits_by (permit_act permit over) }
 {
     match permit {
@@ -76,7 +76,7 @@ fn permit_vote(permit: Option<(Key, bool)>) -> Option<(Key, Flag)>
 }
 
 /// The vote of a drain.
-fn drain_vote(drain: Option<(Origin, bool)>) -> Option<(Origin, Flag)>
+pub(crate) fn drain_vote(drain: Option<(Origin, bool)>) -> Option<(Origin, Flag)>
     ensures { (over : List DotValue) → result ≡ drains_by (drain_act drain over) }
 {
     match drain {

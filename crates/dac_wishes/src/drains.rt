@@ -7,10 +7,12 @@ ghost use Rattle.dac_lattice.specs.declared.flags.Flag.{Flag as FlagValue};
 ghost use Rattle.dac_origins.specs.declared.dot.Dot.{Dot as DotValue};
 ghost use Rattle.dac_wishes.specs.DrainsValue.{join_drains, AreDrainsBelow, origin, says_drained, is_drained, IsDrained, drains_at};
 ghost use Rattle.dac_wishes.specs.DrainMeaning.{drain_delta};
+ghost use Rattle.dac_wishes.specs.Covering.{drain_act};
 
 use crate::delta::{beside, named_by};
 use crate::drain_act::DrainAct;
-use crate::votes::{kept_at, stored_delta};
+use crate::drains_ref::DrainsRef;
+use crate::votes::stored_delta;
 use dac_base::{NoMemory, NodeId};
 use dac_lattice::{Bottom, Flag, Lattice, Piece};
 use dac_origins::{Dot, Origin};
@@ -47,7 +49,7 @@ impl Model for Drains {
 
 impl Drains {
     ghost use Rattle.std.specs.FinMap as map;
-    ghost use Rattle.dac_wishes.specs.StoredDrains.{drains_of, drains_by_origin};
+    ghost use Rattle.dac_wishes.specs.StoredDrains.{drains_of, drains_by_origin, AreStoredDrains};
 
     /// The drains of a stored form: for each origin its drains, by their dots.
     pub fn new(causal: Causal<DotMap<Origin, DotFun<Flag>>>) -> Self
@@ -70,14 +72,14 @@ impl Drains {
     pub fn entries(&self) -> Entries<'_, Origin, DotFun<Flag>>
         ensures { result ≡ drains_by_origin self.now.standing }
     {
-        self.causal.store().entries()
+        self.borrowed().entries()
     }
 
     /// The number of origins with a standing drain.
     pub fn len(&self) -> usize
         ensures { result ≡ length (drains_by_origin self.now.standing) }
     {
-        self.causal.store().len()
+        self.borrowed().len()
     }
 
     /// Whether an incarnation of a node is drained: one of its standing drains is true.
@@ -85,7 +87,7 @@ impl Drains {
         ensures value { result ≡ is_drained (origin node inc) self.now }
         ensures cases { IsTrue result ↔ IsDrained (origin node inc) self.now }
     {
-        some_says_drained(self.dots(node, inc))
+        self.borrowed().drained(node, inc)
     }
 
     /// The dots of the incarnation's standing drains, with their values, in ascending order.
@@ -93,7 +95,32 @@ impl Drains {
     pub fn dots(&self, node: NodeId, inc: u64) -> &[(Dot, Flag)]
         ensures { result.now ≡ drains_at (origin node inc) self.now.standing }
     {
-        kept_at(&self.causal, Origin { node, inc })
+        self.borrowed().dots(node, inc)
+    }
+
+    /// The same value, borrowed.
+    #[inline(always)]
+    pub fn borrowed(&self) -> DrainsRef<'_>
+        ensures { result ≡ self.now }
+    {
+        DrainsRef::of(self.causal.borrowed())
+    }
+
+    /// Whether the delta of an operation is below this value, so that joining it would change nothing.
+    pub fn covers(&self, dot: Dot, drain: Option<(Origin, bool)>, over: &[Dot]) -> bool
+        ensures { IsTrue result
+            ↔ AreDrainsBelow (drain_delta dot (drain_act drain over.now)) self.now }
+    {
+        self.borrowed().covers(dot, drain, over)
+    }
+
+    /// The store and the known dots.
+    pub(crate) fn into_causal(self) -> Causal<DotMap<Origin, DotFun<Flag>>>
+        ensures value { drains_of result ≡ self }
+        ensures stored { AreStoredDrains result }
+    {
+        let Drains { causal } = self;
+        causal
     }
 
     /// The known dots: those of the operations, and those that they replace.
@@ -158,7 +185,7 @@ fn says_drained(flag: Flag) -> bool
 }
 
 /// Whether any drain is true.
-fn some_says_drained(drains: &[(Dot, Flag)]) -> bool
+pub(crate) fn some_says_drained(drains: &[(Dot, Flag)]) -> bool
     ensures { result ≡ list_any (λ (p : DotValue × FlagValue). says_drained p.1) drains.now }
 {
     drains.iter().any(|drain| says_drained(drain.1))

@@ -7,11 +7,13 @@ ghost use Rattle.dac_lattice.specs.declared.flags.Flag.{Flag as FlagValue};
 ghost use Rattle.dac_origins.specs.declared.dot.Dot.{Dot as DotValue};
 ghost use Rattle.dac_wishes.specs.PermissionsValue.{join_permissions, IsPermissionsBelow, is_permitting, is_permitted, is_permitted_by, IsPermitted, permits_at};
 ghost use Rattle.dac_wishes.specs.PermitMeaning.{permit_delta};
+ghost use Rattle.dac_wishes.specs.Covering.{permit_act};
 
 use crate::delta::named_by;
 use crate::key::Key;
+use crate::permissions_ref::PermissionsRef;
 use crate::permit_act::PermitAct;
-use crate::votes::{kept_at, stored_delta};
+use crate::votes::stored_delta;
 use dac_base::NoMemory;
 use dac_lattice::{Bottom, Flag, Lattice, Piece};
 use dac_origins::Dot;
@@ -47,7 +49,7 @@ impl Model for Permissions {
 }
 
 impl Permissions {
-    ghost use Rattle.dac_wishes.specs.StoredPermits.{permissions_of};
+    ghost use Rattle.dac_wishes.specs.StoredPermits.{permissions_of, AreStoredFlags};
     ghost use Rattle.dac_wishes.specs.PermitsByKey.{permits_by_key};
 
     /// The permissions of a stored form: for each key its permits, by their dots.
@@ -62,14 +64,14 @@ impl Permissions {
     pub fn entries(&self) -> Entries<'_, Key, DotFun<Flag>>
         ensures { result ≡ permits_by_key self.now.standing }
     {
-        self.causal.store().entries()
+        self.borrowed().entries()
     }
 
     /// The number of keys with a standing permit.
     pub fn len(&self) -> usize
         ensures { result ≡ length (permits_by_key self.now.standing) }
     {
-        self.causal.store().len()
+        self.borrowed().len()
     }
 
     /// Whether the key is permitted: the default if no permit of it stands, and otherwise whether all standing ones are
@@ -78,14 +80,39 @@ impl Permissions {
         ensures value { result ≡ is_permitted key default self.now }
         ensures cases { IsTrue result ↔ IsPermitted key default self.now }
     {
-        permitted_by(default, self.dots(key))
+        self.borrowed().permitted(key, default)
     }
 
     /// The dots of the key's standing permits, with their values, in ascending order.
     pub fn dots(&self, key: Key) -> &[(Dot, Flag)]
         ensures { result.now ≡ permits_at key self.now.standing }
     {
-        kept_at(&self.causal, key)
+        self.borrowed().dots(key)
+    }
+
+    /// The same value, borrowed.
+    #[inline(always)]
+    pub fn borrowed(&self) -> PermissionsRef<'_>
+        ensures { result ≡ self.now }
+    {
+        PermissionsRef::of(self.causal.borrowed())
+    }
+
+    /// Whether the delta of an operation is below this value, so that joining it would change nothing.
+    pub fn covers(&self, dot: Dot, permit: Option<(Key, bool)>, over: &[Dot]) -> bool
+        ensures { IsTrue result
+            ↔ IsPermissionsBelow (permit_delta dot (permit_act permit over.now)) self.now }
+    {
+        self.borrowed().covers(dot, permit, over)
+    }
+
+    /// The store and the known dots.
+    pub(crate) fn into_causal(self) -> Causal<DotMap<Key, DotFun<Flag>>>
+        ensures value { permissions_of result ≡ self }
+        ensures stored { AreStoredFlags result }
+    {
+        let Permissions { causal } = self;
+        causal
     }
 
     /// The known dots: those of the operations, and those that they replace.
@@ -149,7 +176,7 @@ fn is_permitting(flag: Flag) -> bool
 }
 
 /// Whether each permit is true, or the default if there is none.
-fn permitted_by(default: bool, permits: &[(Dot, Flag)]) -> bool
+pub(crate) fn permitted_by(default: bool, permits: &[(Dot, Flag)]) -> bool
     ensures { result ≡ is_permitted_by default permits.now }
 {
     if permits.is_empty() {

@@ -10,11 +10,15 @@ use crate::delta::beside;
 use dac_base::NoMemory;
 use dac_lattice::Flag;
 use dac_origins::{Dot, MapKey};
-use dac_store::{Causal, Context, DotFun, DotMap, DotStore};
+use dac_store::{Causal, CausalRef, Context, DotFun, DotMap, DotStore};
 use std::alloc::Global;
 
 /// The votes stored at a key.
-pub(crate) fn kept_at<K: MapKey>(causal: &Causal<DotMap<K, DotFun<Flag>>>, key: K) -> &[(Dot, Flag)]
+#[inline(always)]
+pub(crate) fn kept_at<'a, K: MapKey>(
+    causal: &CausalRef<'a, DotMap<K, DotFun<Flag>>>,
+    key: K,
+) -> &'a [(Dot, Flag)]
     ensures { result.now ≡ store_at [] (find K.cmp key causal.now.store) }
 {
     match causal.store().get(key) {
@@ -24,7 +28,7 @@ pub(crate) fn kept_at<K: MapKey>(causal: &Causal<DotMap<K, DotFun<Flag>>>, key: 
 }
 
 /// The stored form of a vote, if there is one.
-fn kept_alone<K: MapKey>(
+pub(crate) fn kept_alone<K: MapKey>(
     alloc: Global,
     dot: Dot,
     vote: Option<(K, Flag)>,

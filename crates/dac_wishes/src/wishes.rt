@@ -7,10 +7,12 @@ ghost use Rattle.dac_wishes.specs.Writes.{dots_at};
 ghost use Rattle.dac_wishes.specs.WishesValue.{join_wishes, AreWishesBelow, is_wished, SomeStands};
 ghost use Rattle.dac_wishes.specs.StoredDeltas.{stored_start};
 ghost use Rattle.dac_wishes.specs.WishMeaning.{wish_delta};
+ghost use Rattle.dac_wishes.specs.Covering.{wish_act};
 
 use crate::delta::{beside, named_by};
 use crate::key::Key;
 use crate::wish_act::WishAct;
+use crate::wishes_ref::WishesRef;
 use dac_base::NoMemory;
 use dac_lattice::{Bottom, Lattice, Piece};
 use dac_origins::Dot;
@@ -45,7 +47,7 @@ impl Model for Wishes {
 }
 
 impl Wishes {
-    ghost use Rattle.dac_wishes.specs.StoredWishes.{wishes_of};
+    ghost use Rattle.dac_wishes.specs.StoredWishes.{wishes_of, AreStoredDots};
     ghost use Rattle.dac_wishes.specs.StartsByKey.{starts_by_key};
 
     /// The wishes of a stored form: for each key the dots of its starts.
@@ -60,14 +62,14 @@ impl Wishes {
     pub fn entries(&self) -> Entries<'_, Key, DotSet>
         ensures { result ≡ starts_by_key self.now.standing }
     {
-        self.causal.store().entries()
+        self.borrowed().entries()
     }
 
     /// The number of keys with a standing start.
     pub fn len(&self) -> usize
         ensures { result ≡ length (starts_by_key self.now.standing) }
     {
-        self.causal.store().len()
+        self.borrowed().len()
     }
 
     /// Whether any start of the key stands.
@@ -75,17 +77,39 @@ impl Wishes {
         ensures value { result ≡ is_wished key self.now }
         ensures some { IsTrue result ↔ SomeStands key self.now }
     {
-        self.causal.store().get(key).is_some()
+        self.borrowed().wished(key)
     }
 
     /// The dots of the key's standing starts, in ascending order.
     pub fn dots(&self, key: Key) -> &[Dot]
         ensures { result.now ≡ in_order (dots_at key self.now.standing) }
     {
-        match self.causal.store().get(key) {
-            Some(dots) => dots.dots(),
-            None => &[],
-        }
+        self.borrowed().dots(key)
+    }
+
+    /// The same value, borrowed.
+    #[inline(always)]
+    pub fn borrowed(&self) -> WishesRef<'_>
+        ensures { result ≡ self.now }
+    {
+        WishesRef::of(self.causal.borrowed())
+    }
+
+    /// Whether the delta of an operation is below this value, so that joining it would change nothing.
+    pub fn covers(&self, dot: Dot, start: Option<Key>, over: &[Dot]) -> bool
+        ensures { IsTrue result
+            ↔ AreWishesBelow (wish_delta dot (wish_act start over.now)) self.now }
+    {
+        self.borrowed().covers(dot, start, over)
+    }
+
+    /// The store and the known dots.
+    pub(crate) fn into_causal(self) -> Causal<DotMap<Key, DotSet>>
+        ensures value { wishes_of result ≡ self }
+        ensures stored { AreStoredDots result }
+    {
+        let Wishes { causal } = self;
+        causal
     }
 
     /// The known dots: those of the operations, and those that they replace.
@@ -145,12 +169,24 @@ fn start_in(alloc: Global, dot: Dot, act: &WishAct) -> Result<DotMap<Key, DotSet
     ensures { IfOk result (λ store. store ≡ stored_start dot act.now) }
 {
     match act {
-        WishAct::Start { key, over: _ } => {
+        WishAct::Start { key, over: _ } => start_at(alloc, dot, Some(*key)),
+        WishAct::Other { over: _ } => Ok(DotMap::empty(alloc)),
+    }
+}
+
+/// The stored form of a start of a key, if any.
+pub(crate) fn start_at(
+    alloc: Global,
+    dot: Dot,
+    start: Option<Key>,
+) -> Result<DotMap<Key, DotSet>, NoMemory> {
+    match start {
+        Some(key) => {
             let dots = DotSet::one(alloc, dot)?;
-            let store = DotMap::one(alloc, *key, dots)?;
+            let store = DotMap::one(alloc, key, dots)?;
             Ok(store)
         }
-        WishAct::Other { over: _ } => Ok(DotMap::empty(alloc)),
+        None => Ok(DotMap::empty(alloc)),
     }
 }
 

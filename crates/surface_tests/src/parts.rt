@@ -6,7 +6,10 @@ use dac_config::{AppId, Config, NoMemory, NodeId, read_config};
 use dac_dots::{Context, Dot};
 use dac_lattice::{Bottom, Flag, Lattice, Piece};
 use dac_state::{Act, DotList, Op, OpFault, State, StateFault, StateFaultKind};
-use dac_wishes::{Drains, Key, Permissions, Wishes};
+use dac_wishes::{
+    DrainAct, Drains, DrainsRef, Key, Permissions, PermissionsRef, PermitAct, WishAct, Wishes,
+    WishesRef,
+};
 use std::alloc::Global;
 
 /// The first application at the first node.
@@ -29,7 +32,12 @@ pub fn up(alloc: Global) -> Option<State> {
 }
 
 /// True if the pieces say only that the node is up.
-fn is_up_alone(lives: &Lives, claims: &Claims, permissions: &Permissions, wishes: &Wishes) -> bool {
+fn is_up_alone(
+    lives: &Lives,
+    claims: &Claims,
+    permissions: &PermissionsRef<'_>,
+    wishes: &WishesRef<'_>,
+) -> bool {
     let life: Option<(u64, Flag)> = lives.life(NodeId(0));
     let claim: Option<Claim> = claims.greatest(AppId(0));
     life == Some((1, Flag::Up))
@@ -42,7 +50,7 @@ fn is_up_alone(lives: &Lives, claims: &Claims, permissions: &Permissions, wishes
 }
 
 /// True if the node isn't drained.
-fn is_not_drained(drains: &Drains) -> bool {
+fn is_not_drained(drains: &DrainsRef<'_>) -> bool {
     !drains.drained(NodeId(0), 1) && drains.dots(NodeId(0), 1).is_empty()
 }
 
@@ -69,12 +77,12 @@ fn is_told(alloc: Global) -> Option<bool> {
     let parts = is_up_alone(
         state.lives(),
         state.claims(),
-        state.permissions(),
-        state.wishes(),
+        &state.permissions(),
+        &state.wishes(),
     );
     Some(
         parts
-            && is_not_drained(state.drains())
+            && is_not_drained(&state.drains())
             && heard_one(&state)
             && is_read(alloc, &config, &state)?,
     )
@@ -85,7 +93,7 @@ fn is_absorbed(alloc: Global) -> Option<bool> {
     let mut state = State::bottom(alloc);
     let up: State = up(alloc)?;
     state.absorb(&up).ok()?;
-    Some(state.equal(&up) && are_parts_absorbed(alloc, &up).ok()?)
+    Some(state.equal(&up) && are_pieces_absorbed(alloc).ok()?)
 }
 
 /// True if wishes that absorb others equal these, from none.
@@ -112,12 +120,16 @@ fn are_drains_absorbed(alloc: Global, other: &Drains) -> Result<bool, NoMemory> 
     Ok(drains.equal(other))
 }
 
-/// True if each part of a state is absorbed.
-fn are_parts_absorbed(alloc: Global, state: &State) -> Result<bool, NoMemory> {
+/// True if each piece of the first operation is absorbed.
+fn are_pieces_absorbed(alloc: Global) -> Result<bool, NoMemory> {
+    let none = || DotList::new(Vec::new(alloc));
+    let wishes: Wishes = delta_of(alloc, FIRST, &WishAct::Other { over: none() })?;
+    let permissions: Permissions = delta_of(alloc, FIRST, &PermitAct::Other { over: none() })?;
+    let drains: Drains = delta_of(alloc, FIRST, &DrainAct::Other { over: none() })?;
     Ok(
-        are_wishes_absorbed(alloc, state.wishes())?
-            && are_permissions_absorbed(alloc, state.permissions())?
-            && are_drains_absorbed(alloc, state.drains())?,
+        are_wishes_absorbed(alloc, &wishes)?
+            && are_permissions_absorbed(alloc, &permissions)?
+            && are_drains_absorbed(alloc, &drains)?,
     )
 }
 

@@ -7,7 +7,7 @@ use Rattle.std.specs.Ordering.{nat_cmp, is_eq, is_lt, eq_by_cmp, ordering_then}
 use Rattle.std.proofs.lemmas.Bool.{and_parts, and_from, or_from, or_left, or_right, eqb-true, eqb-false, cases_order, cases_eq}
 use Rattle.std.proofs.lemmas.Bool.Decides.{nat_tests}
 use Rattle.std.proofs.lemmas.Cmp.{tied_itself}
-use Rattle.std.proofs.Math.Bool.{and-false}
+use Rattle.std.proofs.lemmas.Map.Views.{any-filter_same}
 use Rattle.dac_origins.specs.Keys.{is_below_all, is_rising, IsRising, has_key}
 use Rattle.dac_origins.specs.Dots.{dot, dot_cmp, origin_cmp}
 use Rattle.dac_origins.specs.laws.Dots.{origins_total}
@@ -61,7 +61,7 @@ on_the_way v m (n ∷ ns) p q = elim (nat_eq n (v + 1)) as (λ b. nat_eq n (v + 
 ] refl q
 
 -- nothing is reached if all counters are beyond the next
-stays : (v : ℕ) (ns : List ℕ) → is_below_all nat_cmp (v + 1) ns ≡ true → reach_from v ns ≡ v
+pub stays : (v : ℕ) (ns : List ℕ) → is_below_all nat_cmp (v + 1) ns ≡ true → reach_from v ns ≡ v
 stays v [] h = refl
 stays v (n ∷ ns) h = elim (nat_eq n (v + 1)) as (λ b. nat_eq n (v + 1) ≡ b → reach_from (cond b n v) ns ≡ v) [
   | true ↦ λ e. absurd (let is = eqb-true n (v + 1) e in let p = less (v + 1) n (and_parts _ _ h).0 in omega arith)
@@ -88,18 +88,9 @@ ends_there v (n ∷ ns) h =
 
 -- ---- filters
 
-kept : (px t pn h : Bool) → (t ≡ true → px ≡ pn) → cond px (t || (pn && h)) (pn && h) ≡ (pn && (t || h))
-kept px t pn h e = grind arith
-
 module _ (p : ℕ → Bool) where
   pub has_key-filter : (ns : List ℕ) (n : ℕ) → has_key nat_cmp (filter p ns) n ≡ (p n && has_key nat_cmp ns n)
-  has_key-filter [] n = sym (and-false (p n))
-  has_key-filter (x ∷ ns) n =
-      let t = eq_by_cmp nat_cmp n x in
-      elim (p x) as (λ b. p x ≡ b → has_key nat_cmp (cond b (x ∷ filter p ns) (filter p ns)) n ≡ (p n && (eq_by_cmp nat_cmp n x || has_key nat_cmp ns n))) [
-        | true ↦ λ e. ap (λ h. t || h) (has_key-filter ns n) ∙ kept true t (p n) (has_key nat_cmp ns n) (λ s. sym e ∙ ap p (sym (same n x s)))
-        | false ↦ λ e. has_key-filter ns n ∙ kept false t (p n) (has_key nat_cmp ns n) (λ s. sym e ∙ ap p (sym (same n x s)))
-      ] refl
+  has_key-filter ns n = any-filter_same (eq_by_cmp nat_cmp n) p (p n) (λ k e. ap p (sym (same n k e))) ns
 
   below_filter : (k : ℕ) (ns : List ℕ) → is_below_all nat_cmp k ns ≡ true → is_below_all nat_cmp k (filter p ns) ≡ true
   below_filter k [] h = refl

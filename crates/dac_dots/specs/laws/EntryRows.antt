@@ -1,5 +1,5 @@
 -- The rows and dots of the entries of a context, and what a search for an origin tells of them.
-use Rattle.std.proofs.Common.{◌≡◌, ℕ, zero, suc, ◌+◌, ◌≤◌, inl, inr, ◌||◌, ◌&&◌, Bool, true, false, nat_eq, nat_lt, nat_le, cond, T, List, [], ◌∷◌, ◌++◌, length, Option, None, Some, refl, sym, ap, ◌∙◌, subst, map, arith}
+use Rattle.std.proofs.Common.{◌≡◌, ℕ, zero, suc, ◌+◌, ◌≤◌, inl, inr, ◌||◌, ◌&&◌, Bool, true, false, nat_eq, nat_lt, nat_le, cond, T, List, [], ◌∷◌, ◌++◌, length, Option, None, Some, refl, sym, ap, ◌∙◌, subst, arith}
 use Rattle.std.specs.FinSet as set
 use Rattle.std.specs.FinMap.{find, put, is_sorted}
 use Rattle.std.specs.FinMap.Entries.{below_all, find-put, is_sorted-put}
@@ -25,7 +25,7 @@ use Rattle.dac_lattice.specs.laws.Entries.{find_merge, sorted_merge}
 use Rattle.dac_lattice.specs.laws.EntryLaws.{first, second, each_key, each_entry}
 use Rattle.dac_sorted.specs.Appending.{is_above_entries}
 use Rattle.dac_sorted.specs.laws.Appending.{sorted_appended, find_appended}
-use Rattle.dac_dots.specs.Rows.{Row, row_of, rows_of, reach_of, further_of, has_counter, any_row, origins, dots_in, IsKept, HasSome, AreKept, EndBefore, CanFollow}
+use Rattle.dac_dots.specs.Rows.{Row, row_of, rows_of, reach_of, further_of, has_counter, any_row, origins, IsKept, HasSome, AreKept, EndBefore, CanFollow}
 use Rattle.dac_dots.specs.Entries.{rows_at, dots_of, has_at, united, AreSome, AreRows}
 use Rattle.dac_dots.specs.laws.CounterLaws.{is_eq-then, is_same, rising_filter, ends_there}
 use Rattle.dac_dots.specs.laws.RowLaws.{counters_split, apart_of}

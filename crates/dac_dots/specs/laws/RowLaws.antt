@@ -1,9 +1,10 @@
 -- The rows of a set of dots describe it exactly.
-use Rattle.std.proofs.Common.{◌≡◌, ℕ, ◌+◌, ◌<◌, ◌⊎◌, inl, inr, Bool, true, false, ◌||◌, ◌&&◌, nat_eq, nat_lt, nat_le, List, [], ◌∷◌, refl, sym, ap, ◌∙◌, subst, map, arith, eq-eqb}
+use Rattle.std.proofs.Common.{◌≡◌, ℕ, ◌+◌, ◌<◌, ◌⊎◌, inl, inr, Bool, true, false, ◌||◌, ◌&&◌, nat_eq, nat_lt, nat_le, List, [], ◌∷◌, refl, sym, ap, ◌∙◌, subst, map, arith}
 use Rattle.std.specs.FinSet as set
 use Rattle.std.specs.List.{AllByRecursion}
 use Rattle.std.specs.Ordering.{nat_cmp, eq_by_cmp, is_eq}
-use Rattle.std.proofs.lemmas.Bool.{and_parts, and_cases, or_cases, or_left, or_right, false≢true, cases_Bool, leb-true, leb-false, ltb-true, lt-ltb, eqb-true}
+use Rattle.std.proofs.lemmas.Bool.{and_parts, or_cases, or_left, or_right, false≢true, cases_Bool, leb-true, ltb-true, eqb-true}
+use Rattle.std.proofs.lemmas.Bool.Decides.{nat_tests}
 use Rattle.std.proofs.lemmas.Cmp.{tied_itself}
 use Rattle.dac_origins.specs.Keys.{IsRising, has_key}
 use Rattle.dac_origins.specs.InOrder.{in_order}
@@ -16,10 +17,7 @@ use Rattle.dac_dots.specs.Rows.{Row, row_of, rows_of, origins_of, counters_of, f
 use Rattle.dac_dots.specs.laws.CounterLaws.{on_the_way, ends_there, has_key-filter, rising_filter, has_key-counters, rising_counters}
 
 outside : (v n : ℕ) → (nat_le 1 n && nat_le n v) ≡ false → (nat_lt v n || nat_eq n 0) ≡ true
-outside v n out = elim (and_cases (nat_le 1 n) (nat_le n v) out) [
-  | inl low ↦ or_right _ _ (eq-eqb n 0 (let p = leb-false 1 n low in omega arith))
-  | inr high ↦ or_left _ _ (lt-ltb v n (leb-false n v high))
-]
+outside v n out = grind (arith, nat_tests)
 
 -- a set of counters that contains 1 to v is 1 to v and the rest
 pub splits : (v n : ℕ) (h : Bool) → ((nat_le 1 n && nat_le n v) ≡ true → h ≡ true) → h ≡ ((nat_le 1 n && nat_le n v) || ((nat_lt v n || nat_eq n 0) && h))

@@ -44,9 +44,6 @@ has_one_to (suc u) n =
 pub or_turn : (a b c : Bool) → (a || (b || c)) ≡ ((b || a) || c)
 or_turn a b c = grind arith
 
-pub or_last : (a b c : Bool) → (a || (b || c)) ≡ (b || (c || a))
-or_last a b c = grind arith
-
 pub distribute : (a t h : Bool) → ((a && t) || (a && h)) ≡ (a && (t || h))
 distribute a t h = grind arith
 

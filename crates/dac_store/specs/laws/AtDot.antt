@@ -6,6 +6,13 @@ use Rattle.dac_lattice.specs.Lattices.{IsLattice, IsOptionOf}
 use Rattle.dac_lattice.specs.laws.Joins.{join_idem}
 use Rattle.dac_store.specs.AtDot.{StandsBelow, Under, join_at}
 
+-- each context decides only where the other side has a value
+pub at_alike : {V : Type 0} (join : V → V → V) (c d b e : Bool) (v w : Option V) → (is_some w ≡ true → c ≡ b) → (is_some v ≡ true → d ≡ e) → join_at join c d v w ≡ join_at join b e v w
+at_alike join c d b e None None f g = refl
+at_alike join c d b e (Some v) None f g = ap (λ z. join_at join c z (Some v) None) (g refl)
+at_alike join c d b e None (Some w) f g = ap (λ z. join_at join z d None (Some w)) (f refl)
+at_alike join c d b e (Some v) (Some w) f g = refl
+
 -- a value on one side alone stays if the other's context lacks its dot
 pub at_alone : {V : Type 0} (join : V → V → V) (c d : Bool) (v : Option V) → (is_some v ≡ true → d ≡ false) → join_at join c d v None ≡ v
 at_alone join c d None h = refl

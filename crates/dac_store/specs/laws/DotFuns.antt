@@ -15,7 +15,7 @@ use Rattle.dac_lattice.specs.Maps.{IsMap}
 use Rattle.dac_lattice.specs.laws.Entries.{sorted_merge, find_merge}
 use Rattle.dac_store.specs.Stores.{IsStoreWithin, IsDotStore}
 use Rattle.dac_store.specs.AtDot.{StandsBelow, join_at, Under}
-use Rattle.dac_store.specs.laws.AtDot.{at_again, at_alone, at_alone_right, at_unheard, at_refl, at_trans, at_antisymm, at_closed, at_comes, at_left, at_right, at_least}
+use Rattle.dac_store.specs.laws.AtDot.{at_again, at_alone, at_alone_right, at_alike, at_unheard, at_refl, at_trans, at_antisymm, at_closed, at_comes, at_left, at_right, at_least}
 use Rattle.dac_store.specs.DotFuns.{IsFunBelow, has_dot, is_empty_list, join_funs}
 
 empty_when_bare : {V : Type 0} (s : List (Dot × V)) → ((x : Dot) → has_dot s x ≡ false) → is_empty_list s ≡ true
@@ -69,4 +69,10 @@ module _ {V : Type 0} {is_value : V → Type 0} {below : V → V → Type 0} {jo
         (λ x. find_join s c s d u u x ∙ at_again laws (set.contains c x) (set.contains d x) (find dot_cmp x s) (u.values x));
     same = λ s c d u x h. at_refl laws _ (u.values x);
     unheard = λ s t c d h x e. at_unheard below (set.contains c x) _ _ (h x) e;
+    alike = λ s c t d b e u v f g. same_entries dot_cmp dots_total exact_dots (join_funs join s c t d) (join_funs join s b t e)
+        (sorted_merge dots_total exact_dots (λ x. join_at join (set.contains c x) (set.contains d x)) s t u.in_order v.in_order)
+        (sorted_merge dots_total exact_dots (λ x. join_at join (set.contains b x) (set.contains e x)) s t u.in_order v.in_order)
+        (λ x. find_join s c t d u v x
+        ∙ at_alike join (set.contains c x) (set.contains d x) (set.contains b x) (set.contains e x) (find dot_cmp x s) (find dot_cmp x t) (f x) (g x)
+        ∙ sym (find_join s b t e u v x));
   }

@@ -149,4 +149,10 @@ module _ {K : Type 0} {R : K → K → Ordering} (o : IsTotalOrder R) (exact : C
         ∙ kept_at _ (u.stores k));
     same = λ s c d u k. laws.same _ c d (at_store _ (u.stores k));
     unheard = λ s t c d h k. laws.unheard _ _ c d (λ x e. h x (has_found t k x e));
+    alike = λ s c t d b e u v f g. same_entries R o exact (join_keyed R nothing is_empty join s c t d) (join_keyed R nothing is_empty join s b t e)
+        (sorted_merge o exact (λ _ v w. unless_empty is_empty (join (store_at nothing v) c (store_at nothing w) d)) s t u.in_order v.in_order)
+        (sorted_merge o exact (λ _ v w. unless_empty is_empty (join (store_at nothing v) b (store_at nothing w) e)) s t u.in_order v.in_order)
+        (λ k. find_keyed s c t d u v k
+        ∙ ap (unless_empty is_empty) (laws.alike _ c _ d b e (at_store _ (u.stores k)) (at_store _ (v.stores k)) (λ x h. f x (has_found t k x h)) (λ x h. g x (has_found s k x h)))
+        ∙ sym (find_keyed s b t e u v k));
   }

@@ -72,6 +72,13 @@ stays_alone true c false true e f = absurd (false≢true (sym (f refl)))
 stays_alone true c false false e f = refl
 stays_alone false c false d e f = refl
 
+-- each context decides only at a dot of the other side's set
+stays_alike : (s c t d b e : Bool) → (t ≡ true → c ≡ b) → (s ≡ true → d ≡ e) → ((s && (t || not d)) || (t && (s || not c))) ≡ ((s && (t || not e)) || (t && (s || not b)))
+stays_alike true c true d b e f g = refl
+stays_alike true c false d b e f g = ap (λ z. not z || false) (g refl)
+stays_alike false c true d b e f g = ap (λ z. not z) (f refl)
+stays_alike false c false d b e f g = refl
+
 -- ---- the laws
 
 none_in : (s : Dots) → ((x : Dot) → set.contains s x ≡ false) → s ≡ set.empty
@@ -110,4 +117,8 @@ set_laws = record {
   again = λ s c d u. join_same s c d;
   same = λ s c d u x h k. h;
   unheard = λ s t c d h x held heard. absurd (false≢true (sym (h x held) ∙ heard));
+  alike = λ s c t d b e u v f g. set.same_set dots_total exact_dots (join_sets s c t d) (join_sets s b t e) (λ x.
+      contains_join s c t d x
+      ∙ stays_alike (set.contains s x) (set.contains c x) (set.contains t x) (set.contains d x) (set.contains b x) (set.contains e x) (f x) (g x)
+      ∙ sym (contains_join s b t e x));
 }

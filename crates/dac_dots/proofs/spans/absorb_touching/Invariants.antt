@@ -8,6 +8,7 @@ invariant-loop-spans l = record {
   front : take l.place l.spans.items ≡ take l.place l.fn.spans.items;
   value : absorbed l.fn.span (drop l.place l.fn.spans.items) ≡ absorbed l.joined (drop l.place l.spans.items);
   room : ((l.spans.items ≡ l.fn.spans.items) × (l.joined ≡ l.fn.span)) ⊎ (length l.spans.items < vec_capacity l.spans);
+  capacity : vec_capacity l.spans ≡ vec_capacity l.fn.spans;
 }
 
 abbrev pub decreases-loop-spans : goal.decreases-loop-spans

@@ -2,11 +2,8 @@ use Rattle.std.proofs.Common.{◌∙◌, ◌+◌, List, sym, subst}
 use Rattle.std.proofs.lemmas.Bool.{false≢true}
 use Rattle.dac_dots.specs.Rows.{Row, EndBefore}
 use Rattle.dac_dots.specs.laws.EntryRows.{rows_are, ends_before, above_from}
-use Rattle.dac_dots.proofs.RowLemmas.{rises_both, some_counters, no_counters}
+use Rattle.dac_dots.proofs.RowLemmas.{rises_both, some_counters}
 use Rattle.dac_dots.proofs.context.Context.can_follow.Goals as goal
-
-pub returns-then-has_no_dots : goal.returns-then-has_no_dots
-returns-then-has_no_dots c = (λ e. absurd (false≢true e), λ can. absurd (no_counters c.args.origin c.args.upto c.args.further.now (c.has_no_dots.ensures.0 c.if-has_no_dots.true) can.some))
 
 pub returns-then-not-ends_below : goal.returns-then-not-ends_below
 returns-then-not-ends_below c =

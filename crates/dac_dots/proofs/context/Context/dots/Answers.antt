@@ -1,17 +1,20 @@
-use Rattle.std.proofs.Common.{◌∙◌, ap}
+use Rattle.std.proofs.Common.{◌≡◌, ◌++◌, ◌∙◌, ap, subst, sym}
 use Rattle.std.specs.FinSet as set
+use Rattle.std.proofs.lemmas.List.{append-nil}
 use Rattle.dac_origins.specs.Dots.{dot_cmp}
-use Rattle.dac_origins.specs.Keys.{has_key}
-use Rattle.dac_origins.specs.laws.Dots.{dots_total, exact_dots}
-use Rattle.dac_origins.specs.laws.InOrder.{in_order-same}
-use Rattle.dac_dots.specs.Entries.{dots_of}
-use Rattle.dac_dots.proofs.SetLemmas.{in_order_is, taken_all}
+use Rattle.dac_origins.specs.Keys.{IsRising}
+use Rattle.dac_dots.specs.Entries.{AreRows, dots_of}
+use Rattle.dac_dots.proofs.SetLemmas.{listed, listed_is, listed_same, rising_listed}
 use Rattle.dac_dots.proofs.context.Context.dots.Goals as goal
 
-pub returns-clause-value : goal.returns-clause-value
-returns-clause-value c =
-    in_order_is c.entries-entries.result c.args.self.now (ap dots_of c.entries-entries.ensures ∙ c.self.view_is) c.loop-origin.dots.items c.loop-origin.invariant.rising
-    (taken_all c.loop-origin.entries c.entries-entries.result c.in_default.ensures.0 (has_key dot_cmp c.loop-origin.dots.items) c.loop-origin.invariant.so_far)
-
-pub returns-clause-same : goal.returns-clause-same
-returns-clause-same c = ap set.from_list (returns-clause-value c) ∙ in_order-same dots_total exact_dots c.args.self.now
+pub returns : goal.returns
+returns c =
+    let es = c.entries-entries.result in
+    let rows = subst AreRows (sym c.entries-entries.ensures) c.self.invariant in
+    let view = ap dots_of c.entries-entries.ensures ∙ c.self.view_is in
+    let all : c.loop-origin.dots.items ≡ listed es = sym (append-nil c.loop-origin.dots.items) ∙ ap (λ l. c.loop-origin.dots.items ++ listed l) (sym c.in_default.ensures.0) ∙ c.loop-origin.invariant in
+    record {
+      value = all ∙ listed_is es c.args.self.now view rows;
+      rising = subst (IsRising dot_cmp) (sym all) (rising_listed es rows);
+      same = ap set.from_list all ∙ listed_same es c.args.self.now view;
+    }

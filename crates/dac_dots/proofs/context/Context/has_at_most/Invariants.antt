@@ -1,4 +1,4 @@
-use Rattle.std.proofs.Common.{◌≡◌, ◌≤◌, ◌+◌, length}
+use Rattle.std.proofs.Common.{◌≡◌, ◌+◌, length}
 use Rattle.dac_dots.specs.Entries.{counted}
 use Rattle.dac_dots.proofs.context.Context.has_at_most.Given as goal
 

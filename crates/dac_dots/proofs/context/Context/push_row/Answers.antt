@@ -9,9 +9,6 @@ pub push-requires : goal.push-requires
 push-requires c =
     above_all c.self.inside.rows c.args.self.now c.self.view_is c.self.invariant c.args.origin c.args.upto c.args.further.now _ (c.can_follow.ensures.0 c.if-not-can_follow.false) c.in_ok-counters.ensures.rising c.in_ok-counters.ensures.upto c.in_ok-counters.ensures.further
 
-pub invariant_of-self : goal.invariant_of-self
-invariant_of-self c = subst AreRows (sym c.in_err-push.ensures.err) c.self.invariant
-
 pub invariant_of-self-2 : goal.invariant_of-self-2
 invariant_of-self-2 c =
     subst AreRows (sym c.in_ok-push.ensures.ok)

@@ -18,9 +18,6 @@ returns-then-len-eq0-2 c =
     let len = c.len-2.ensures.value in
     IfOk-weaker c.copy-then-len-eq0-2.result _ _ (λ both is. is ∙ adds_nothing_second c.other.inside.rows c.args.other.now c.other.view_is (omega (arith, none, len)) c.args.self.now) c.copy-then-len-eq0-2.ensures
 
-pub merge-requires : goal.merge-requires
-merge-requires c = λ i d p. tt
-
 pub invariant_of-result : goal.invariant_of-result
 invariant_of-result c = subst AreRows (sym c.in_ok-rows.ensures) (rows_united c.self.inside.rows c.other.inside.rows c.self.invariant c.other.invariant)
 

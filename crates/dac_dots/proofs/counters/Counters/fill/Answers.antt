@@ -3,11 +3,7 @@ use Rattle.dac_origins.specs.Dots.{dot}
 use Rattle.dac_dots.specs.DotFilters.{may_have}
 use Rattle.dac_dots.specs.Spans.{span_has}
 use Rattle.dac_dots.proofs.FilterLemmas.{one_further, in_spans}
-use Rattle.dac_dots.proofs.SpanLemmas.{apart_at}
 use Rattle.dac_dots.proofs.counters.Counters.fill.Goals as goal
-
-pub fill_span-requires : goal.fill_span-requires
-fill_span-requires c = (apart_at 0 c.spans-span-items.result.now (c.spans-span-items.ensures.apart) c.loop-span.span-index (record { first = 0; last = 0 }) c.loop-span-test.true).1
 
 pub loop-span-preserved : goal.loop-span-preserved
 loop-span-preserved c = record {

@@ -1,10 +1,7 @@
 use Rattle.std.proofs.Common.{◌∙◌, sym, refl}
 use Rattle.std.proofs.lemmas.Bool.{false≢true}
-use Rattle.dac_dots.proofs.SpanLemmas.{apart_at, subset_whole, span_within}
+use Rattle.dac_dots.proofs.SpanLemmas.{subset_whole, span_within}
 use Rattle.dac_dots.proofs.counters.Counters.is_subset.Goals as goal
-
-pub has_span-requires : goal.has_span-requires
-has_span-requires c = (apart_at 0 c.spans-span-items.result.now (c.spans-span-items.ensures.apart) c.loop-span.span-index (record { first = 0; last = 0 }) c.loop-span-test.true).1
 
 pub returns-then-not-has_span : goal.returns-then-not-has_span
 returns-then-not-has_span c = (

@@ -1,14 +1,11 @@
 use Rattle.std.proofs.Common.{◌≡◌, ◌+◌, List, ℕ, length, take, ap, sym, arith, add-one, subst}
 use Rattle.dac_dots.specs.Spans.{counters_in}
 use Rattle.dac_dots.specs.declared.spans.Span.{Span}
-use Rattle.dac_dots.proofs.SpanLemmas.{apart_at, no_spans, len_more, len_span}
+use Rattle.dac_dots.proofs.SpanLemmas.{no_spans, len_more, len_span}
 use Rattle.dac_dots.proofs.counters.Counters.len.Goals as goal
 
 pub loop-span-init : goal.loop-span-init
 loop-span-init c = record { so_far = ap (λ (ns : List ℕ). length ns) (sym no_spans); small = omega arith }
-
-pub len-len-requires : goal.len-len-requires
-len-len-requires c = (apart_at 0 c.spans-span-items.result.now (c.spans-span-items.ensures.apart) c.loop-span.span-index (record { first = 0; last = 0 }) c.loop-span-test.true).1
 
 pub loop-span-preserved : goal.loop-span-preserved
 loop-span-preserved c =

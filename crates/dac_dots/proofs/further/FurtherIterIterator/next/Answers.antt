@@ -1,7 +1,7 @@
 use Rattle.std.proofs.Common.{◌≡◌, ◌∷◌, ◌∙◌, length, ap, sym, arith}
 use Rattle.dac_dots.specs.declared.further.FurtherIter.{FurtherIter}
 use Rattle.dac_dots.specs.Walking.{counters_along, counters_left, left_of}
-use Rattle.dac_dots.proofs.PastLemmas.{after_first}
+use Rattle.dac_dots.proofs.AlongLemmas.{after_first}
 use Rattle.dac_dots.proofs.further.FurtherIterIterator.next.Goals as goal
 use Rattle.dac_dots.proofs.further.FurtherIterIterator.next.Goals.{After-self-1, in-Some, in-None+in_ok-first-in-None}
 

@@ -5,6 +5,6 @@ use Rattle.dac_status.proofs.walk.Walk.of.Goals as goal
 
 pub invariant_of-result : goal.invariant_of-result
 invariant_of-result c = (
-  subst (IsInOrder key_cmp) (sym c.entries.ensures) (are_permits c.permissions.result.now.standing).in_order,
-  subst (IsInOrder key_cmp) (sym c.entries-2.ensures) (are_starts c.wishes.result.now.standing).in_order,
+  subst (IsInOrder key_cmp) (sym c.entries.ensures) (are_permits c.permissions.result.standing).in_order,
+  subst (IsInOrder key_cmp) (sym c.entries-2.ensures) (are_starts c.wishes.result.standing).in_order,
 )
