@@ -1,5 +1,5 @@
 -- What one set has that another one lacks, found span by span and origin by origin.
-use Rattle.std.proofs.Common.{◌≡◌, ℕ, ◌+◌, ◌<◌, ◌≤◌, Bool, true, false, cond, ◌||◌, ◌&&◌, List, [], ◌∷◌, Option, None, Some, Result, Ok, Err, length, take, get_or, refl, sym, ap, ◌∙◌, subst, arith}
+use Rattle.std.proofs.Common.{◌≡◌, ℕ, ◌≤◌, Bool, true, false, cond, ◌||◌, ◌&&◌, List, [], ◌∷◌, Option, None, Some, Result, Ok, Err, length, take, refl, sym, ap, ◌∙◌, subst, arith}
 use Rattle.std.specs.Prelude.{IfOk, OnErr, OnOk}
 use Rattle.std.specs.Ordering.{nat_cmp, eq_by_cmp}
 use Rattle.std.specs.FinSet as set
@@ -11,7 +11,7 @@ use Rattle.std.proofs.lemmas.List.{take_all}
 use Rattle.std.proofs.Math.Bool.{or-false}
 use Rattle.dac_origins.specs.Keys.{IsRising, has_key}
 use Rattle.dac_origins.specs.laws.InOrder.{tie}
-use Rattle.dac_origins.specs.Dots.{Dots, dot, origin_cmp}
+use Rattle.dac_origins.specs.Dots.{Dots, origin_cmp}
 use Rattle.dac_origins.specs.laws.Dots.{dots_total, exact_dots, origins_total, exact_origins}
 use Rattle.dac_origins.specs.declared.dot.Origin.{Origin}
 use Rattle.dac_origins.specs.declared.dot.Dot.{Dot}
@@ -25,45 +25,18 @@ use Rattle.dac_dots.specs.declared.news.News.TheVariants.{Nothing, Consecutive, 
 use Rattle.dac_dots.specs.laws.EntryRows.{contains_at, rows_put}
 use Rattle.dac_dots.specs.laws.RowSets.{some_length}
 use Rattle.dac_dots.proofs.SetLemmas.{any_at, contains_any, contains_found}
-use Rattle.dac_dots.proofs.SpanLemmas.{any_more, has_now}
+use Rattle.dac_dots.proofs.SpanLemmas.{has_now}
 
 -- ---- spans
-
-known_more : (a s o : Bool) → (s ≡ true → o ≡ true) → ((a || s) || o) ≡ (a || o)
-known_more true s o f = refl
-known_more false true o f = sym (f refl)
-known_more false false o f = refl
-
-new_more : (a s o : Bool) → (a || o) ≡ o → ((a || s) || o) ≡ (s || o)
-new_more true true o e = refl
-new_more true false o e = e
-new_more false s o e = refl
 
 with_same : (has more other : ℕ → Bool) (news : Option Span) → ((n : ℕ) → (more n || other n) ≡ (has n || other n)) → AreWithSpan has other news → AreWithSpan more other news
 with_same has more other None same are = λ n. same n ∙ are n
 with_same has more other (Some span) same are = (are.0, λ n. same n ∙ are.1 n)
 
--- a span that the other set has
-pub span_known : (spans : List Span) (i : ℕ) (d : Span) → i < length spans → (other : ℕ → Bool) (news : Option Span) → ((n : ℕ) → span_has n (get_or spans i d) ≡ true → other n ≡ true)
-    → AreWithSpan (any_span (take i spans)) other news → AreWithSpan (any_span (take (i + 1) spans)) other news
-span_known spans i d p other news known are = with_same (any_span (take i spans)) (any_span (take (i + 1) spans)) other news
-    (λ n. ap (λ b. b || other n) (any_more spans i d p n) ∙ known_more (any_span (take i spans) n) (span_has n (get_or spans i d)) (other n) (known n)) are
-
--- the first one that it lacks
-pub span_new : (spans : List Span) (i : ℕ) (d : Span) → i < length spans → (other : ℕ → Bool) → (get_or spans i d).first ≤ (get_or spans i d).last
-    → AreWithSpan (any_span (take i spans)) other None → AreWithSpan (any_span (take (i + 1) spans)) other (Some (get_or spans i d))
-span_new spans i d p other valid are =
-    (valid, λ n. ap (λ b. b || other n) (any_more spans i d p n) ∙ new_more (any_span (take i spans) n) (span_has n (get_or spans i d)) (other n) (are n))
-
 pub spans_all : (spans : List Span) → are_apart 0 spans ≡ true → (now : List ℕ) → counters_in spans ≡ now → (i : ℕ) → length spans ≤ i → (other : ℕ → Bool) (news : Option Span)
     → AreWithSpan (any_span (take i spans)) other news → AreWithSpan (has_key nat_cmp now) other news
 spans_all spans apart now view i p other news are = with_same (any_span (take i spans)) (has_key nat_cmp now) other news
     (λ n. ap (λ b. b || other n) (has_now spans apart now view n ∙ ap (λ l. any_span l n) (sym (take_all i spans p)))) are
-
--- a fact of a call's result, weakened
-pub if_ok : {E : Type 0} (r : Result Bool E) (P Q : Bool → Type 0) → ((done : Bool) → P done → Q done) → IfOk r P → IfOk r Q
-if_ok (Ok done) P Q f p = f done p
-if_ok (Err e) P Q f p = tt
 
 -- two facts of a call's result
 pub ok_both : {X E : Type 0} (r : Result X E) (A B C : Type 0) → (A → B → C) → OnOk r A → OnOk r B → OnOk r C

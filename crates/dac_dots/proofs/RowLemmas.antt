@@ -15,7 +15,6 @@ use Rattle.dac_dots.specs.Rows.{reach_from, reach_of, further_of, HasSome, rises
 use Rattle.dac_origins.specs.declared.dot.Origin.{Origin}
 use Rattle.dac_dots.proofs.SpanLemmas.{reaches}
 use Rattle.dac_dots.proofs.AlongLemmas.{all_further}
-use Rattle.std.specs.FinSet as set
 
 -- ---- further counters that can follow
 

@@ -1,8 +1,7 @@
 -- What one set has that another one lacks.
 use Rattle.std.specs.Prelude.{◌≡◌, ℕ, ◌≤◌, ◌&&◌, ◌||◌, Bool, false, true, Option, None, Some}
 use Rattle.std.specs.Ordering.{eq_by_cmp}
-use Rattle.std.specs.FinSet as set
-use Rattle.dac_origins.specs.Dots.{Dots, origin_cmp}
+use Rattle.dac_origins.specs.Dots.{origin_cmp}
 use Rattle.dac_origins.specs.declared.dot.Origin.{Origin}
 use Rattle.dac_origins.specs.declared.dot.Dot.{Dot}
 use Rattle.dac_dots.specs.Spans.{span_has}

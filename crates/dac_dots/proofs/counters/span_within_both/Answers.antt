@@ -11,12 +11,12 @@ loop-n-preserved c m low high = elim (cases_lt m c.loop-n.n) [
 ]
 
 pub returns : goal.returns
-returns c yes n e =
+returns c held n e =
     let parts = and_parts _ _ e in
     let low = leb-true c.args.span.first n parts.0 in
     let high = leb-true n c.args.span.last parts.1 in
     let past = c.loop-n-test.false in
     elim (cases_lt n c.args.span.last) [
       | inl before ↦ c.loop-n.invariant n low (omega (arith, past, before))
-      | inr here ↦ subst (λ (k : ℕ). (set.contains c.args.first.now (dot c.args.origin k) || set.contains c.args.second.now (dot c.args.origin k)) ≡ true) (omega (arith, here, high)) (sym c.is_in_either-2.ensures ∙ yes)
+      | inr here ↦ subst (λ (k : ℕ). (set.contains c.args.first.now (dot c.args.origin k) || set.contains c.args.second.now (dot c.args.origin k)) ≡ true) (omega (arith, here, high)) (sym c.is_in_either-2.ensures ∙ held)
     ]

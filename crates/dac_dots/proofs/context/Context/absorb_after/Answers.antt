@@ -1,4 +1,5 @@
-use Rattle.dac_dots.proofs.NewsLemmas.{dots_changed, if_ok, nothing_new, rows_tried}
+use Rattle.std.proofs.lemmas.Result.{IfOk-weaker}
+use Rattle.dac_dots.proofs.NewsLemmas.{dots_changed, nothing_new, rows_tried}
 use Rattle.dac_dots.proofs.context.Context.absorb_after.Goals as goal
 
 pub invariant_of-self : goal.invariant_of-self
@@ -10,5 +11,5 @@ returns-in_ok-take-in-Nothing-clause-ok g c = (nothing_new c.args.self.now c.arg
 
 pub returns-in-Consecutive-clause-ok : goal.returns-in-Consecutive-clause-ok
 returns-in-Consecutive-clause-ok g c =
-    if_ok c.alter.result _ _ (λ done. dots_changed _ c.in-Consecutive.span (g.S.LastStep.steps c.args.step.now) c.in-Consecutive.ensures.0 c.in-Consecutive.origin c.self.inside.rows c.alter.new.self c.args.target.now c.alter.new.target c.self.invariant
+    IfOk-weaker c.alter.result _ _ (λ done. dots_changed _ c.in-Consecutive.span (g.S.LastStep.steps c.args.step.now) c.in-Consecutive.ensures.0 c.in-Consecutive.origin c.self.inside.rows c.alter.new.self c.args.target.now c.alter.new.target c.self.invariant
     c.args.self.now c.args.other.now c.self.view_is c.in-Consecutive.ensures.1 done) c.alter.ensures.ok

@@ -1,4 +1,4 @@
-use Rattle.std.proofs.Common.{◌≡◌, take}
+use Rattle.std.proofs.Common.{take}
 use Rattle.std.specs.Ordering.{nat_cmp}
 use Rattle.dac_origins.specs.Keys.{has_key}
 use Rattle.dac_dots.specs.News.{AreWithSpan}
