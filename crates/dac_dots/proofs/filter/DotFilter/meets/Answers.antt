@@ -1,4 +1,4 @@
-use Rattle.std.proofs.Common.{◌≡◌, ℕ, false, bit_or, arith, below_more}
+use Rattle.std.proofs.Common.{◌≡◌, ℕ, bit_or, arith, below_more}
 use Rattle.std.proofs.lemmas.Bool.{eqb-true, not-false}
 use Rattle.std.proofs.lemmas.Nat.{le_or_l, le_or_r}
 use Rattle.dac_dots.proofs.FilterLemmas.{apart_from}
