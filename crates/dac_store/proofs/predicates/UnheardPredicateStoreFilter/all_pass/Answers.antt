@@ -1,6 +1,6 @@
 use Rattle.std.proofs.lemmas.Bool.{not-true}
 use Rattle.dac_store.proofs.ChunkLemmas.{one_unheard}
-use Rattle.dac_store.proofs.tests.UnheardTestStoreFilter.all_pass.Goals as goal
+use Rattle.dac_store.proofs.predicates.UnheardPredicateStoreFilter.all_pass.Goals as goal
 
 pub returns : goal.returns
 returns g c e k s says = one_unheard g.S.DotStore.has s c.args.digest.now.filter.slots c.filter.result.now.slots c.args.self.now.heard.now says c.filter.ensures (c.meets.ensures (not-true c.meets.result e))
