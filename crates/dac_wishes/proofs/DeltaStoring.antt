@@ -43,7 +43,7 @@ start_kept : (d : Dot) (b : Bool) → IsKept IsAny is_empty_set (cond b (Some (s
 start_kept d true = (tt, one_not_empty d)
 start_kept d false = tt
 
-start_keyed : (d : Dot) (a : WishAct) → IsKeyed key_cmp IsAny is_empty_set (stored_start d a)
+pub start_keyed : (d : Dot) (a : WishAct) → IsKeyed key_cmp IsAny is_empty_set (stored_start d a)
 start_keyed d (Start key over) = record { in_order = tt; stores = λ k. start_kept d (eq_by_cmp key_cmp k key) }
 start_keyed d (OtherWish over) = record { in_order = tt; stores = λ k. tt }
 

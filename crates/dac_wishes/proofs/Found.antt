@@ -1,6 +1,6 @@
 -- Presence of values: through a reference, of a result without error, and of permits at a key.
 use Rattle.std.proofs.Common.{◌≡◌, Bool, false, List, [], ◌∷◌, length, nat_eq, Option, Some, None, Result, Ok, Err, is_some, Bor, refl, subst}
-use Rattle.std.specs.Prelude.{IsOk, IfOk, IfErr}
+use Rattle.std.specs.Prelude.{IsOk, IfOk, IfErr, OnErr}
 use Rattle.std.specs.Option.{option_copied}
 use Rattle.std.specs.List.{list_all}
 use Rattle.std.proofs.lemmas.Bool.{true≢false}
@@ -20,6 +20,11 @@ no_error P H (Err e) f h = absurd (f.1 h)
 -- a property of each successful value holds of the result's
 pub said_of : {X E : Type 0} (P : X → Type 0) (r : Result X E) (x : X) → IfOk r P → r ≡ Ok x → P x
 said_of P r x f e = subst (λ s. IfOk s P) e f
+
+-- what holds anyway holds after an error
+pub on_err : {X E : Type 0} (r : Result X E) (P : Type 0) → P → OnErr r P
+on_err (Ok x) P p = tt
+on_err (Err e) P p = p
 
 -- if there are permits, all must be true
 pub by_permits : (default : Bool) (ps : List (Dot × Flag)) → nat_eq (length ps) 0 ≡ false → is_permitted_by default ps ≡ list_all (λ (p : Dot × Flag). is_permitting p.1) ps

@@ -3,5 +3,6 @@ pub mod Naming
 pub mod WishStoring
 pub mod VoteStoring
 pub mod DeltaStoring
+pub mod StandingStoring
 pub mod Covered
 pub mod Walks

@@ -10,7 +10,7 @@ use Rattle.std.specs.FinMap.{find}
 use Rattle.std.proofs.lemmas.Bool.{false≢true, or_left, or_right}
 use Rattle.std.proofs.lemmas.Map.Lookups.{CmpEqualImpliesEq}
 use Rattle.dac_origins.specs.declared.dot.Dot.{Dot}
-use Rattle.dac_origins.specs.Dots.{dot_cmp}
+use Rattle.dac_origins.specs.Dots.{Dots, dot_cmp}
 use Rattle.dac_origins.specs.laws.Dots.{dots_total}
 use Rattle.dac_origins.specs.Keys.{has_key}
 use Rattle.dac_lattice.specs.declared.flags.Flag.{Flag}
@@ -44,6 +44,10 @@ held_at R (e ∷ m) key d h = elim (eq_by_cmp R key e.0) as (λ b. has_dot (stor
   | true ↦ λ h. or_left (has_dot e.1 d) (has_in has_dot m d) h
   | false ↦ λ h. or_right (has_dot e.1 d) (has_in has_dot m d) (held_at R m key d h)
 ] h
+
+-- stored votes, paired with an equal context
+pub votes_with : {K : Type 0} (R : K → K → Ordering) (v : StoredVotes K) (known : Dots) → AreStoredVotes R v → v.context ≡ known → AreStoredVotes R (record { store = v.store; context = known })
+votes_with R v known stored same = subst (λ c. AreStoredVotes R (record { store = v.store; context = c })) same stored
 
 -- ---- order and join
 
@@ -144,6 +148,10 @@ vote_there R d (Some v) w = vote_at d v.1 (eq_by_cmp R w.key v.0) w.dot
 -- a delta's dot is known
 pub vote_held_by : {K : Type 0} (d : Dot) (u : Option (K × Flag)) (over : List Dot) → IsHeld (has_in has_dot (stored_vote d u)) (set.from_list (d ∷ over))
 vote_held_by d u over x e = set.contains-from_list dots_total (d ∷ over) x ∙ or_left (same_dot x d) (has_key dot_cmp over x) (vote_held d u x e)
+
+-- the stored form of a vote, paired with the dots that the operation names
+pub vote_beside : {K : Type 0} (R : K → K → Ordering) (d : Dot) (u : Option (K × Flag)) (over : List Dot) → AreStoredVotes R (record { store = stored_vote d u; context = set.from_list (d ∷ over) })
+vote_beside R d u over = record { store = vote_keyed R d u; held = vote_held_by d u over }
 
 module _ {K : Type 0} {R : K → K → Ordering} (keys_total : IsTotalOrder R) (exact_keys : CmpEqualImpliesEq R) {A : Type 0} (over : A → List Dot) (vote : A → Option (K × Flag)) where
   -- the stored form of a delta represents the delta

@@ -15,10 +15,10 @@ stored_standing known permits starts drains = standing_of
     (drains_of (record { store = drains; context = known }))
 
 -- each store is sorted, and its dots are known
-pub record AreStoredBeside (known : Dots) (permits : List (Key × DotFlags)) (starts : List (Key × Dots)) (drains : List (Origin × DotFlags)) : Type 0 where
-  pub permits : AreStoredFlags (record { store = permits; context = known })
-  pub starts : AreStoredDots (record { store = starts; context = known })
-  pub drains : AreStoredDrains (record { store = drains; context = known })
+pub record AreStoredBeside (known : Dots) (permitted : List (Key × DotFlags)) (started : List (Key × Dots)) (drained : List (Origin × DotFlags)) : Type 0 where
+  pub permits : AreStoredFlags (record { store = permitted; context = known })
+  pub starts : AreStoredDots (record { store = started; context = known })
+  pub drains : AreStoredDrains (record { store = drained; context = known })
 
 -- the join, or None if it is this store
 abbrev pub IsJoinedOr : {S : Type 0} → S → S → Option S → Type 0

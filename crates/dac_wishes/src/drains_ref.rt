@@ -1,7 +1,6 @@
 //! Drains, borrowed.
 ghost use Rattle.std.specs.Prelude.{◌≡◌, ◌↔◌, length, IsTrue};
-ghost use Rattle.dac_origins.specs.Dots.{origin};
-ghost use Rattle.dac_wishes.specs.DrainsValue.{drains_at, is_drained, IsDrained};
+ghost use Rattle.dac_wishes.specs.DrainsValue.{origin, drains_at, is_drained, IsDrained};
 
 use crate::drains::some_says_drained;
 use crate::votes::kept_at;
@@ -36,7 +35,7 @@ impl<'a> DrainsRef<'a> {
     /// The drains of a stored form.
     #[inline(always)]
     pub(crate) fn of(causal: CausalRef<'a, DotMap<Origin, DotFun<Flag>>>) -> Self
-        ensures { result ≡ drains_of causal }
+        ensures { result ≡ drains_of causal.entry }
     {
         causal.tells_invariant();
         DrainsRef { causal }

@@ -37,7 +37,7 @@ impl<'a> PermissionsRef<'a> {
     /// The permissions of a stored form.
     #[inline(always)]
     pub(crate) fn of(causal: CausalRef<'a, DotMap<Key, DotFun<Flag>>>) -> Self
-        ensures { result ≡ permissions_of causal }
+        ensures { result ≡ permissions_of causal.entry }
     {
         causal.tells_invariant();
         PermissionsRef { causal }

@@ -194,27 +194,49 @@ impl Standing {
         ensures ok { OnOk result (self.new ≡ join_standing self.old other.now) }
         ensures err { OnErr result (self.new ≡ self.old) }
     {
+        if other.permits.is_empty() {
+            self.absorb_starts_last(other)
+        } else {
+            self.absorb_permits_last(other)
+        }
+    }
+
+    /// Joins the other one into this one. The start wishes change in place, if they can.
+    fn absorb_starts_last(&mut self, other: &Self) -> Result<(), NoMemory>
+        ensures ok { OnOk result (self.new ≡ join_standing self.old other.now) }
+        ensures err { OnErr result (self.new ≡ self.old) }
+    {
+        let permits = joined_unless_same(
+            &CausalRef::of(&self.permits, &self.known),
+            &CausalRef::of(&other.permits, &other.known),
+        )?;
         let drains = joined_unless_same(
             &CausalRef::of(&self.drains, &self.known),
             &CausalRef::of(&other.drains, &other.known),
         )?;
-        if other.permits.is_empty() {
-            let permits = joined_unless_same(
-                &CausalRef::of(&self.permits, &self.known),
-                &CausalRef::of(&other.permits, &other.known),
-            )?;
-            let theirs = CausalRef::of(&other.starts, &other.known);
-            absorb_paired(&mut self.starts, &mut self.known, &theirs)?;
-            put_if_some(&mut self.permits, permits);
-        } else {
-            let starts = joined_unless_same(
-                &CausalRef::of(&self.starts, &self.known),
-                &CausalRef::of(&other.starts, &other.known),
-            )?;
-            let theirs = CausalRef::of(&other.permits, &other.known);
-            absorb_paired(&mut self.permits, &mut self.known, &theirs)?;
-            put_if_some(&mut self.starts, starts);
-        }
+        let theirs = CausalRef::of(&other.starts, &other.known);
+        absorb_paired(&mut self.starts, &mut self.known, &theirs)?;
+        put_if_some(&mut self.permits, permits);
+        put_if_some(&mut self.drains, drains);
+        Ok(())
+    }
+
+    /// Joins the other one into this one. The permits change in place, if they can.
+    fn absorb_permits_last(&mut self, other: &Self) -> Result<(), NoMemory>
+        ensures ok { OnOk result (self.new ≡ join_standing self.old other.now) }
+        ensures err { OnErr result (self.new ≡ self.old) }
+    {
+        let starts = joined_unless_same(
+            &CausalRef::of(&self.starts, &self.known),
+            &CausalRef::of(&other.starts, &other.known),
+        )?;
+        let drains = joined_unless_same(
+            &CausalRef::of(&self.drains, &self.known),
+            &CausalRef::of(&other.drains, &other.known),
+        )?;
+        let theirs = CausalRef::of(&other.permits, &other.known);
+        absorb_paired(&mut self.permits, &mut self.known, &theirs)?;
+        put_if_some(&mut self.starts, starts);
         put_if_some(&mut self.drains, drains);
         Ok(())
     }

@@ -5,7 +5,7 @@ ghost use Rattle.dac_origins.specs.Dots.{IsSubset};
 ghost use Rattle.dac_origins.specs.InOrder.{in_order};
 ghost use Rattle.dac_wishes.specs.Writes.{dots_at};
 ghost use Rattle.dac_wishes.specs.WishesValue.{join_wishes, AreWishesBelow, is_wished, SomeStands};
-ghost use Rattle.dac_wishes.specs.StoredDeltas.{stored_start};
+ghost use Rattle.dac_wishes.specs.StoredDeltas.{start_stored, stored_start};
 ghost use Rattle.dac_wishes.specs.WishMeaning.{wish_delta};
 ghost use Rattle.dac_wishes.specs.Covering.{wish_act};
 
@@ -179,7 +179,9 @@ pub(crate) fn start_at(
     alloc: Global,
     dot: Dot,
     start: Option<Key>,
-) -> Result<DotMap<Key, DotSet>, NoMemory> {
+) -> Result<DotMap<Key, DotSet>, NoMemory>
+    ensures { IfOk result (λ store. store ≡ start_stored dot start) }
+{
     match start {
         Some(key) => {
             let dots = DotSet::one(alloc, dot)?;

@@ -35,7 +35,7 @@ impl<'a> WishesRef<'a> {
     /// The wishes of a stored form.
     #[inline(always)]
     pub(crate) fn of(causal: CausalRef<'a, DotMap<Key, DotSet>>) -> Self
-        ensures { result ≡ wishes_of causal }
+        ensures { result ≡ wishes_of causal.entry }
     {
         causal.tells_invariant();
         WishesRef { causal }

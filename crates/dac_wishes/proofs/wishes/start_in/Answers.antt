@@ -1,13 +1,4 @@
-use Rattle.std.proofs.Common.{◌∙◌, ap, [], ◌∷◌, cond}
-use Rattle.std.specs.FinSet as set
-use Rattle.dac_origins.specs.Dots.{dot_cmp}
-use Rattle.dac_store.specs.DotSets.{is_empty_set}
-use Rattle.dac_wishes.proofs.DeltaStoring.{one_not_empty}
 use Rattle.dac_wishes.proofs.wishes.start_in.Goals as goal
 
-pub returns-in_ok-store-in-Start : goal.returns-in_ok-store-in-Start
-returns-in_ok-store-in-Start c =
-    rw c.in-Start.is
-    (c.in_ok-store-in-Start.ensures
-    ∙ ap (λ s. cond (is_empty_set s) [] ((c.in-Start.key, s) ∷ [])) c.in_ok-dots-in-Start.ensures
-    ∙ ap (λ b. cond b [] ((c.in-Start.key, set.insert (set.empty {R = dot_cmp}) c.args.dot) ∷ [])) (one_not_empty c.args.dot))
+pub returns-in-Start : goal.returns-in-Start
+returns-in-Start c = rw c.in-Start.is c.start_at.ensures

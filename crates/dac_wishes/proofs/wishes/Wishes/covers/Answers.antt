@@ -1,0 +1,4 @@
+use Rattle.dac_wishes.proofs.wishes.Wishes.covers.Goals as goal
+
+pub returns : goal.returns
+returns c = rw c.borrowed.ensures at c.covers.ensures
