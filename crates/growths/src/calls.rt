@@ -17,6 +17,7 @@ use tried_calls::pieces::{
     replacing, wishes,
 };
 use tried_calls::states::{OfState, states};
+use tried_calls::together::{OfStanding, paired, standings, stepping};
 use tried_calls::trial::{Came, try_call};
 use tried_calls::values::{
     OfBuffer, OfConfig, OfContext, Written, buffers, configs, contexts, writing,
@@ -43,6 +44,9 @@ pub enum Call {
     DotMaps(OfStore),
     BlockMaps(OfStore),
     Replaced(bool),
+    Stepped,
+    Paired(bool),
+    Standing(OfStanding),
     Made(Made),
     Pushed(Pushed),
     Act(OfAct),
@@ -142,6 +146,20 @@ pub const CALLS: &[(&str, Call)] = &[
     ("DotMap::absorb_in:blocks", Call::Replaced(false)),
     ("DotMap::absorb_in:shared", Call::Replaced(true)),
     ("DotMap::copy:blocks", Call::BlockMaps(OfStore::Copy)),
+    ("Context::absorb_after", Call::Stepped),
+    ("absorb_paired", Call::Paired(false)),
+    ("absorb_paired:in-place", Call::Paired(true)),
+    ("Standing::delta", Call::Standing(OfStanding::Delta)),
+    (
+        "Standing::join_with_context",
+        Call::Standing(OfStanding::Join),
+    ),
+    ("Standing::absorb", Call::Standing(OfStanding::Absorb)),
+    (
+        "Standing::absorb:no-permit",
+        Call::Standing(OfStanding::AbsorbWithoutPermit),
+    ),
+    ("Standing::copy", Call::Standing(OfStanding::Copy)),
     ("DotSet::push", Call::Pushed(Pushed::ToSet)),
     ("DotFun::push", Call::Pushed(Pushed::ToFun)),
     ("DotMap::push", Call::Pushed(Pushed::ToMap)),
@@ -313,6 +331,9 @@ fn try_lattice<T: Print>(rt: &T, alloc: Global, call: Call) -> Option<Came> {
         Call::DotMaps(asked) => Some(try_call(rt, dot_maps(alloc, asked))),
         Call::BlockMaps(asked) => Some(try_call(rt, block_maps(alloc, asked))),
         Call::Replaced(is_shared) => Some(try_call(rt, replacing(alloc, is_shared))),
+        Call::Stepped => Some(try_call(rt, stepping(alloc))),
+        Call::Paired(is_next) => Some(try_call(rt, paired(alloc, is_next))),
+        Call::Standing(asked) => Some(try_call(rt, standings(alloc, asked))),
         _ => try_value(rt, alloc, call),
     }
 }

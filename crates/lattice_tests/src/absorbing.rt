@@ -1,5 +1,5 @@
 //! Stores joined into others, compared with joins.
-use crate::sample::dot;
+use crate::sample::{dot, heard_of};
 use dac_base::NoMemory;
 use dac_dots::Context;
 use dac_lattice::{Flag, Lattice};
@@ -58,15 +58,6 @@ impl<S: DotStore> Side<S> {
         self.heard.is_subset(&other.heard)
             && self.store.leq_in(&self.heard, &other.store, &other.heard)
     }
-}
-
-/// The context of these dots, each as a node and a counter.
-fn heard_of(alloc: Global, dots: &[(u8, u64)]) -> Result<Context, NoMemory> {
-    let mut heard = Context::empty(alloc);
-    for (node, n) in dots {
-        heard.insert(dot(*node, *n))?;
-    }
-    Ok(heard)
 }
 
 /// What shares entries with the store that absorbs.

@@ -20,9 +20,17 @@ mod lattices;
 #[cfg(test)]
 mod laws;
 #[cfg(test)]
+mod maps;
+#[cfg(test)]
 mod operations;
 #[cfg(test)]
+mod pairs;
+#[cfg(test)]
 mod sample;
+#[cfg(test)]
+mod standing;
+#[cfg(test)]
+mod steps;
 #[cfg(test)]
 mod stores;
 #[cfg(test)]

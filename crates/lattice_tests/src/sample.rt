@@ -30,6 +30,15 @@ pub fn context_of(alloc: Global, counters: &[u64]) -> Result<Context, NoMemory> 
     Ok(context)
 }
 
+/// The context of these dots, each as a node and a counter.
+pub fn heard_of(alloc: Global, dots: &[(u8, u64)]) -> Result<Context, NoMemory> {
+    let mut heard = Context::empty(alloc);
+    for (node, n) in dots {
+        heard.insert(dot(*node, *n))?;
+    }
+    Ok(heard)
+}
+
 /// True if order, join, least value and copy agree, called through the bound.
 pub fn is_joined_above<L: Bottom>(alloc: Global, low: &L, high: &L) -> Result<bool, NoMemory> {
     Ok(low.leq(high) && is_join(low, high, high)? && is_join(&L::bottom(alloc), low, low)?)

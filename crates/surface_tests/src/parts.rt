@@ -6,9 +6,10 @@ use dac_config::{AppId, Config, NoMemory, NodeId, read_config};
 use dac_dots::{Context, Dot};
 use dac_lattice::{Bottom, Flag, Lattice, Piece};
 use dac_state::{Act, DotList, Op, OpFault, State, StateFault, StateFaultKind};
+use dac_store::LastStep;
 use dac_wishes::{
-    DrainAct, Drains, DrainsRef, Key, Permissions, PermissionsRef, PermitAct, WishAct, Wishes,
-    WishesRef,
+    AbsorbStanding, DrainAct, Drains, DrainsRef, Key, Permissions, PermissionsRef, PermitAct,
+    Standing, WishAct, Wishes, WishesRef,
 };
 use std::alloc::Global;
 
@@ -133,6 +134,18 @@ fn are_pieces_absorbed(alloc: Global) -> Result<bool, NoMemory> {
     )
 }
 
+/// True if what stands of a start is absorbed by nothing.
+fn is_start_absorbed(alloc: Global) -> Result<bool, NoMemory> {
+    let started: Standing = Standing::delta(alloc, FIRST, &[], None, Some(KEY), None)?;
+    let mut standing = Standing::nothing(alloc);
+    AbsorbStanding { other: &started }.take(&mut standing)?;
+    Ok(
+        standing.knows_same(&started)
+            && standing.equal_with_contexts(&started)
+            && standing.wishes().wished(KEY),
+    )
+}
+
 /// The fault of an act that replaces its own dot.
 fn fault_of(alloc: Global) -> Option<OpFault> {
     let over = DotList::new(Vec::from_slice(alloc, &[SECOND]).ok()?);
@@ -185,6 +198,7 @@ fn are_operations(alloc: Global) -> bool {
 fn states(rt: HostRuntime) {
     assert!(rt; is_told(rt.alloc()) == Some(true));
     assert!(rt; is_absorbed(rt.alloc()) == Some(true));
+    assert!(rt; is_start_absorbed(rt.alloc()) == Ok(true));
     assert!(rt; ORIGIN == FIRST.origin);
 }
 

@@ -4,7 +4,7 @@ use dac_config::NoMemory;
 use dac_deltas::{Acks, Buffer, Staged};
 use dac_dots::Context;
 use dac_lattice::{Lattice, Max};
-use dac_store::{Causal, DotFun, DotMap, DotSet, DotStore};
+use dac_store::{Causal, CausalRef, DotFun, DotMap, DotSet, DotStore, absorb_paired};
 use std::alloc::Global;
 
 /// True if a store keeps its dot when joined with an empty one that heard nothing.
@@ -76,6 +76,17 @@ fn is_absorbed(alloc: Global) -> Option<bool> {
     Some(causal.equal(&other))
 }
 
+/// True if a store and its context that absorb an equal value have its dot.
+fn are_absorbed(alloc: Global) -> Option<bool> {
+    let causal = first_causal(alloc)?;
+    let other = first_causal(alloc)?;
+    Lattice::tells_invariant(&causal);
+    let (mut store, mut context) = causal.into_parts();
+    let borrowed: CausalRef<'_, DotSet> = other.borrowed();
+    absorb_paired(&mut store, &mut context, &borrowed).ok()?;
+    Some(store.has(FIRST) && context.contains(FIRST) && borrowed.store().has(FIRST))
+}
+
 /// True if a log of one delta returns it as its interval and block.
 fn is_buffered(alloc: Global) -> Result<bool, NoMemory> {
     let mut buffer: Buffer<Max<u64>> = Buffer::new(alloc);
@@ -126,6 +137,7 @@ fn stores(rt: HostRuntime) {
     assert!(rt; matches!(all_stay_by_absorbing(rt.alloc()), Ok(true)));
     assert!(rt; matches!(is_causal(rt.alloc()), Ok(true)));
     assert!(rt; is_absorbed(rt.alloc()) == Some(true));
+    assert!(rt; are_absorbed(rt.alloc()) == Some(true));
 }
 
 #[test]

@@ -12,5 +12,6 @@ pub mod operations;
 pub mod pieces;
 pub mod sample;
 pub mod states;
+pub mod together;
 pub mod trial;
 pub mod values;

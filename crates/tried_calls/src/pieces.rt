@@ -180,7 +180,7 @@ pub fn context(alloc: Global, list: &[Dot]) -> Result<Context, NoMemory> {
 }
 
 /// Values at dots, by key.
-type FlagMap = DotMap<u64, DotFun<Flag>>;
+pub type FlagMap = DotMap<u64, DotFun<Flag>>;
 
 fn votes_of(alloc: Global, node: NodeId) -> Result<DotFun<Flag>, NoMemory> {
     let mut votes = DotFun::one(alloc, dot(node, 1), Flag::Down)?;
@@ -333,7 +333,7 @@ pub fn dot_maps(alloc: Global, asked: OfStore) -> Option<StoreFixture<FlagMap>> 
 }
 
 /// A value at each of 40 keys, as joins build the map: 24 entries are in two blocks.
-fn map_in_blocks(alloc: Global) -> Result<FlagMap, NoMemory> {
+pub fn map_in_blocks(alloc: Global) -> Result<FlagMap, NoMemory> {
     let mut pushed = DotMap::empty(alloc);
     for key in 1..41u64 {
         let _pushed = pushed.push(key, DotFun::one(alloc, dot(ME, key), Flag::Up)?)?;
