@@ -1,9 +1,11 @@
 //! What stands of operations, with one context.
+ghost use Rattle.std.specs.Prelude.{◌≡◌, IfSome};
+
 use crate::sample::{context_of, dot, origin};
 use dac_base::{AppId, NoMemory, NodeId};
-use dac_lattice::{Bottom, Flag, Lattice};
+use dac_lattice::Flag;
 use dac_origins::Dot;
-use dac_store::{Causal, Context, DotFun, DotMap, DotSet, DotStore, LastStep};
+use dac_store::{Causal, Context, DotMap, DotSet, DotStore, LastStep};
 use dac_wishes::{AbsorbStanding, Drains, Key, Permissions, Standing, Wishes};
 use std::alloc::Global;
 
@@ -211,6 +213,40 @@ fn are_told_apart(alloc: Global) -> Result<bool, NoMemory> {
             && !first.equal_with_contexts(&stopped)
             && !is_below(&stopped, &first),
     )
+}
+
+/// A store paired with this context. `None` if it has a dot that the context lacks.
+fn beside<S: DotStore>(store: S, known: &Context) -> Option<Causal<S>>
+    ensures { IfSome result (λ causal. causal.context ≡ known.now) }
+{
+    let Ok(context) = known.copy() else {
+        return None;
+    };
+    match Causal::new(store, context) {
+        Ok(causal) => Some(causal),
+        Err(_) => None,
+    }
+}
+
+/// What stands of a start, made of its pieces.
+fn of_pieces(alloc: Global) -> Option<Standing> {
+    let known = context_of(alloc, &[2]).ok()?;
+    let starts = DotMap::one(alloc, KEY, DotSet::one(alloc, dot(0, 2)).ok()?).ok()?;
+    let permissions = Permissions::new(beside(DotMap::empty(alloc), &known)?);
+    let wishes = Wishes::new(beside(starts, &known)?);
+    let drains = Drains::new(beside(DotMap::empty(alloc), &known)?);
+    Some(Standing::of(permissions, wishes, drains))
+}
+
+/// True if what stands of a start is the same when it is made of its pieces.
+fn is_made_of_pieces(alloc: Global) -> Option<bool> {
+    let start = delta_of(alloc, ((0, 2), &[], Says::Start)).ok()?;
+    Some(is_same(&start, &of_pieces(alloc)?))
+}
+
+#[test]
+fn a_start_is_made_of_pieces(rt: HostRuntime) {
+    assert!(rt; is_made_of_pieces(rt.alloc()) == Some(true));
 }
 
 #[test]
