@@ -1,6 +1,6 @@
 -- Conditions under which all known dots were heard.
 use Rattle.std.specs.Prelude.{◌≡◌, List, []}
-use Rattle.std.proofs.Common.{refl, ap}
+use Rattle.std.proofs.Common.{refl, ap, sym}
 use Rattle.std.specs.FinSet as set
 use Rattle.dac_origins.specs.Dots.{Dots, IsSubset}
 use Rattle.dac_origins.specs.declared.dot.Dot.{Dot}
@@ -17,6 +17,15 @@ pub all_heard : (h g k m : Dots) → IsSubset h k → IsSubset g m → IsSubset 
 all_heard h g k m p q a b = same_context (set.union h g) (set.union k m)
     (subset_union h g (set.union k m) (λ x e. subset_left k m x (p x e)) (λ x e. subset_right k m x (q x e)))
     (subset_union k m (set.union h g) a b)
+
+-- if all dots known on the other side were heard there or are known here, and all that are known here were heard, the
+-- known dots on either side are those heard on either side
+pub all_with : (k g m : Dots) → IsSubset g m → IsSubset m (set.union k g) → set.union k m ≡ set.union k g
+all_with k g m q a = sym (all_heard k g k m (λ _ e. e) q (subset_left k g) a)
+
+-- so are they if all of them were heard on some side
+pub all_known : (h g k m : Dots) → IsSubset h k → IsSubset g m → IsSubset (set.union k m) (set.union h g) → set.union k m ≡ set.union h g
+all_known h g k m p q a = sym (all_heard h g k m p q (λ x e. a x (subset_left k m x e)) (λ x e. a x (subset_right k m x e)))
 
 -- an operation that replaces nothing knows only its own dot
 pub names_itself : (d : Dot) (a : Act) → over_list a ≡ [] → named_by over_of d (seen_wish d a) ≡ set.insert set.empty d

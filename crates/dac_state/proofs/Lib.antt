@@ -1,7 +1,6 @@
 mod Hearing
 mod Making
 mod Reading
-mod Seeing
 mod StateCodec
 mod StatePieces
 mod Covered

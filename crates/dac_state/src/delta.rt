@@ -36,14 +36,15 @@ pub(crate) fn standing_by(alloc: Global, op: &Op) -> Result<Standing, NoMemory>
     laws::delta_is_meaning();
     op.tells_invariant();
     let act = op.act();
-    Standing::delta(
+    let standing = Standing::delta(
         alloc,
         op.dot(),
         act.over(),
         permit_in(act),
         started_in(act),
         drain_in(act),
-    )
+    )?;
+    Ok(standing)
 }
 
 /// The life in an operation's delta.

@@ -114,22 +114,14 @@ impl Heard {
                 if other.is_all_with(standing.known(), other_standing.known()) {
                     return standing.absorb(other_standing);
                 }
-                let heard = standing
-                    .known()
-                    .union(other.beside(other_standing.known()))?;
+                let theirs = other.beside(other_standing.known());
+                let heard = standing.known().union(theirs)?;
                 standing.absorb(other_standing)?;
                 *self = Heard::These(heard);
             }
             Heard::These(heard) => {
                 let theirs = other.beside(other_standing.known());
-                let step = AbsorbStanding {
-                    other: other_standing,
-                };
-                if !heard.absorb_after(theirs, &step, standing)? {
-                    let both = heard.union(theirs)?;
-                    standing.absorb(other_standing)?;
-                    *heard = both;
-                }
+                absorb_both(heard, theirs, standing, other_standing)?;
                 if standing.known().is_subset(heard) {
                     *self = Heard::All;
                 }
@@ -193,4 +185,29 @@ impl Heard {
             Heard::These(heard) => Ok(Heard::These(heard.copy()?)),
         }
     }
+}
+
+/// Joins other dots into `heard`, and what stands on the other side into `standing`, both in place where possible. After
+/// [`NoMemory`] both are unchanged.
+fn absorb_both(
+    heard: &mut Context,
+    other_heard: &Context,
+    standing: &mut Standing,
+    other_standing: &Standing,
+) -> Result<(), NoMemory>
+    ensures standing { OnOk result
+        (standing.new ≡ join_standing standing.old other_standing.now) }
+    ensures heard { OnOk result (heard.new ≡ set.union heard.old other_heard.now) }
+    ensures err { OnErr result ((standing.new ≡ standing.old) × (heard.new ≡ heard.old)) }
+{
+    let step = AbsorbStanding {
+        other: other_standing,
+    };
+    if heard.absorb_after(other_heard, &step, standing)? {
+        return Ok(());
+    }
+    let both = heard.union(other_heard)?;
+    standing.absorb(other_standing)?;
+    *heard = both;
+    Ok(())
 }

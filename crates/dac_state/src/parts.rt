@@ -140,7 +140,9 @@ impl Parts {
     pub(crate) fn join(&self, other: &Self) -> Result<Self, NoMemory>
         ensures { IfOk result (λ joined. joined ≡ join self.now other.now) }
     {
-        let (known, heard) = self.heard.join(self.known(), &other.heard, other.known())?;
+        let mine = self.standing.known();
+        let theirs = other.standing.known();
+        let (known, heard) = self.heard.join(mine, &other.heard, theirs)?;
         let standing = self.standing.join_with_context(&other.standing, known)?;
         let lives = self.lives.join(&other.lives)?;
         let claims = self.claims.join(&other.claims)?;
@@ -172,7 +174,8 @@ impl Parts {
     pub(crate) fn leq(&self, other: &Self) -> bool
         ensures { IsTrue result ↔ IsBelow self.now other.now }
     {
-        if !self.heard.leq(self.known(), &other.heard, other.known()) {
+        let known = self.standing.known();
+        if !self.heard.leq(known, &other.heard, other.standing.known()) {
             return false;
         }
         if !self.standing.leq_with_contexts(&other.standing) {
@@ -188,7 +191,7 @@ impl Parts {
         if !self.standing.knows_same(&other.standing) {
             return false;
         }
-        if !self.heard.equal(&other.heard, self.known()) {
+        if !self.heard.equal(&other.heard, self.standing.known()) {
             return false;
         }
         if !self.lives.equal(&other.lives) {

@@ -3,10 +3,10 @@ use Rattle.dac_state.specs.Parts.{state_of_parts}
 use Rattle.dac_state.proofs.parts.Parts.new.Goals as goal
 
 pub of-heard-requires : goal.of-heard-requires
-of-heard-requires c = rw c.context.ensures c.requires.state.heard
+of-heard-requires c = rw c.known.ensures c.requires.heard
 
 pub beside-requires : goal.beside-requires
-beside-requires c = rw (rw c.context.ensures at c.of-heard.ensures) c.requires
+beside-requires c = rw (rw c.known.ensures at c.of-heard.ensures) c.requires
 
 pub returns : goal.returns
-returns c = c.beside.ensures ∙ (λ i. state_of_parts ((rw c.context.ensures at c.of-heard.ensures) i) c.args.permissions c.args.wishes c.args.lives c.args.claims c.args.drains)
+returns c = c.beside.ensures ∙ (λ i. state_of_parts ((rw c.known.ensures at c.of-heard.ensures) i) c.args.standing c.args.lives c.args.claims)
