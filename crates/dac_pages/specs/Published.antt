@@ -40,12 +40,12 @@ module _ {P A S : Type 0} {g : Ghosts PageCopy Update S} where
   -- the page that readers get, and the one that the pending updates make of it
   abbrev pub published_by : Option (Writer PageCopy Update ℕ P A S g) → PagesValue
   published_by None = no_pages
-  published_by (Some w) = record { shown = w.desk.shown.value.page.value; ready = ready_by w.desk.shown.value.page.value (drop w.behind w.log.items) }
+  published_by (Some w) = record { shown = w.desk.shown.value; ready = ready_by w.desk.shown.value (drop w.behind w.log.items) }
 
   -- the writer is present, and has seen no later place
   abbrev pub IsWriterReady : Option (Writer PageCopy Update ℕ P A S g) → Type 0
   IsWriterReady None = ⊥
-  IsWriterReady (Some w) = view w.desk.place ≤ w.desk.shown.value.page.value.place
+  IsWriterReady (Some w) = view w.desk.place ≤ w.desk.shown.value.place
 
 module _ {P A : Type 0} where
   abbrev pub IsHere : Option (Reader PageCopy ℕ P A) → Type 0

@@ -7,6 +7,7 @@ use dac_origins::Origin;
 use dac_status::Summary;
 use left_right::Absorb;
 use std::alloc::{AllocError, Global};
+use std::marker::Model;
 
 /// A snapshot of a node: plain data of a fixed size.
 #[derive(Clone, Copy, Debug, PartialEq, Eq)]
@@ -44,19 +45,34 @@ pub enum Update {
     Whole(Box<Page>),
 }
 
-/// One of the two copies of the published page.
+/// One of the two copies of the published page. Contracts see the page.
 #[derive(Drop)]
 pub struct PageCopy {
-    pub(crate) page: Box<Page>,
+    page: Box<Page>,
+}
+
+impl Model for PageCopy {
+    ghost use Rattle.dac_pages.specs.declared.page.Page.{Page};
+
+    ghost Value = { Page };
+
+    ghost view = { λ copy. copy.page.value };
 }
 
 impl PageCopy {
     /// A copy of this page.
     pub(crate) fn of(alloc: Global, page: Page) -> Result<PageCopy, NoMemory>
-        ensures { IfOk result (λ copy. copy.page.value ≡ page) }
+        ensures { IfOk result (λ copy. copy ≡ page) }
     {
         let page = Box::new(alloc, page)?;
         Ok(PageCopy { page })
+    }
+
+    /// The page.
+    pub(crate) fn page(&self) -> &Page
+        ensures { result.now ≡ self.now }
+    {
+        &self.page
     }
 }
 
@@ -65,7 +81,7 @@ impl Absorb<Update> for PageCopy {
 
     type State = Page;
 
-    ghost state = { λ copy. copy.page.value };
+    ghost state = { λ copy. copy };
 
     ghost applied = { updated };
 

@@ -61,7 +61,7 @@ impl Pages {
         ensures { result.now ≡ self.now.shown }
     {
         match &self.writer {
-            Some(writer) => &writer.published().page,
+            Some(writer) => writer.published().page(),
             None => unreachable!(),
         }
     }
@@ -118,6 +118,6 @@ impl Pages {
     {
         let Pages { writer } = self;
         let last = writer.unwrap().take(rt);
-        *last.page
+        *last.page()
     }
 }

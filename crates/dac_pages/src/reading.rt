@@ -51,7 +51,7 @@ impl Follower {
                 return None;
             }
         };
-        let page = *reading.get().page;
+        let page = *reading.get().page();
         self.reader = Some(reading.leave());
         if page.place < self.learned {
             return None;

@@ -9,7 +9,7 @@ pub struct Rises;
 impl Protocol<PageCopy, u64> for Rises {
     ghost use Rattle.dac_pages.specs.Rising.{AllBelow};
 
-    ghost holds = { λ p. AllBelow p.page.value.place };
+    ghost holds = { λ p. AllBelow p.place };
 
     ghost first = { 0 };
 }
@@ -20,5 +20,5 @@ pub(crate) struct Sees;
 impl Outcome<PageCopy, u64> for Sees {
     ghost use Rattle.std.specs.Prelude.{◌≡◌, ◌≤◌};
 
-    ghost then = { λ v x y w. (v ≤ x.page.value.place) × (w ≡ y.page.value.place) };
+    ghost then = { λ v x y w. (v ≤ x.place) × (w ≡ y.place) };
 }
