@@ -1,6 +1,6 @@
 -- Loads, first choices and verdicts, computed from where applications run and from the groups of the eligible nodes,
 -- whatever tells these.
-use Rattle.std.specs.Prelude.{◌≡◌, ℕ, Bool, true, false, not, ◌&&◌, ◌==◌, ◌||◌, nat_lt, length, map as list_map, filter, Option, None, Some, if◌then◌else◌}
+use Rattle.std.specs.Prelude.{◌≡◌, ◌≢◌, ◌<◌, ℕ, Bool, true, false, not, ◌&&◌, ◌==◌, ◌||◌, nat_lt, length, map as list_map, filter, Option, None, Some, if◌then◌else◌}
 use Rattle.std.specs.List.{range_with_len, filter_map, reduce}
 use Rattle.std.specs.Option.{option_map, option_and_then}
 use Rattle.std.specs.Ordering.{ord_min}
@@ -62,6 +62,10 @@ Leads (Some lead) first = IsLead lead first
 abbrev pub group_by : (NodeId → Option ℕ) → (NodeId → Bool) → NodeId → Option ℕ
 group_by groups may node = if may node then groups node else None
 
+-- this is one of the first n nodes, and an eligible one of this group
+abbrev pub IsIn : (NodeId → Option ℕ) → (NodeId → Bool) → ℕ → ℕ → NodeId → Type 0
+IsIn groups may n group node = (node.0 < n) × (group_by groups may node ≡ Some group)
+
 -- the lead after a later node of this group
 abbrev pub beside : Lead → ℕ → NodeId → Lead
 beside lead group node =
@@ -74,6 +78,11 @@ abbrev pub lead_with : Option Lead → Option ℕ → NodeId → Option Lead
 lead_with lead None node = lead
 lead_with None (Some group) node = Some (record { group = group; node = node; alone = true })
 lead_with (Some lead) (Some group) node = Some (beside lead group node)
+
+-- the lead's node is an eligible one of its group, and so is another node unless that one is alone
+pub record HasNodes (groups : NodeId → Option ℕ) (may : NodeId → Bool) (n : ℕ) (lead : Lead) : Type 0 where
+  pub first : IsIn groups may n lead.group lead.node
+  pub second : lead.alone ≡ false → (node : NodeId) × IsIn groups may n lead.group node × (node ≢ lead.node)
 
 -- ---- the verdict
 
@@ -88,6 +97,11 @@ verdict_on Barred late (Some first) = Move first.node
 verdict_on Unclaimed late None = Nobody
 verdict_on Lost late None = Nobody
 verdict_on Barred late None = Nobody
+
+-- the verdict depends on the loads: two choices of them give different ones
+abbrev pub DependsOnLoads : Standing → Option ℕ → (NodeId → Option ℕ) → (NodeId → Bool) → ℕ → Type 0
+DependsOnLoads standing late groups may n = (one other : NodeId → ℕ)
+    × (verdict_on standing late (choice_by groups may one n) ≢ verdict_on standing late (choice_by groups may other n))
 
 -- whether any first choice in the leading group gives the same verdict: the application is stopped, its holder is in no
 -- later group, or one node leads alone

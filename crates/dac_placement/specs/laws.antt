@@ -5,6 +5,7 @@ pub mod Standing
 pub mod Least
 pub mod Choosing
 pub mod Leading
+pub mod Depends
 pub mod FirstChoice
 pub mod FirstNode
 pub mod Judged

@@ -1,9 +1,9 @@
 //! The verdict, given the standing, the holder's group and the candidates.
-ghost use Rattle.std.specs.Prelude.{◌≡◌, ℕ, IfSome, Option, Some};
+ghost use Rattle.std.specs.Prelude.{◌≡◌, ℕ, IfSome, IfNone, Option, Some};
 ghost use Rattle.dac_base.specs.declared.NodeId.{NodeId as Node};
 ghost use Rattle.dac_placement.specs.declared.ranking.Choice.{Choice as Chosen};
 ghost use Rattle.dac_placement.specs.Placement.{is_less};
-ghost use Rattle.dac_placement.specs.Choices.{choice_by, is_settled, load_by, verdict_on};
+ghost use Rattle.dac_placement.specs.Choices.{DependsOnLoads, choice_by, is_settled, load_by, verdict_on};
 
 use crate::candidates::{Candidates, Runs};
 use crate::leading::{Lead, leader};
@@ -31,15 +31,17 @@ pub fn verdict_for<R: Runs, C: Candidates>(
     }
 }
 
-/// The verdict, if it is the same for any first choice in the leading group.
+/// The verdict if it is the same for all loads, and `None` if it depends on them.
 pub fn settled_verdict<C: Candidates>(
     candidates: &C,
     standing: Standing,
     late: Option<u16>,
 ) -> Option<Verdict>
-    ensures { (loads : Node → ℕ) → IfSome result (λ verdict. verdict ≡ verdict_on standing late
+    ensures some { (loads : Node → ℕ) → IfSome result (λ verdict. verdict ≡ verdict_on standing late
         (choice_by (C.group candidates.now) (C.eligible candidates.now) loads
         (C.nodes candidates.now))) }
+    ensures none { IfNone result
+        (DependsOnLoads standing late (C.group candidates.now) (C.eligible candidates.now) (C.nodes candidates.now)) }
 {
     if let Some(verdict) = early_verdict(standing, late) {
         return Some(verdict);

@@ -1,7 +1,7 @@
 //! The first node by groups alone, found before any load is computed.
-ghost use Rattle.std.specs.Prelude.{◌≡◌, ℕ};
+ghost use Rattle.std.specs.Prelude.{◌≡◌, ℕ, IfSome};
 ghost use Rattle.dac_base.specs.declared.NodeId.{NodeId as Node};
-ghost use Rattle.dac_placement.specs.Choices.{Leads, beside, first_of, group_by, lead_with, rank_by};
+ghost use Rattle.dac_placement.specs.Choices.{HasNodes, Leads, beside, first_of, group_by, lead_with, rank_by};
 
 use crate::candidates::Candidates;
 use dac_base::NodeId;
@@ -19,9 +19,11 @@ pub struct Lead {
 
 /// The lead among all nodes, if any is eligible. It doesn't depend on loads.
 pub fn leader<C: Candidates>(candidates: &C) -> Option<Lead>
-    ensures { (loads : Node → ℕ) → Leads result
+    ensures leads { (loads : Node → ℕ) → Leads result
         (first_of (rank_by (C.group candidates.now) (C.eligible candidates.now) loads)
         (C.nodes candidates.now)) }
+    ensures nodes { IfSome result
+        (HasNodes (C.group candidates.now) (C.eligible candidates.now) (C.nodes candidates.now)) }
 {
     let mut lead = None;
     for number in 0..candidates.nodes() {
