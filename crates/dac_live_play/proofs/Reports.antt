@@ -13,6 +13,7 @@ use Rattle.dac_sites.specs.Record.{Record}
 use Rattle.dac_phases.specs.Ends.{RiseTo, HoldBetween, no_ends, lengths_of, EndPhases, HasCallers}
 use Rattle.dac_live.specs.Lines.{HasLines}
 use Rattle.dac_weave.specs.Converging.{IsConverged}
+use Rattle.dac_weave.specs.Copies.{NamesCopies}
 use Rattle.dac_weave.specs.Cut.{RiseTo as Rises, AreEnds}
 use Rattle.dac_weave.specs.Phased.{GivesPhases, IsPhaseFault}
 use Rattle.dac_weave.specs.Recording.{IsRecorded}
@@ -67,6 +68,7 @@ pub record RunsIn (table : Table) (phases : List Phase) (closed : List JournalVa
   pub end : EndPhases phases closed ends
   pub gives : Gives table closed run.events.items
   pub in_phases : GivesPhases table closed run.events.items ends run.bounds.items
+  pub copies : NamesCopies table run.events.items
   pub seats : HaveSeats closed run.events.items run.seats.items
   pub recorded : IsRecorded table closed run.events.items
   pub converges : IsConverged table closed run.events.items
@@ -74,7 +76,7 @@ pub record RunsIn (table : Table) (phases : List Phase) (closed : List JournalVa
 pub woven : (table : Table) (phases : List Phase) (report : LiveReport) (journals : List JournalValue) (ends : List (List ℕ)) (run : Woven) → journals ≡ report.closed → RunsIn table phases journals ends run → IsWoven table phases report run
 woven table phases report journals ends run is runs =
     let own = subst (λ (closed : List JournalValue). RunsIn table phases closed ends run) is runs in
-    record { ends = ends; end = own.end; gives = own.gives; in_phases = own.in_phases; seats = own.seats; recorded = own.recorded; converges = own.converges }
+    record { ends = ends; end = own.end; gives = own.gives; in_phases = own.in_phases; copies = own.copies; seats = own.seats; recorded = own.recorded; converges = own.converges }
 
 -- the callers of lines are from 1 to 4
 pub have_callers : (nodes : ℕ) (phases : List Phase) → All (HasLines nodes) phases → All HasCallers phases

@@ -12,6 +12,7 @@ use Rattle.dac_live.specs.Phase.{Phase}
 use Rattle.dac_live.specs.Reads.{ReadsHold}
 use Rattle.dac_phases.specs.Ends.{EndPhases}
 use Rattle.dac_weave.specs.Converging.{IsConverged}
+use Rattle.dac_weave.specs.Copies.{NamesCopies}
 use Rattle.dac_weave.specs.Phased.{GivesPhases, IsUnwovenUpTo}
 use Rattle.dac_weave.specs.Recording.{IsRecorded}
 use Rattle.dac_weave.specs.Seats.{HaveSeats}
@@ -47,13 +48,15 @@ pub record IsReportOf (table : Table) (script : List LiveLine) (report : LiveRep
   pub is : IsReport table phases report
 
 -- The run of the world has at each node exactly the records of its journal, with their results, so the guarantees of every
--- run hold. Its bounds are the ends of the phases, so that no event precedes one of an earlier phase, and each event has
--- the seat of its record.
+-- run hold. Its bounds are the ends of the phases, so that no event precedes one of an earlier phase. Each hearing names
+-- the first of equal messages that none before it names, or one again if each is named. Each event has the seat of its
+-- record.
 pub record IsWoven (table : Table) (phases : List Phase) (report : LiveReport) (run : Woven) : Type 0 where
   pub ends : List (List ℕ)
   pub end : EndPhases phases report.closed ends
   pub gives : Gives table report.closed run.events.items
   pub in_phases : GivesPhases table report.closed run.events.items ends run.bounds.items
+  pub copies : NamesCopies table run.events.items
   pub seats : HaveSeats report.closed run.events.items run.seats.items
   pub recorded : IsRecorded table report.closed run.events.items
   pub converges : IsConverged table report.closed run.events.items

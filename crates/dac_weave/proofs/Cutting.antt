@@ -1,10 +1,11 @@
 -- Journals up to the ends of phases, and the merge between phases.
-use Rattle.std.proofs.Common.{◌≡◌, ℕ, zero, suc, ◌+◌, ◌<◌, ◌≤◌, List, [], ◌∷◌, ◌++◌, length, take, drop, get_or, min, map, refl, sym, ap, subst, ◌∙◌, arith}
+use Rattle.std.proofs.Common.{◌≡◌, ℕ, zero, suc, ◌+◌, ◌-◌, ◌<◌, ◌≤◌, List, [], ◌∷◌, ◌++◌, length, take, drop, get_or, min, map, refl, sym, ap, subst, ◌∙◌, arith}
 use Rattle.dac_weave.specs.laws.Common.{slice_get, slice_get_within, slice_get_read, take_more, length-map, AllZip, Vec, NodeId, Table, WorldEvent, ModelNode, off_after, Record, JournalValue, Seen, seen_in, as_seen, journal_seen, At, Gives, Begins, Weaves, node_step, replayed, AreAnswered, run_from, start, IsRecorded}
 use Rattle.std.proofs.lemmas.List.{take_all, take_min, length-take, length-append, drop_more, drop_all, get_or-map}
 use Rattle.std.specs.List.{take-map}
 use Rattle.dac_weave.specs.declared.cursor.Cursor.{Cursor}
 use Rattle.dac_weave.specs.declared.merge.Merge.{Merge}
+use Rattle.dac_weave.specs.Copies.{NamesCopies}
 use Rattle.dac_weave.specs.Cut.{cut_at, cut, no_ends, lengths_of, RiseTo, AreEnds, rows_of}
 use Rattle.dac_weave.specs.Faults.{IsTrueFault, IsRefusal}
 use Rattle.dac_weave.specs.Phased.{GivesUpTo, GivesPhases, IsPhaseFault}
@@ -14,6 +15,7 @@ use Rattle.dac_weave.specs.Seats.{seats_at, seats_of, HaveSeats}
 use Rattle.dac_weave.specs.Woven.{HasNone, IsUnwoven}
 use Rattle.dac_weave.specs.declared.fault.WeaveFault.{WeaveFault}
 use Rattle.dac_weave.specs.declared.fault.WeaveFault.TheVariants.{Unwoven, NoMemory}
+use Rattle.dac_weave.proofs.Delivered.{delivers-none}
 use Rattle.dac_weave.proofs.Placed.{AllZip-length, AllZip-at, there_too, both_push, given_whole, seats_whole}
 
 -- ---- fronts of lists
@@ -160,7 +162,8 @@ rests-begun t js l b = record {
   many = ap (λ (ss : List ℕ). length ss) b.seats ∙ sym (ap (λ (es : List WorldEvent). length es) b.events);
   seats = λ i j at. ap (λ es. seats_at j.beginning.node es l.seats.items) b.events ∙ sym (ap seats_of (empty i j at));
   operations = b.operations ∙ ap (λ es. (run_from t (start t) es).operations) (sym b.events);
-  messages = b.messages ∙ ap (λ es. (run_from t (start t) es).messages) (sym b.events);
+  messages = b.mail.shipped ∙ ap (λ es. (run_from t (start t) es).messages) (sym b.events);
+  delivers = delivers-none t l.events.items l.mail b.mail b.events;
 }
   where
     zero_least : (n m : ℕ) → n ≡ 0 → n ≤ m
@@ -245,6 +248,7 @@ module _ (t : Table) (js : List JournalValue) (row : List ℕ) (l : Merge) (p : 
         (p.rests.seats i (cut_at b e.start) e.at ∙ sym (front (λ (r : Record). r.seat) b.records e.start e.part.end s.placed e.rises placed));
     operations = p.rests.operations;
     messages = p.rests.messages;
+    delivers = p.rests.delivers;
   }
     where
       none-whole : (n : NodeId) → HasNone (cut js row) n → HasNone js n
@@ -264,6 +268,7 @@ module _ (t : Table) (js : List JournalValue) (row : List ℕ) (l : Merge) (p : 
     seats = λ i j at. seats_whole t (cut js row) new w i j at (whole i j at);
     operations = w.operations;
     messages = w.messages;
+    delivers = w.delivers;
   }
     where
       least : (a b c : ℕ) → a ≤ min b c → a ≤ b
@@ -354,6 +359,7 @@ pub record IsFinished (t : Table) (js : List JournalValue) (rows : List (List �
   pub gives : Gives t js l.events.items
   pub phases : GivesPhases t js l.events.items rows bounds
   pub seats : HaveSeats js l.events.items l.seats.items
+  pub copies : NamesCopies t l.events.items
 
 pub finished : (t : Table) (js : List JournalValue) (rows : List (List ℕ)) (p : ℕ) (l : Merge) (bounds : List ℕ) → Unfinished t js rows p l bounds → AreEnds js rows → length rows ≤ p → IsFinished t js rows l bounds
 finished t js rows p l bounds u ends past =
@@ -364,6 +370,7 @@ finished t js rows p l bounds u ends past =
       gives = subst (λ (ks : List JournalValue). Gives t ks l.events.items) whole (u.gives some);
       phases = subst (λ (rs : List (List ℕ)). GivesPhases t js l.events.items rs bounds) (take_all p rows past) u.done;
       seats = subst (λ (ks : List JournalValue). HaveSeats ks l.events.items l.seats.items) whole (record { many = u.rests.many; each = u.rests.seats });
+      copies = u.rests.delivers.copies;
     }
 
 pub past_rows : (ends : List (Vec ℕ)) (p : ℕ) → length ends ≤ p → length (rows_of ends) ≤ p

@@ -1,9 +1,9 @@
 -- The hash table finds every item that was put.
-use Rattle.std.proofs.Common.{◌≡◌, ◌≢◌, ℕ, zero, suc, ◌+◌, ◌<◌, ◌≤◌, ◌%◌, inl, inr, ◌⊎◌, List, [], ◌∷◌, ◌++◌, Some, None, length, refl, sym, ap, subst, ◌∙◌, arith, below_more}
-use Rattle.dac_weave.specs.laws.Common.{slice_get, slice_set, Vec, length-set, cases_eq, slice_get_within, slice_get_read, Bor, length-map, slice_get-map, option_map, lent, numbers_of, Finds}
+use Rattle.std.proofs.Common.{◌≡◌, ◌≢◌, ℕ, zero, suc, ◌+◌, ◌-◌, ◌<◌, ◌≤◌, ◌%◌, true, false, cond, inl, inr, ◌⊎◌, List, [], ◌∷◌, ◌++◌, Some, None, length, nat_eq, refl, sym, ap, subst, ◌∙◌, arith, below_more}
+use Rattle.dac_weave.specs.laws.Common.{slice_get, slice_set, Vec, length-set, cases_eq, slice_get_within, slice_get_read, Bor, length-map, slice_get-map, option_map, lent, numbers_of, Finds, counted}
 use Rattle.std.specs.List.{slice_index_or}
 use Rattle.std.specs.Prelude.{Result, Ok, Err, OnErr}
-use Rattle.dac_weave.specs.Indexing.{bucket_of, IsFiledIn, Files, IsKept}
+use Rattle.dac_weave.specs.Indexing.{bucket_of, IsFiledIn, Files, IsKept, without, Unfiles}
 
 -- a fact that holds anyway holds on an error
 pub on_err : {A E P : Type 0} (r : Result A E) → P → OnErr r P
@@ -77,7 +77,13 @@ module _ (lists : List (Vec ℕ)) (p number : ℕ) (u v : Vec ℕ) (there : slic
   ]
 
   files-at : (q : ℕ) → place q ≡ p → Files lists q number after
-  files-at q e = record { here = (length u.items, subst (λ xs. slice_get xs (length u.items) ≡ Some number) (sym (after-here q e)) (at-last u.items number)); kept = kept; only = only }
+  files-at q e = record {
+    here = (length u.items, subst (λ xs. slice_get xs (length u.items) ≡ Some number) (sym (after-here q e)) (at-last u.items number));
+    kept = kept;
+    only = only;
+    last = λ r same. after-here r (same ∙ e) ∙ ap (λ (ns : List ℕ). ns ++ number ∷ []) (sym (before-here r (same ∙ e)));
+    apart = λ r ne. after-apart r (λ same. ne (same ∙ sym e));
+  }
 
 pub files : (lists : List (Vec ℕ)) (label n number : ℕ) (u v : Vec ℕ) → n ≡ length lists → slice_get lists (label % n) ≡ Some u → v.items ≡ u.items ++ number ∷ [] → Files lists label number (slice_set lists (label % n) v)
 files lists label n number u v long there is =
@@ -93,6 +99,27 @@ keeps lists label n u v long there is q =
       | inl e ↦ ap (λ k. numbers_of (slice_get after k)) e ∙ (ap numbers_of (set-here lists p u v there) ∙ (is ∙ (ap numbers_of (sym there) ∙ ap (λ k. numbers_of (slice_get lists k)) (sym e))))
       | inr ne ↦ ap numbers_of (set-apart lists p (q % length lists) v ne)
     ]
+
+-- ---- one number less
+pub unfiles : (lists : List (Vec ℕ)) (label n number : ℕ) (u v : Vec ℕ) → n ≡ length lists → slice_get lists (label % n) ≡ Some u → v.items ≡ without number u.items → Unfiles lists label number (slice_set lists (label % n) v)
+unfiles lists label n number u v long there is =
+    let p = label % n in
+    let after = slice_set lists p v in
+    let read : (q : ℕ) → bucket_of after q ≡ numbers_of (slice_get after (q % length lists)) = λ q. ap (λ m. numbers_of (slice_get after (q % m))) (length-set lists p v) in
+    let at : label % length lists ≡ p = ap (λ m. label % m) (sym long) in
+    record {
+      here = λ q same.
+          let place : q % length lists ≡ p = same ∙ at in
+          read q ∙ (ap (λ k. numbers_of (slice_get after k)) place ∙ (ap numbers_of (set-here lists p u v there) ∙ (is ∙ ap (without number) (sym (ap (λ k. numbers_of (slice_get lists k)) place ∙ ap numbers_of there)))));
+      apart = λ q ne. read q ∙ ap numbers_of (set-apart lists p (q % length lists) v (λ same. ne (same ∙ sym at)));
+    }
+
+-- ---- places counted from 1
+pub get-counted : {X : Type 0} (x : X) (xs : List X) (k : ℕ) → counted xs k ≡ Some x → slice_get xs (k - 1) ≡ Some x
+get-counted {X} x xs k = elim (nat_eq k 0) as (λ b. cond b None (slice_get xs (k - 1)) ≡ Some x → slice_get xs (k - 1) ≡ Some x) [
+  | true ↦ λ h. cc
+  | false ↦ λ h. h
+]
 
 -- ---- no numbers
 abbrev pub AllEmpty : List (Vec ℕ) → Type 0
@@ -198,6 +225,9 @@ module _ {X : Type 0} (label_of : X → ℕ) where
       within i lt = omega arith
 
   -- ---- appending a reference
+  pub lent-again : (items more : List (Bor X)) (lists : List (Vec ℕ)) (b : Bor X) (k : ℕ) → more ≡ items ++ b ∷ [] → counted (lent items) k ≡ Some b.now → Finds label_of (lent items) lists → Finds label_of (lent more) lists
+  lent-again items more lists b k is at finds = subst (λ xs. Finds label_of xs lists) (sym (ap lent is ∙ lent-push items b)) (finds-again (lent items) lists b.now (k - 1) (get-counted b.now (lent items) k at) finds)
+
   pub lent-filed : (items more : List (Bor X)) (lists new : List (Vec ℕ)) (b : Bor X) (q n : ℕ) → more ≡ items ++ b ∷ [] → n ≡ length items → q ≡ label_of b.now → Files lists q n new → Finds label_of (lent items) lists → Finds label_of (lent more) new
   lent-filed items more lists new b q n is long label filed finds =
       subst (λ xs. Finds label_of xs new) (sym (ap lent is ∙ lent-push items b))

@@ -1,8 +1,9 @@
-mod Copied
 mod Finding
 mod Least
 mod Twice
 mod Replays
+mod Mailed
+mod Delivered
 mod Placed
 mod Cutting
 mod Converged

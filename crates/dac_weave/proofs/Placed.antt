@@ -10,12 +10,14 @@ use Rattle.dac_weave.specs.Woven.{AllFit, IsStuckAt, IsUnwoven}
 use Rattle.dac_weave.specs.Names.{issued_in, shipped_in}
 use Rattle.dac_weave.specs.Placing.{IsCursor, CanBePlaced, IsBlocked, AllBlocked, Places, PlacesRecord, longer, IsLeftAt, AllWhole, reach, valids_of, Continues}
 use Rattle.dac_weave.specs.Seats.{seats_at, seats_of}
+use Rattle.dac_weave.specs.Mails.{Moves, Delivers}
 use Rattle.dac_weave.specs.laws.Members.{not_true}
 use Rattle.dac_weave.specs.laws.Runs.{eq_self, node-after, count-after, seen-append, run-append, steps_node, grows, shipped_of, issued_of}
 use Rattle.dac_weave.proofs.Replays.{take-push, journal_seen-at, seats_of-at, so_far}
 use Rattle.dac_weave.specs.laws.Recorded.{kept, recorded-gives}
 use Rattle.dac_weave.specs.laws.Complete.{Stands, furthest, same_number}
 use Rattle.dac_weave.proofs.Least.{one_at}
+use Rattle.dac_weave.proofs.Delivered.{delivers-place}
 
 -- ---- lists
 same_cursor : (a b : Cursor) → Some a ≡ Some b → a ≡ b
@@ -152,7 +154,7 @@ module _ (t : Table) (js : List JournalValue) (old : Merge) (i : ℕ) (what : Wh
       ∙ (ap (λ b. seats_at n old.events.items old.seats.items ++ cond b (ready.next.seat ∷ []) []) (not_true (nat_eq ready.journal.beginning.node.0 n.0) (λ e. apart (same_number ready.journal.beginning.node n e)))
       ∙ append-nil (seats_at n old.events.items old.seats.items))
 
-  module _ (new : Merge) (placed : Places js old i what new) where
+  module _ (new : Merge) (placed : Places js old i what new) (moves : Moves old.mail what new.mail) where
     abbrev does : PlacesRecord old i what new ready.journal ready.cursor ready.next
     does = placed.each ready.journal ready.cursor ready.next ready.at ready.cursor_at ready.next_at
 
@@ -202,6 +204,8 @@ module _ (t : Table) (js : List JournalValue) (old : Merge) (i : ℕ) (what : Wh
       messages = does.messages ∙ (ap (λ (ms : List Message). ms ++ shipped_in ready.next.answer) w.messages
           ∙ (ap (λ (ms : List Message). world.messages ++ ms) (sym (shipped-as_world_result ready.next.answer) ∙ ap (λ (x : Seen). shipped_of x.answer) (sym placed_seen))
           ∙ (sym (grows t world event).messages ∙ (ap (λ (v : ModelWorld). v.messages) (sym (run-append t (start t) old.events.items (event ∷ []))) ∙ ap (λ es. (run_from t (start t) es).messages) (sym does.events)))));
+      delivers = subst (Delivers t new.mail) (sym does.events)
+          (delivers-place t old.events.items ready.journal.beginning.node what old.mail new.mail old.operations ready.next.event w.delivers w.messages ready.named ready.proper moves);
     }
 
 -- ---- the events and the valid prefixes
@@ -309,7 +313,7 @@ stands t js l w still i j at x front answer what named =
       | inr next ↦
           let r = next.0 in
           let is : x ≡ as_seen r = same_seen x (as_seen r) (sym there ∙ journal_seen-at j k.cursor.placed r (subst (λ (y : JournalValue). At y.records k.cursor.placed r) same next.1.0)) in
-          next.1.1 what (ap (λ os. event_of os l.messages what) w.operations ∙ (ap (λ ms. event_of (run_from t (start t) l.events.items).operations ms what) w.messages ∙ (named ∙ ap (λ (y : Seen). y.event) is)))
+          next.1.1 what (ap (λ os. event_of os l.mail.shipped what) w.operations ∙ (ap (λ ms. event_of (run_from t (start t) l.events.items).operations ms what) w.messages ∙ (named ∙ ap (λ (y : Seen). y.event) is)))
     ]
   where
     same_seen : (a b : Seen) → Some a ≡ Some b → a ≡ b

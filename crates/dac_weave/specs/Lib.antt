@@ -7,6 +7,8 @@ pub mod Faults
 pub mod Converging
 pub mod Replay
 pub mod Indexing
+pub mod Copies
+pub mod Mails
 pub mod Labels
 pub mod Names
 pub mod Placing

@@ -11,6 +11,7 @@ use Rattle.dac_weave.specs.declared.cursor.Cursor.{Cursor}
 use Rattle.dac_weave.specs.declared.merge.Merge.{Merge}
 use Rattle.dac_journal.specs.Journals.{JournalValue}
 use Rattle.dac_weave.specs.Cut.{cut}
+use Rattle.dac_weave.specs.Mails.{IsNoMail, IsProper, Delivers}
 use Rattle.dac_weave.specs.Seats.{seats_at, seats_of}
 use Rattle.dac_weave.specs.Woven.{journal_seen, At, HasNone, IsFirst, seen_in}
 use Rattle.dac_journal.specs.EveryList.{run_from}
@@ -42,7 +43,8 @@ pub record Weaves (t : Table) (js : List JournalValue) (l : Merge) : Type 0 wher
   pub seats : (i : ℕ) (j : JournalValue) (s : Cursor) → At js i j → At l.cursors.items i s
       → seats_at j.beginning.node l.events.items l.seats.items ≡ take s.placed (seats_of j)
   pub operations : l.operations ≡ (run_from t (start t) l.events.items).operations
-  pub messages : l.messages ≡ (run_from t (start t) l.events.items).messages
+  pub messages : l.mail.shipped ≡ (run_from t (start t) l.events.items).messages
+  pub delivers : Delivers t l.mail l.events.items
 
 -- the world event `what` can place the next record of the i-th journal
 pub record CanBePlaced (js : List JournalValue) (l : Merge) (i : ℕ) (what : What) : Type 0 where
@@ -53,7 +55,8 @@ pub record CanBePlaced (js : List JournalValue) (l : Merge) (i : ℕ) (what : Wh
   pub cursor_at : At l.cursors.items i cursor
   pub left : cursor.placed < reach journal cursor
   pub next_at : At journal.records cursor.placed next
-  pub named : event_of l.operations l.messages what ≡ Ok next.event
+  pub named : event_of l.operations l.mail.shipped what ≡ Ok next.event
+  pub proper : IsProper l.mail what
 
 -- the next record of the i-th journal can't be placed
 pub record IsBlocked (js : List JournalValue) (l : Merge) (i : ℕ) : Type 0 where
@@ -62,7 +65,7 @@ pub record IsBlocked (js : List JournalValue) (l : Merge) (i : ℕ) : Type 0 whe
   pub at : At js i journal
   pub cursor_at : At l.cursors.items i cursor
   pub cause : (reach journal cursor ≤ cursor.placed)
-      ⊎ ((r : Record) × (At journal.records cursor.placed r × IsUnnamed l.operations l.messages r.event))
+      ⊎ ((r : Record) × (At journal.records cursor.placed r × IsUnnamed l.operations l.mail.shipped r.event))
 
 abbrev pub AllBlocked : List JournalValue → Merge → Type 0
 AllBlocked js l = (i : ℕ) → i < length js → IsBlocked js l i
@@ -82,7 +85,7 @@ pub record PlacesRecord (old : Merge) (i : ℕ) (what : What) (new : Merge) (j :
   pub events : new.events.items ≡ old.events.items ++ (record { node = j.beginning.node; what = what }) ∷ []
   pub seats : new.seats.items ≡ old.seats.items ++ r.seat ∷ []
   pub operations : new.operations ≡ old.operations ++ issued_in r.answer
-  pub messages : new.messages ≡ old.messages ++ shipped_in r.answer
+  pub messages : new.mail.shipped ≡ old.mail.shipped ++ shipped_in r.answer
 
 -- the next record of the i-th journal is placed as the world event `what`
 pub record Places (js : List JournalValue) (old : Merge) (i : ℕ) (what : What) (new : Merge) : Type 0 where
@@ -114,7 +117,7 @@ pub record IsBegun (t : Table) (js : List JournalValue) (l : Merge) : Type 0 whe
   pub events : l.events.items ≡ []
   pub seats : l.seats.items ≡ []
   pub operations : l.operations ≡ []
-  pub messages : l.messages ≡ []
+  pub mail : IsNoMail l.mail
 
 abbrev pub valids_of : List Cursor → List ℕ
 valids_of ss = map (λ (s : Cursor). s.valid) ss
@@ -139,7 +142,8 @@ pub record Rests (t : Table) (js : List JournalValue) (row : List ℕ) (l : Merg
   pub seats : (i : ℕ) (j : JournalValue) → At (cut js row) i j
       → seats_at j.beginning.node l.events.items l.seats.items ≡ seats_of j
   pub operations : l.operations ≡ (run_from t (start t) l.events.items).operations
-  pub messages : l.messages ≡ (run_from t (start t) l.events.items).messages
+  pub messages : l.mail.shipped ≡ (run_from t (start t) l.events.items).messages
+  pub delivers : Delivers t l.mail l.events.items
 
 -- the records up to an earlier row are placed
 pub record PrecedesRow (t : Table) (js : List JournalValue) (row : List ℕ) (l : Merge) : Type 0 where

@@ -1,7 +1,7 @@
 //! Hash buckets of numbers.
 
 ghost use Rattle.std.specs.Prelude.{◌≡◌, ℕ, ◌<◌, IfOk, OnOk, OnErr, length};
-ghost use Rattle.dac_weave.specs.Indexing.{bucket_of, IsFiledIn, Files, IsKept};
+ghost use Rattle.dac_weave.specs.Indexing.{bucket_of, IsFiledIn, Files, IsKept, without, Unfiles};
 
 use dac_base::NoMemory;
 use std::alloc::Global;
@@ -12,6 +12,13 @@ use std::alloc::Global;
 pub(crate) struct Buckets {
     pub(crate) lists: Vec<Vec<usize>>,
     ghost some: { 0 < length lists.items },
+}
+
+/// Removes every entry of a number.
+fn remove_number(numbers: &mut Vec<usize>, number: usize)
+    ensures { numbers.new.items ≡ without number numbers.old.items }
+{
+    numbers.retain(|held| *held != number);
 }
 
 impl Buckets {
@@ -42,5 +49,13 @@ impl Buckets {
         let place = label % self.lists.len() as u64;
         self.lists[place as usize].push(number)?;
         Ok(())
+    }
+
+    /// Removes `number` from the bucket of `label`.
+    pub(crate) fn unfile(&mut self, label: u64, number: usize)
+        ensures { Unfiles self.old.lists.items label number self.new.lists.items }
+    {
+        let place = label % self.lists.len() as u64;
+        remove_number(&mut self.lists[place as usize], number);
     }
 }

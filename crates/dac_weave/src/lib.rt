@@ -11,11 +11,11 @@ pub use fault::WeaveFault;
 pub use weaving::{Woven, weave, weave_phases};
 
 mod buckets;
-mod copies;
 mod cursor;
 mod fault;
 mod indexed_list;
 mod labels;
+mod mail;
 mod merge;
 mod part;
 mod replay;

@@ -2,17 +2,19 @@
 
 ghost use Rattle.std.specs.Prelude.{◌≡◌, ◌<◌, ◌≤◌, ◌++◌, Ok, IfOk, OnOk, IfSome, MatchOption, length};
 ghost use Rattle.dac_journal.specs.ModelWorld.{event_of};
+ghost use Rattle.dac_weave.specs.Mails.{IsMail, IsProper, PostsAll};
 ghost use Rattle.dac_weave.specs.Names.{Names, issued_in, shipped_in};
 
 use crate::cursor::{Cursor, cursors_of};
 use crate::indexed_list::IndexedList;
+use crate::mail::Mail;
 use crate::part::Part;
 use crate::unfit::lesser;
 use dac_base::{NoMemory, NodeId};
 use dac_config::Config;
 use dac_events::{What, WorldEvent};
 use dac_journal::{Answer, Closed};
-use dac_messages::{Event, Message, OpList, Reply};
+use dac_messages::{Event, OpList, Reply};
 use dac_operations::Op;
 use std::alloc::Global;
 
@@ -20,21 +22,18 @@ use std::alloc::Global;
 /// issued.
 #[derive(Drop)]
 pub(crate) struct Merge<'a> {
-    alloc: Global,
     pub(crate) cursors: Vec<Cursor>,
     pub(crate) events: Vec<WorldEvent>,
     pub(crate) seats: Vec<u16>,
     pub(crate) operations: IndexedList<'a, Op>,
-    pub(crate) messages: IndexedList<'a, Message>,
+    pub(crate) mail: Mail<'a>,
 }
 
 /// Returns the world event that is `event` at its node. A delivered message or operation has none until it was sent.
-fn name_event(
-    operations: &IndexedList<'_, Op>,
-    messages: &IndexedList<'_, Message>,
-    event: &Event,
-) -> Option<What>
-    ensures { Names operations.now messages.now event.now result }
+fn name_event(operations: &IndexedList<'_, Op>, mail: &Mail<'_>, event: &Event) -> Option<What>
+    requires { IsMail mail.now }
+    ensures names { Names operations.now mail.now.shipped event.now result }
+    ensures proper { IfSome result (IsProper mail.now) }
 {
     match event {
         Event::Boot { now } => Some(What::Boot { now: *now }),
@@ -42,7 +41,7 @@ fn name_event(
         Event::Command(command) => Some(What::Command(*command)),
         Event::Tick { now } => Some(What::Tick { now: *now }),
         Event::Ship { to } => Some(What::Ship { to: *to }),
-        Event::Hear(message) => match messages.number(message) {
+        Event::Hear(message) => match mail.number(message) {
             Some(number) => Some(What::Deliver(number)),
             None => None,
         },
@@ -53,51 +52,50 @@ fn name_event(
     }
 }
 
-/// Returns the world event that is `event` at its node, unless it delivers a message of which each copy was delivered.
-fn name_once(
-    operations: &IndexedList<'_, Op>,
-    messages: &IndexedList<'_, Message>,
-    event: &Event,
-) -> Option<What>
-    ensures { IfSome result (λ what. event_of operations.now messages.now what ≡ Ok event.now) }
+/// Returns the world event that is `event` at its node, unless it delivers a message of which no copy waits.
+fn name_once(operations: &IndexedList<'_, Op>, mail: &Mail<'_>, event: &Event) -> Option<What>
+    requires { IsMail mail.now }
+    ensures names { IfSome result
+        (λ what. event_of operations.now mail.now.shipped what ≡ Ok event.now) }
+    ensures proper { IfSome result (IsProper mail.now) }
 {
     match event {
-        Event::Hear(message) => match messages.fresh_number(message) {
-            Some(fresh) => Some(What::Deliver(fresh)),
+        Event::Hear(message) => match mail.next(message) {
+            Some(next) => Some(What::Deliver(next)),
             None => None,
         },
-        _ => name_event(operations, messages, event),
+        _ => name_event(operations, mail, event),
     }
 }
 
 /// Appends the issued operations.
 fn append_issued<'a>(
-    alloc: Global,
     operations: &mut IndexedList<'a, Op>,
     issued: &'a OpList,
 ) -> Result<(), NoMemory>
     ensures { OnOk result (operations.new ≡ operations.old ++ issued.now) }
 {
     for operation in issued.as_slice() {
-        operations.put(alloc, operation)?;
+        operations.put(operation)?;
     }
     Ok(())
 }
 
 /// Appends the operations and messages of a record's result.
 fn append_output<'a>(
-    alloc: Global,
     operations: &mut IndexedList<'a, Op>,
-    messages: &mut IndexedList<'a, Message>,
+    mail: &mut Mail<'a>,
     answer: &'a Answer,
 ) -> Result<(), NoMemory>
+    requires { IsMail mail.old }
     ensures operations { OnOk result (operations.new ≡ operations.old ++ issued_in answer.now) }
-    ensures messages { OnOk result (messages.new ≡ messages.old ++ shipped_in answer.now) }
+    ensures messages { OnOk result (mail.new.shipped ≡ mail.old.shipped ++ shipped_in answer.now) }
+    ensures posts { OnOk result (PostsAll mail.old (shipped_in answer.now) mail.new) }
 {
     match answer {
-        Ok(Reply::Booted(operation) | Reply::Issued(operation)) => operations.put(alloc, operation),
-        Ok(Reply::Ticked { ops, passed: _ }) => append_issued(alloc, operations, ops),
-        Ok(Reply::Shipped(message)) => messages.put(alloc, message),
+        Ok(Reply::Booted(operation) | Reply::Issued(operation)) => operations.put(operation),
+        Ok(Reply::Ticked { ops, passed: _ }) => append_issued(operations, ops),
+        Ok(Reply::Shipped(message)) => mail.post(message),
         Ok(Reply::Crashed | Reply::Held | Reply::GaveUp | Reply::Heard(_)) | Err(_) => Ok(()),
     }
 }
@@ -114,6 +112,7 @@ fn count_all(journals: &[Closed]) -> usize {
 impl<'a> Merge<'a> {
     ghost use Rattle.std.specs.Prelude.{◌<◌, ◌≤◌, IfOk, OnOk, IfSome, MatchOption, length};
     ghost use Rattle.dac_journal.specs.Journals.{JournalValue};
+    ghost use Rattle.dac_weave.specs.Mails.{IsMail, Notes, Moves};
     ghost use Rattle.dac_weave.specs.Woven.{AllFit, IsFirst};
     ghost use Rattle.dac_weave.specs.Placing.{HaveCursors, Weaves, CanBePlaced, IsBlocked, AllBlocked, BlockedBetween, Places, IsBegun, Continues, IsLeft, IsLeftAt, AllWhole};
 
@@ -128,20 +127,20 @@ impl<'a> Merge<'a> {
         let cursors = cursors_of(alloc, config, journals)?;
         let room = count_all(journals);
         let operations = IndexedList::new(alloc, room)?;
-        let messages = IndexedList::new(alloc, room)?;
+        let mail = Mail::new(alloc, room)?;
         Ok(Merge {
-            alloc,
             cursors,
             events: Vec::new(alloc),
             seats: Vec::new(alloc),
             operations,
-            messages,
+            mail,
         })
     }
 
     /// Returns the world event that places the next record of a journal, if it can be placed.
     fn ready(&self, journals: &[Part<'a>], i: usize) -> Option<What>
         requires fits { HaveCursors journals.now self.now.cursors.items }
+        requires mail { IsMail self.now.mail }
         requires within { i < length journals.now }
         ensures { MatchOption result (IsBlocked journals.now self.now i)
             (CanBePlaced journals.now self.now i) }
@@ -149,11 +148,7 @@ impl<'a> Merge<'a> {
         let cursor = &self.cursors[i];
         let records = journals[i].records();
         if cursor.placed < cursor.valid.min(records.len()) {
-            name_event(
-                &self.operations,
-                &self.messages,
-                &records[cursor.placed].event,
-            )
+            name_event(&self.operations, &self.mail, &records[cursor.placed].event)
         } else {
             None
         }
@@ -162,6 +157,7 @@ impl<'a> Merge<'a> {
     /// Returns a journal in `low..high` whose next record can be placed, with its world event.
     fn find_between(&self, journals: &[Part<'a>], low: usize, high: usize) -> Option<(usize, What)>
         requires fits { HaveCursors journals.now self.now.cursors.items }
+        requires mail { IsMail self.now.mail }
         requires within { high ≤ length journals.now }
         ensures { MatchOption result (BlockedBetween journals.now self.now low high)
             (λ found. (found.0 < length journals.now)
@@ -180,17 +176,14 @@ impl<'a> Merge<'a> {
     /// of which each copy was delivered.
     fn ready_once(&self, journals: &[Part<'a>], i: usize) -> Option<What>
         requires fits { HaveCursors journals.now self.now.cursors.items }
+        requires mail { IsMail self.now.mail }
         requires within { i < length journals.now }
         ensures { IfSome result (CanBePlaced journals.now self.now i) }
     {
         let cursor = &self.cursors[i];
         let records = journals[i].records();
         if cursor.placed < cursor.valid.min(records.len()) {
-            name_once(
-                &self.operations,
-                &self.messages,
-                &records[cursor.placed].event,
-            )
+            name_once(&self.operations, &self.mail, &records[cursor.placed].event)
         } else {
             None
         }
@@ -199,6 +192,7 @@ impl<'a> Merge<'a> {
     /// Returns a journal in `low..high` as [`Merge::ready_once`] does for one, with its world event.
     fn once_between(&self, journals: &[Part<'a>], low: usize, high: usize) -> Option<(usize, What)>
         requires fits { HaveCursors journals.now self.now.cursors.items }
+        requires mail { IsMail self.now.mail }
         requires within { high ≤ length journals.now }
         ensures { IfSome result (λ found. (found.0 < length journals.now)
             × CanBePlaced journals.now self.now found.0 found.1) }
@@ -216,6 +210,7 @@ impl<'a> Merge<'a> {
     /// around.
     fn find_any(&self, journals: &[Part<'a>], from: usize) -> Option<(usize, What)>
         requires fits { HaveCursors journals.now self.now.cursors.items }
+        requires mail { IsMail self.now.mail }
         requires within { from ≤ length journals.now }
         ensures { MatchOption result (AllBlocked journals.now self.now)
             (λ found. (found.0 < length journals.now)
@@ -231,6 +226,7 @@ impl<'a> Merge<'a> {
     /// record can be placed.
     fn find(&self, journals: &[Part<'a>], from: usize) -> Option<(usize, What)>
         requires fits { HaveCursors journals.now self.now.cursors.items }
+        requires mail { IsMail self.now.mail }
         requires within { from ≤ length journals.now }
         ensures { MatchOption result (AllBlocked journals.now self.now)
             (λ found. (found.0 < length journals.now)
@@ -247,23 +243,34 @@ impl<'a> Merge<'a> {
 
     /// Notes that the copy of a message is delivered.
     fn note(&mut self, what: What)
+        requires { IsMail self.old.mail }
         ensures cursors { self.new.cursors ≡ self.old.cursors }
         ensures events { self.new.events ≡ self.old.events }
         ensures seats { self.new.seats ≡ self.old.seats }
         ensures operations { self.new.operations ≡ self.old.operations }
-        ensures messages { self.new.messages ≡ self.old.messages }
+        ensures notes { Notes self.old.mail what self.new.mail }
+        ensures messages { self.new.mail.shipped ≡ self.old.mail.shipped }
+        ensures mail { IsMail self.new.mail }
     {
-        if let What::Deliver(number) = what {
-            self.messages.take(number);
+        match what {
+            What::Deliver(number) => self.mail.take(number),
+            What::Boot { now: _ }
+            | What::Crash
+            | What::Command(_)
+            | What::Tick { now: _ }
+            | What::Ship { to: _ }
+            | What::Hand(_) => {}
         }
     }
 
     /// Places the next record of a journal.
     fn place(&mut self, journals: &[Part<'a>], i: usize, what: What) -> Result<(), NoMemory>
         requires fits { HaveCursors journals.now self.old.cursors.items }
+        requires mail { IsMail self.old.mail }
         requires within { i < length journals.now }
         requires ready { CanBePlaced journals.now self.old i what }
-        ensures { OnOk result (Places journals.now self.old i what self.new) }
+        ensures places { OnOk result (Places journals.now self.old i what self.new) }
+        ensures moves { OnOk result (Moves self.old.mail what self.new.mail) }
     {
         let journal = &journals[i];
         let records = journal.records();
@@ -275,12 +282,7 @@ impl<'a> Merge<'a> {
         })?;
         self.seats.push(record.seat)?;
         self.note(what);
-        append_output(
-            self.alloc,
-            &mut self.operations,
-            &mut self.messages,
-            &record.answer,
-        )?;
+        append_output(&mut self.operations, &mut self.mail, &record.answer)?;
         self.cursors[i].placed = placed + 1;
         Ok(())
     }

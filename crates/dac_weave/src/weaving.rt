@@ -5,6 +5,7 @@ ghost use Rattle.dac_weave.specs.Woven.{AllFit, Gives};
 ghost use Rattle.dac_weave.specs.Recording.{IsRecorded};
 ghost use Rattle.dac_weave.specs.Faults.{IsTrueFault, IsRefusal};
 ghost use Rattle.dac_weave.specs.Converging.{IsConverged};
+ghost use Rattle.dac_weave.specs.Copies.{NamesCopies};
 ghost use Rattle.dac_weave.specs.Cut.{cut, rows_of, lengths_of, AreEnds};
 ghost use Rattle.dac_weave.specs.Seats.{HaveSeats};
 ghost use Rattle.dac_weave.specs.Phased.{GivesPhases, IsPhaseFault};
@@ -95,6 +96,8 @@ pub fn weave_phases(
     // Up to each bound it reproduces the journals up to the end of a phase.
     ensures phases { IfOk result (λ woven.
         GivesPhases config.now journals.now woven.events.items (rows_of ends.now) woven.bounds.items) }
+    // Each delivery names the first of equal messages that no earlier one names, or one again if each is named.
+    ensures copies { IfOk result (λ woven. NamesCopies config.now woven.events.items) }
     // Each event has the seat of its record.
     ensures seats { IfOk result (λ woven. HaveSeats journals.now woven.events.items woven.seats.items) }
     // Therefore each journal is what its node records in the run.
@@ -146,6 +149,8 @@ pub fn weave(
 ) -> Result<Vec<WorldEvent>, WeaveFault>
     // The run reproduces each journal, in order, with its results, and has no event at another node.
     ensures woven { IfOk result (λ events. Gives config.now journals.now events.items) }
+    // Each delivery names the first of equal messages that no earlier one names, or one again if each is named.
+    ensures copies { IfOk result (λ events. NamesCopies config.now events.items) }
     // Therefore each journal is what its node records in the run.
     ensures recorded { IfOk result (λ events. IsRecorded config.now journals.now events.items) }
     // The guarantees of every run hold, and each journal's history ends in the state in which the run leaves its node.

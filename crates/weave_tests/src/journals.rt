@@ -19,14 +19,19 @@ pub(crate) fn journal(alloc: Global, node: u8, last: u64) -> Option<Journal> {
     Some(Journal::new(alloc, config, NodeId(node), last))
 }
 
-/// Runs an event at a node through its first seat.
-pub(crate) fn ask(journal: &mut Journal, event: Event) -> Option<Answer> {
+/// Runs an event at a node through a seat.
+pub(crate) fn ask_as(journal: &mut Journal, seat: u16, event: Event) -> Option<Answer> {
     if journal.is_full() {
         return None;
     }
-    let next = journal.prepare(1, event).ok()?;
+    let next = journal.prepare(seat, event).ok()?;
     let (_, answer) = journal.commit(next).ok()?;
     Some(answer)
+}
+
+/// Runs an event at a node through its first seat.
+pub(crate) fn ask(journal: &mut Journal, event: Event) -> Option<Answer> {
+    ask_as(journal, 1, event)
 }
 
 /// Ships from one node to another, which receives the message. Nothing happens if the receiver is up to date.

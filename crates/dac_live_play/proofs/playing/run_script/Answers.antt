@@ -71,6 +71,7 @@ returns-clause-ok g c =
         end = c.in_ok-ends.ensures;
         gives = weaves.woven;
         in_phases = subst (λ ends. GivesPhases t c.as_slice-journals.result.now made.events.items (rows_of ends) made.bounds.items) c.deref-2.ensures.value weaves.phases;
+        copies = weaves.copies;
         seats = weaves.seats;
         recorded = weaves.recorded;
         converges = weaves.converges;

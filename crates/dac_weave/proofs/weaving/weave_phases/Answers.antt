@@ -34,6 +34,9 @@ pub returns-clause-seats : goal.returns-clause-seats
 returns-clause-seats c =
     (finished c.args.config.now c.args.journals.now (rows_of c.args.ends.now) c.loop-row.row-index c.loop-row.merge c.loop-row.bounds.items c.loop-row.invariant c.requires (past_rows c.args.ends.now c.loop-row.row-index c.loop-row-test.false)).seats
 
+pub returns-clause-copies : goal.returns-clause-copies
+returns-clause-copies c = c.loop-row.invariant.rests.delivers.copies
+
 pub returns-clause-recorded : goal.returns-clause-recorded
 returns-clause-recorded c =
     gives-recorded c.args.config.now c.args.journals.now c.loop-row.merge.events.items

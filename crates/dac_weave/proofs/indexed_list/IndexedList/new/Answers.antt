@@ -2,7 +2,4 @@ use Rattle.dac_weave.proofs.Finding.{finds-empty}
 use Rattle.dac_weave.proofs.indexed_list.IndexedList.new.Goals as goal
 
 pub invariant_of-result : goal.invariant_of-result
-invariant_of-result g c = record {
-  finds = finds-empty g.T.Labelled.label_of c.new-2.result.items c.in_ok-buckets.buckets.lists.items c.new-2.ensures.items c.in_ok-buckets.ensures;
-  alike = λ p q h. absurd (c.new-3.ensures p q h);
-}
+invariant_of-result g c = finds-empty g.T.Labelled.label_of c.new-2.result.items c.in_ok-buckets.buckets.lists.items c.new-2.ensures.items c.in_ok-buckets.ensures
