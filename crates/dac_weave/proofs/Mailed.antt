@@ -23,7 +23,7 @@ first_is a b e = cc
 
 -- an item of a list without n is one of the list
 without-from : (n : ℕ) (ns : List ℕ) (i k : ℕ) → At (without n ns) i k → (j : ℕ) × (At ns j k × (i ≤ j))
-without-from n [] i k at = cc
+without-from n [] i k = λ at. cc
 without-from n (m ∷ ns) i k = elim (eqb m n) as (λ b. At (cond (not b) (m ∷ without n ns) (without n ns)) i k → (j : ℕ) × (At (m ∷ ns) j k × (i ≤ j))) [
   | true ↦ λ at. let r = without-from n ns i k at in (suc r.0, (r.1.0, omega (arith, r.1.1)))
   | false ↦ elim i as (λ p. At (m ∷ without n ns) p k → (j : ℕ) × (At (m ∷ ns) j k × (p ≤ j))) [
@@ -49,11 +49,11 @@ without-gone : (n : ℕ) (ns : List ℕ) (i : ℕ) → At (without n ns) i n →
 without-gone n [] i at = cc
 without-gone n (m ∷ ns) i at = elim (cases_eq m n) [
   | inl e ↦ without-gone n ns i (subst (λ b. At (cond (not b) (m ∷ without n ns) (without n ns)) i n) (eq-eqb m n e) at)
-  | inr no ↦
+  | inr other ↦
       elim i as (λ p. At (m ∷ without n ns) p n → ⊥) [
-        | zero ↦ λ here. no (first_is m n here)
+        | zero ↦ λ here. other (first_is m n here)
         | suc p ↦ λ here. without-gone n ns p here
-      ] (subst (λ b. At (cond (not b) (m ∷ without n ns) (without n ns)) i n) (ne_eqb m n no) at)
+      ] (subst (λ b. At (cond (not b) (m ∷ without n ns) (without n ns)) i n) (ne_eqb m n other) at)
 ]
 
 rising-cons : (m : ℕ) (ns : List ℕ) → IsRising ns → ((j b : ℕ) → At ns j b → m < b) → IsRising (m ∷ ns)
