@@ -138,13 +138,6 @@ module _ (old new : Mail) (mail : IsMail old) where
       let m = item_at old.shipped place inside in
       takes m.0 place number is m.1 shipped (subst (λ l. Unfiles old.waiting.lists.items l place new.waiting.lists.items) (labelled m.0 m.1) less)
 
-  -- the number is none of a message
-  pub takes-none : (number : ℕ) → ((p : ℕ) (x : Message) → At old.shipped p x → p + 1 ≢ number) → new ≡ old → Takes old number new
-  takes-none number none same = subst (λ (n : Mail). Takes old number n) (sym same) (record { shipped = refl; mail = mail; waits = λ p x at. (λ now. (now, none p x at), λ both. both.0) })
-
-  pub takes-out : (number : ℕ) → ((p : ℕ) → p < length old.shipped → p + 1 ≢ number) → new ≡ old → Takes old number new
-  takes-out number none same = takes-none number (λ p x at. none p (slice_get_within old.shipped p x at)) same
-
   -- one more message
   pub posts : (m : Message) (place : ℕ) → place ≡ length old.shipped → new.shipped ≡ old.shipped ++ m ∷ [] → Files old.waiting.lists.items (message_label m) place new.waiting.lists.items → Posts old m new
   posts m place is shipped filed = record {
@@ -255,6 +248,6 @@ some-proper mail m None none is = tt
 some-proper mail m (Some k) none is = proper-again mail m k none is
 
 -- ---- messages that are shipped
-pub posts-one : {A E : Type 0} (r : Result A E) (old new : Mail) (m : Message) → OnOk r (Posts old m new) → OnOk r (PostsAll old (m ∷ []) new)
-posts-one (Ok x) old new m posts = (new, (posts, refl))
-posts-one (Err e) old new m posts = tt
+pub posts-one : {A E : Type 0} (r : Result A E) (old new : Mail) (m : Message) (ms : List Message) → ms ≡ m ∷ [] → OnOk r (Posts old m new) → OnOk r (PostsAll old ms new)
+posts-one (Ok x) old new m ms is posts = subst (λ (all : List Message). PostsAll old all new) (sym is) (new, (posts, refl))
+posts-one (Err e) old new m ms is posts = tt

@@ -1,4 +1,4 @@
-use Rattle.std.proofs.Common.{◌≡◌, ◌<◌, ℕ}
+use Rattle.std.proofs.Common.{◌<◌, ℕ}
 use Rattle.dac_weave.specs.laws.Common.{At}
 use Rattle.dac_weave.proofs.mail.Mail.next.Given as goal
 
