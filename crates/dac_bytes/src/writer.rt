@@ -1,5 +1,5 @@
 //! The writer of bytes: numbers, origins and dots.
-ghost use Rattle.std.specs.Prelude.{◌≡◌, [], ◌∷◌, ◌++◌, IfOk};
+ghost use Rattle.std.specs.Prelude.{◌≡◌, [], ◌++◌, IfOk};
 ghost use Rattle.dac_bytes.specs.Numbers.{u8_bytes, u16_bytes, u32_bytes, u64_bytes};
 ghost use Rattle.dac_bytes.specs.Spelling.{dot_bytes, incarnation_bytes, origin_bytes};
 ghost use Rattle.dac_bytes.specs.declared.version.Version.TheVariants.{One, Two};

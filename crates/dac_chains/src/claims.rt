@@ -1,5 +1,5 @@
 //! The greatest claim of each application.
-ghost use Rattle.std.specs.Prelude.{◌≡◌, ◌↔◌, IfOk, IsTrue};
+ghost use Rattle.std.specs.Prelude.{◌≡◌, IfOk};
 ghost use Rattle.std.specs.FinMap as map;
 ghost use Rattle.dac_chains.specs.Kept.{unwrapped};
 

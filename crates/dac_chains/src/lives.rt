@@ -1,5 +1,5 @@
 //! The life of each node.
-ghost use Rattle.std.specs.Prelude.{◌≡◌, ◌↔◌, ℕ, IfOk, IsTrue, Some, option_map};
+ghost use Rattle.std.specs.Prelude.{◌≡◌, ◌↔◌, ℕ, IfOk, Some, option_map};
 ghost use Rattle.std.specs.FinMap as map;
 ghost use Rattle.dac_chains.specs.Kept.{unwrapped};
 ghost use Rattle.dac_chains.specs.Lives.{IsLive, live_at, inc_and_flag};

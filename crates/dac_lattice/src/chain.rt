@@ -1,5 +1,5 @@
 //! The maximum of totally ordered values.
-ghost use Rattle.std.specs.Prelude.{◌≡◌, ◌↔◌, IsTrue, IfOk};
+ghost use Rattle.std.specs.Prelude.{◌≡◌};
 
 use crate::{Bottom, Lattice};
 use dac_origins::{MapKey, NoMemory};

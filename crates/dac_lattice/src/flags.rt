@@ -1,5 +1,4 @@
 //! A flag that can only go down.
-ghost use Rattle.std.specs.Prelude.{◌≡◌, ◌↔◌, IsTrue, IfOk};
 
 use crate::{Bottom, Lattice};
 use dac_origins::{MapKey, NoMemory};

@@ -3,7 +3,7 @@ ghost use Rattle.std.specs.Prelude.{◌≡◌, ◌++◌, [], length, None, Some,
 ghost use Rattle.std.specs.List.Sorted.{IsSearchInRange, IsBinarySearchResult};
 ghost use Rattle.std.specs.Option.{option_copied};
 ghost use Rattle.std.specs.FinMap.{find, put};
-ghost use Rattle.dac_lattice.specs.Altered.{Altering, IsAlteredIf};
+ghost use Rattle.dac_lattice.specs.Altered.{IsAlteredIf};
 ghost use Rattle.dac_lattice.specs.Entries.{merge_entries, keep};
 ghost use Rattle.dac_lattice.specs.Merges.{lowest_of, keep_lowest};
 ghost use Rattle.dac_lattice.specs.Search.{IsInOrder, IsPlaceOf, without};

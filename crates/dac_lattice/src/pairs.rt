@@ -1,5 +1,5 @@
 //! The product of two lattices.
-ghost use Rattle.std.specs.Prelude.{◌≡◌, ◌↔◌, IsTrue, IfOk};
+ghost use Rattle.std.specs.Prelude.{◌≡◌};
 
 use crate::{Bottom, Lattice};
 use dac_origins::NoMemory;

@@ -1,5 +1,5 @@
 -- A change in one part of a map.
-use Rattle.std.proofs.Common.{◌≡◌, ℕ, ◌<◌, true, false, Bool, List, [], ◌++◌, Some, Result, Ok, Err, length, get_or, slice_set, sym, ap, subst, ◌∙◌}
+use Rattle.std.proofs.Common.{◌≡◌, ℕ, ◌<◌, true, false, Bool, List, [], Some, Result, Ok, Err, length, get_or, slice_set, sym, ap, subst, ◌∙◌}
 use Rattle.std.specs.Prelude.{IfOk, OnErr}
 use Rattle.std.specs.declared.cmp.Ordering.{Ordering}
 use Rattle.std.specs.Cmp.{IsTotalOrder}
@@ -8,17 +8,12 @@ use Rattle.std.specs.FinMap.{find, put}
 use Rattle.std.specs.FinMap.Entries.{is_sorted-put}
 use Rattle.std.proofs.lemmas.List.{append-nil}
 use Rattle.std.proofs.lemmas.Map.Lookups.{CmpEqualImpliesEq}
-use Rattle.dac_lattice.specs.Altered.{Altering, IsAlteredAt, IsAlteredIf}
+use Rattle.dac_lattice.specs.Altered.{Altering, IsAlteredIf}
 use Rattle.dac_lattice.specs.Search.{IsInOrder}
 use Rattle.dac_sorted.specs.Parts.{IsCounted, IsPlaceOf, IsReplaced}
 use Rattle.dac_sorted.proofs.PartLemmas.{part_found_at}
 use Rattle.dac_sorted.proofs.ChangeLemmas.{count_there, replaced_changed, some_put}
-use Rattle.dac_sorted.proofs.ReplaceLemmas.{filled_set, one_replaced, same_block}
-
--- the result of a call, weakened
-pub if_tried : {E : Type 0} (r : Result Bool E) (P Q : Bool → Type 0) → ((done : Bool) → P done → Q done) → IfOk r P → IfOk r Q
-if_tried (Ok done) P Q f p = f done p
-if_tried (Err e) P Q f p = tt
+use Rattle.dac_sorted.proofs.ReplaceLemmas.{one_replaced, same_block}
 
 module _ {K X T : Type 0} (R : K → K → Ordering) (does : Altering X T) (k : K) where
   -- a change of a part is one of the whole

@@ -1,5 +1,5 @@
 -- Joins of a store with its context that are known without a join.
-use Rattle.std.proofs.Common.{◌≡◌, Bool, true, false, refl, sym, ap, ◌∙◌}
+use Rattle.std.proofs.Common.{◌≡◌, Bool, refl, sym, ap, ◌∙◌}
 use Rattle.std.specs.FinSet as set
 use Rattle.dac_origins.specs.Dots.{Dots, dot_cmp}
 use Rattle.dac_origins.specs.declared.dot.Dot.{Dot}
@@ -9,10 +9,6 @@ module _ {S : Type 0} {is_store : S → Type 0} {has : S → Dot → Bool} {belo
   -- the other side has nothing, and knows none of the dots
   pub join_stays : (s : S) (c : Dots) (t : S) (d : Dots) → is_store s → t ≡ nothing → IsUnheard (has s) d → s ≡ join s c t d
   join_stays s c t d u none unheard = sym (ap (λ t. join s c t d) none ∙ laws.alone s c d u unheard)
-
-  -- this side has nothing, and knows none of the dots
-  pub join_taken : (s : S) (c : Dots) (t : S) (d : Dots) → is_store t → s ≡ nothing → IsUnheard (has t) c → t ≡ join s c t d
-  join_taken s c t d v none unheard = sym (ap (λ s. join s c t d) none ∙ laws.alone_right t d c v unheard)
 
   -- this side knows none of the other's dots
   pub join_fresh : (s : S) (c : Dots) (t : S) (d : Dots) → is_store s → is_store t → IsUnheard (has t) c → join s set.empty t d ≡ join s c t d

@@ -1,7 +1,6 @@
 //! Whether one map is below another, by one walk through both.
 ghost use Rattle.std.specs.Prelude.{◌≡◌, ◌↔◌, true, IsTrue};
 ghost use Rattle.std.specs.Option.{option_copied};
-ghost use Rattle.std.specs.FinMap.{find};
 ghost use Rattle.dac_origins.specs.Dots.{Dots};
 ghost use Rattle.dac_lattice.specs.Search.{AtEachEntry, IsInOrder};
 ghost use Rattle.dac_store.specs.Below.{HasLaterKeys, IsBelowAt};

@@ -1,8 +1,8 @@
 //! A dot store paired with its causal context.
-ghost use Rattle.std.specs.Prelude.{◌≡◌, ◌↔◌, true, IsTrue, IfOk, IfErr, OnOk, OnErr};
+ghost use Rattle.std.specs.Prelude.{◌≡◌, ◌↔◌, IsTrue, IfOk, IfErr, OnOk, OnErr};
 ghost use Rattle.std.specs.FinSet as set;
 ghost use Rattle.dac_origins.specs.Dots.{IsSubset};
-ghost use Rattle.dac_store.specs.Stores.{IsHeld, IsStoredBelow, IsUnheard, join_stored};
+ghost use Rattle.dac_store.specs.Stores.{IsHeld, IsStoredBelow, join_stored};
 
 use crate::DotStore;
 use crate::causal_ref::{CausalRef, absorb_store};

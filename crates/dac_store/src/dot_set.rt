@@ -1,5 +1,5 @@
 //! Sets of dots as a dot store.
-ghost use Rattle.std.specs.Prelude.{◌≡◌, ◌↔◌, ◌||◌, ◌&&◌, IfOk, OnErr, OnOk, true, if◌then◌else◌};
+ghost use Rattle.std.specs.Prelude.{◌≡◌, ◌||◌, ◌&&◌, IfOk, OnErr, OnOk, true, if◌then◌else◌};
 ghost use Rattle.std.specs.FinSet as set;
 ghost use Rattle.dac_origins.specs.InOrder.{in_order};
 ghost use Rattle.dac_store.specs.Appending.{is_above_dots};

@@ -1,5 +1,5 @@
 -- Journals up to the ends of phases, and the merge between phases.
-use Rattle.std.proofs.Common.{◌≡◌, ℕ, zero, suc, ◌+◌, ◌-◌, ◌<◌, ◌≤◌, List, [], ◌∷◌, ◌++◌, length, take, drop, get_or, min, map, refl, sym, ap, subst, ◌∙◌, arith}
+use Rattle.std.proofs.Common.{◌≡◌, ℕ, zero, suc, ◌+◌, ◌<◌, ◌≤◌, List, [], ◌∷◌, ◌++◌, length, take, drop, get_or, min, map, refl, sym, ap, subst, ◌∙◌, arith}
 use Rattle.dac_weave.specs.laws.Common.{slice_get, slice_get_within, slice_get_read, take_more, length-map, AllZip, Vec, NodeId, Table, WorldEvent, ModelNode, off_after, Record, JournalValue, Seen, seen_in, as_seen, journal_seen, At, Gives, Begins, Weaves, node_step, replayed, AreAnswered, run_from, start, IsRecorded}
 use Rattle.std.proofs.lemmas.List.{take_all, take_min, length-take, length-append, drop_more, drop_all, get_or-map}
 use Rattle.std.specs.List.{take-map}

@@ -1,7 +1,6 @@
 //! Permissions, borrowed.
 ghost use Rattle.std.specs.Prelude.{◌≡◌, ◌↔◌, length, IsTrue};
-ghost use Rattle.dac_origins.specs.Dots.{IsSubset};
-ghost use Rattle.dac_wishes.specs.PermissionsValue.{ArePermissions, IsPermissionsBelow, is_permitted, IsPermitted, permits_at};
+ghost use Rattle.dac_wishes.specs.PermissionsValue.{is_permitted, IsPermitted, permits_at};
 
 use crate::key::Key;
 use crate::permissions::permitted_by;

@@ -1,6 +1,5 @@
 -- Only equal booleans tie.
 use Rattle.std.specs.Prelude.{true, false, refl}
-use Rattle.std.specs.declared.cmp.Ordering.{Ordering}
 use Rattle.std.specs.Ordering.{bool_cmp}
 use Rattle.std.proofs.lemmas.Map.Lookups.{CmpEqualImpliesEq}
 

@@ -1,4 +1,4 @@
-use Rattle.std.proofs.Common.{◌≡◌, ap, ap₂, ◌∙◌, map, option_map, true, refl, Some, None, codes, rules}
+use Rattle.std.proofs.Common.{◌≡◌, ap, ap₂, ◌∙◌, map, option_map, true, refl, Some, None, codes}
 use Rattle.std.proofs.lemmas.Result.{err_from_is_err_and}
 use Rattle.clap.specs.Words.{Text, takes, is_simple, subcommand_of, subcommand_name_of, subcommand_rows, subcommand_rows_of}
 use Rattle.clap.specs.declared.parser.matches.ArgMatches.{ArgMatches}

@@ -1,7 +1,7 @@
 use Rattle.std.proofs.Common.{◌<◌, ap, length, subst, sym}
 use Rattle.std.specs.Arc.{arc_value}
-use Rattle.std.proofs.lemmas.Result.{on_err_weaker}
-use Rattle.dac_sorted.proofs.AlterLemmas.{altered_block, if_tried, some_tried}
+use Rattle.std.proofs.lemmas.Result.{IfOk-weaker, on_err_weaker}
+use Rattle.dac_sorted.proofs.AlterLemmas.{altered_block, some_tried}
 use Rattle.dac_sorted.proofs.ReplaceLemmas.{block_in_order, filled_set, same_block}
 use Rattle.dac_sorted.proofs.parts.alter_in_block.Goals as goal
 
@@ -19,7 +19,7 @@ returns-clause-filled g c =
 
 pub returns-clause-ok : goal.returns-clause-ok
 returns-clause-ok g c =
-    if_tried c.alter_in_place.result _ _
+    IfOk-weaker c.alter_in_place.result _ _
     (λ done. altered_block g.K.Ord.cmp (g.C.Alter.does c.args.how.now) c.args.key g.met.K.Ord.total g.met.K.MapKey.exact arc_value c.args.blocks.now.items c.args.place c.index_mut.result.now c.alter_in_place.new.shared
     c.args.target.now c.alter_in_place.new.target c.requires.in_order c.requires.place c.requires.within c.index_mut.ensures.value done) c.alter_in_place.ensures.ok
 

@@ -1,4 +1,4 @@
-use Rattle.std.proofs.Common.{◌≡◌, ◌∙◌}
+use Rattle.std.proofs.Common.{◌∙◌}
 use Rattle.dac_store.proofs.CausalLemmas.{join_fresh}
 use Rattle.dac_store.proofs.causal_ref.absorb_paired.Goals as goal
 

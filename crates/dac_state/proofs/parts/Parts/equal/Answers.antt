@@ -1,5 +1,4 @@
 use Rattle.std.proofs.Common.{◌∙◌, ap}
-use Rattle.dac_meaning.specs.StateValue.{StateValue}
 use Rattle.dac_state.specs.Heard.{heard_given}
 use Rattle.dac_state.specs.Parts.{state_of_parts, standing_in}
 use Rattle.dac_state.proofs.parts.Parts.equal.Goals as goal
