@@ -17,7 +17,7 @@ use dac_chains::{Claims, Lives};
 use dac_dots::Context;
 use dac_lattice::Lattice;
 use dac_part_bytes::{Config, read_claims, read_drains, read_lives, read_permissions, read_wishes};
-use dac_wishes::{Drains, Permissions, Standing, Wishes};
+use dac_wishes::{Drains, Permissions, StandingWrites, Wishes};
 use std::alloc::Global;
 
 /// The dots heard and the dots known, which must include them.
@@ -132,7 +132,7 @@ fn read_parts<'a>(
     Lattice::tells_invariant(&permissions);
     Lattice::tells_invariant(&wishes);
     Lattice::tells_invariant(&drains);
-    let standing = Standing::of(permissions, wishes, drains);
+    let standing = StandingWrites::of(permissions, wishes, drains);
     let parts = Parts::new(alloc, heard, standing, lives, claims);
     Ok((parts, rest))
 }

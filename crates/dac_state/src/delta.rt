@@ -11,7 +11,7 @@ use dac_chains::{Claims, Lives};
 use dac_dots::Context;
 use dac_lattice::Piece;
 use dac_meaning::{Op, laws};
-use dac_wishes::Standing;
+use dac_wishes::StandingWrites;
 use std::alloc::Global;
 
 /// The dot of an operation, paired with the dots that it knows: it knows no other if it replaces none.
@@ -30,13 +30,13 @@ pub(crate) fn heard_by(alloc: Global, op: &Op, known: &Context) -> Result<Heard,
 }
 
 /// What stands of an operation, and its known dots.
-pub(crate) fn standing_by(alloc: Global, op: &Op) -> Result<Standing, NoMemory>
+pub(crate) fn standing_by(alloc: Global, op: &Op) -> Result<StandingWrites, NoMemory>
     ensures { IfOk result (λ made. made ≡ standing_in (meaning_of (op.now ∷ []))) }
 {
     laws::delta_is_meaning();
     op.tells_invariant();
     let act = op.act();
-    let standing = Standing::delta(
+    let standing = StandingWrites::delta(
         alloc,
         op.dot(),
         act.over(),

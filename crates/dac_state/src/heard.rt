@@ -7,7 +7,7 @@ ghost use Rattle.dac_state.specs.Heard.{heard_given};
 
 use dac_base::NoMemory;
 use dac_dots::Context;
-use dac_wishes::{AbsorbStanding, Standing};
+use dac_wishes::{AbsorbStanding, StandingWrites};
 
 /// The dots heard, a subset of the dots known.
 #[derive(Drop)]
@@ -95,9 +95,9 @@ impl Heard {
     /// possible. After [`NoMemory`] both are unchanged.
     pub(crate) fn absorb(
         &mut self,
-        standing: &mut Standing,
+        standing: &mut StandingWrites,
         other: &Self,
-        other_standing: &Standing,
+        other_standing: &StandingWrites,
     ) -> Result<(), NoMemory>
         requires mine { IsSubset (heard_given self.old standing.old.known) standing.old.known }
         requires theirs { IsSubset (heard_given other.now other_standing.now.known)
@@ -192,8 +192,8 @@ impl Heard {
 fn absorb_both(
     heard: &mut Context,
     other_heard: &Context,
-    standing: &mut Standing,
-    other_standing: &Standing,
+    standing: &mut StandingWrites,
+    other_standing: &StandingWrites,
 ) -> Result<(), NoMemory>
     ensures standing { OnOk result
         (standing.new ≡ join_standing standing.old other_standing.now) }

@@ -18,7 +18,7 @@ pub use dac_bytes::{ReadFault as StateFault, ReadFaultKind as StateFaultKind};
 pub use dac_chains::{Claim, Claims, How, Life, Lives};
 pub use dac_meaning::{Act, Op, OpFault};
 pub use dac_wishes::{
-    DotList, Drains, DrainsRef, Key, Permissions, PermissionsRef, Standing, Wishes, WishesRef,
+    DotList, Drains, DrainsRef, Key, Permissions, PermissionsRef, StandingWrites, Wishes, WishesRef,
 };
 pub use state::State;
 

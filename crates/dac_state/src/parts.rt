@@ -9,7 +9,7 @@ use dac_base::NoMemory;
 use dac_chains::{Claims, Lives};
 use dac_dots::Context;
 use dac_lattice::Lattice;
-use dac_wishes::{DrainsRef, PermissionsRef, Standing, WishesRef};
+use dac_wishes::{DrainsRef, PermissionsRef, StandingWrites, WishesRef};
 use std::alloc::Global;
 use std::marker::Model;
 
@@ -18,7 +18,7 @@ use std::marker::Model;
 pub(crate) struct Parts {
     alloc: Global,
     heard: Heard,
-    standing: Standing,
+    standing: StandingWrites,
     lives: Lives,
     claims: Claims,
 }
@@ -44,7 +44,7 @@ impl Parts {
     pub(crate) fn new(
         alloc: Global,
         heard: Context,
-        standing: Standing,
+        standing: StandingWrites,
         lives: Lives,
         claims: Claims,
     ) -> Self
@@ -59,7 +59,7 @@ impl Parts {
     pub(crate) fn beside(
         alloc: Global,
         heard: Heard,
-        standing: Standing,
+        standing: StandingWrites,
         lives: Lives,
         claims: Claims,
     ) -> Self

@@ -10,7 +10,7 @@ use dac_chains::{Claims, Lives};
 use dac_dots::Context;
 use dac_lattice::{Bottom, Lattice};
 use dac_meaning::{Op, laws};
-use dac_wishes::{DrainsRef, PermissionsRef, Standing, WishesRef};
+use dac_wishes::{DrainsRef, PermissionsRef, StandingWrites, WishesRef};
 use std::alloc::Global;
 use std::marker::Model;
 use std::sync::Arc;
@@ -218,7 +218,7 @@ impl Bottom for State {
         let parts = Parts::new(
             alloc,
             Context::empty(alloc),
-            Standing::nothing(alloc),
+            StandingWrites::nothing(alloc),
             Lives::bottom(alloc),
             Claims::bottom(alloc),
         );

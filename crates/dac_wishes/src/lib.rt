@@ -7,9 +7,9 @@
 //! controller's state. The joined deltas of operations are exactly the writes that none of them replaces, and the dots
 //! that they name.
 //!
-//! A controller's state stores all three with one context, as [`Standing`], so that it can change in place. It shows
-//! them as [`PermissionsRef`], [`WishesRef`] and [`DrainsRef`], which borrow a store and the context, and answer the same
-//! questions.
+//! A controller's state stores all three with one context, as [`StandingWrites`], so that it can change in place. It
+//! shows them as [`PermissionsRef`], [`WishesRef`] and [`DrainsRef`], which borrow a store and the context, and answer
+//! the same questions.
 //!
 //! A start concurrent with a stop wins, because a stop replaces only the starts that it names. Of concurrent permits
 //! false wins ([`Permissions::permitted`]), and of concurrent drains true ([`Drains::drained`]).
@@ -26,7 +26,7 @@ pub use key::Key;
 pub use permissions::Permissions;
 pub use permissions_ref::PermissionsRef;
 pub use permit_act::PermitAct;
-pub use standing::{AbsorbStanding, Standing};
+pub use standing::{AbsorbStanding, StandingWrites};
 pub use wish_act::WishAct;
 pub use wishes::Wishes;
 pub use wishes_ref::WishesRef;

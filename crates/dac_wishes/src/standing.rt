@@ -28,7 +28,7 @@ use std::alloc::Global;
 use std::marker::Model;
 
 /// The standing permits, start wishes and drains of a set of operations, and the known dots, which are stored once.
-pub struct Standing {
+pub struct StandingWrites {
     known: Context,
     permits: DotMap<Key, DotFun<Flag>>,
     starts: DotMap<Key, DotSet>,
@@ -36,9 +36,9 @@ pub struct Standing {
 }
 
 /// Explicit, so that a proof treats each drop as one call.
-impl Drop for Standing {
+impl Drop for StandingWrites {
     fn drop(self) {
-        let Standing {
+        let StandingWrites {
             known: _known,
             permits: _permits,
             starts: _starts,
@@ -47,7 +47,7 @@ impl Drop for Standing {
     }
 }
 
-impl Model for Standing {
+impl Model for StandingWrites {
     ghost use Rattle.dac_wishes.specs.StandingValue.{StandingValue, coded_standing};
     ghost use Rattle.dac_wishes.specs.StoredStanding.{AreStoredBeside, stored_standing};
 
@@ -60,7 +60,7 @@ impl Model for Standing {
     ghost invariant = { λ a. AreStoredBeside a.known a.permits a.starts a.drains };
 }
 
-impl Standing {
+impl StandingWrites {
     /// These pieces, which know the same dots.
     pub fn of(permissions: Permissions, wishes: Wishes, drains: Drains) -> Self
         requires alike { permissions.known ≡ wishes.known }
@@ -70,7 +70,7 @@ impl Standing {
         let (permits, _) = permissions.into_causal().into_parts();
         let (starts, known) = wishes.into_causal().into_parts();
         let (drains, _) = drains.into_causal().into_parts();
-        Standing {
+        StandingWrites {
             known,
             permits,
             starts,
@@ -87,7 +87,7 @@ impl Standing {
           drains = map.empty;
         } }
     {
-        Standing::of(
+        StandingWrites::of(
             Permissions::bottom(alloc),
             Wishes::bottom(alloc),
             Drains::bottom(alloc),
@@ -114,7 +114,7 @@ impl Standing {
         let permits = kept_alone(alloc, dot, permit_vote(permit))?;
         let starts = start_at(alloc, dot, start)?;
         let drains = kept_alone(alloc, dot, drain_vote(drain))?;
-        Ok(Standing {
+        Ok(StandingWrites {
             known,
             permits,
             starts,
@@ -178,7 +178,7 @@ impl Standing {
             &other.drains,
             &other.known,
         ))?;
-        Ok(Standing {
+        Ok(StandingWrites {
             known: union,
             permits,
             starts,
@@ -290,7 +290,7 @@ impl Standing {
         let permits = self.permits.copy()?;
         let starts = self.starts.copy()?;
         let drains = self.drains.copy()?;
-        Ok(Standing {
+        Ok(StandingWrites {
             known,
             permits,
             starts,
@@ -328,16 +328,16 @@ fn put_if_some<S: DotStore>(store: &mut S, joined: Option<S>)
 #[derive(Clone, Copy)]
 pub struct AbsorbStanding<'a> {
     /// What stands of the other set.
-    pub other: &'a Standing,
+    pub other: &'a StandingWrites,
 }
 
-impl LastStep<Standing> for AbsorbStanding<'_> {
+impl LastStep<StandingWrites> for AbsorbStanding<'_> {
     ghost use Rattle.std.specs.Prelude.{◌≡◌};
     ghost use Rattle.dac_wishes.specs.StandingValue.{join_standing};
 
     ghost steps = { λ a old new. new ≡ join_standing old a.other.now };
 
-    fn take(&self, standing: &mut Standing) -> Result<(), NoMemory> {
+    fn take(&self, standing: &mut StandingWrites) -> Result<(), NoMemory> {
         standing.absorb(self.other)
     }
 }

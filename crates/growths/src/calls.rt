@@ -46,7 +46,7 @@ pub enum Call {
     Replaced(bool),
     Stepped,
     Paired(bool),
-    Standing(OfStanding),
+    StandingWrites(OfStanding),
     Made(Made),
     Pushed(Pushed),
     Act(OfAct),
@@ -149,17 +149,26 @@ pub const CALLS: &[(&str, Call)] = &[
     ("Context::absorb_after", Call::Stepped),
     ("absorb_paired", Call::Paired(false)),
     ("absorb_paired:in-place", Call::Paired(true)),
-    ("Standing::delta", Call::Standing(OfStanding::Delta)),
     (
-        "Standing::join_with_context",
-        Call::Standing(OfStanding::Join),
+        "StandingWrites::delta",
+        Call::StandingWrites(OfStanding::Delta),
     ),
-    ("Standing::absorb", Call::Standing(OfStanding::Absorb)),
     (
-        "Standing::absorb:no-permit",
-        Call::Standing(OfStanding::AbsorbWithoutPermit),
+        "StandingWrites::join_with_context",
+        Call::StandingWrites(OfStanding::Join),
     ),
-    ("Standing::copy", Call::Standing(OfStanding::Copy)),
+    (
+        "StandingWrites::absorb",
+        Call::StandingWrites(OfStanding::Absorb),
+    ),
+    (
+        "StandingWrites::absorb:no-permit",
+        Call::StandingWrites(OfStanding::AbsorbWithoutPermit),
+    ),
+    (
+        "StandingWrites::copy",
+        Call::StandingWrites(OfStanding::Copy),
+    ),
     ("DotSet::push", Call::Pushed(Pushed::ToSet)),
     ("DotFun::push", Call::Pushed(Pushed::ToFun)),
     ("DotMap::push", Call::Pushed(Pushed::ToMap)),
@@ -333,7 +342,7 @@ fn try_lattice<T: Print>(rt: &T, alloc: Global, call: Call) -> Option<Came> {
         Call::Replaced(is_shared) => Some(try_call(rt, replacing(alloc, is_shared))),
         Call::Stepped => Some(try_call(rt, stepping(alloc))),
         Call::Paired(is_next) => Some(try_call(rt, paired(alloc, is_next))),
-        Call::Standing(asked) => Some(try_call(rt, standings(alloc, asked))),
+        Call::StandingWrites(asked) => Some(try_call(rt, standings(alloc, asked))),
         _ => try_value(rt, alloc, call),
     }
 }

@@ -6,7 +6,7 @@ use dac_base::{AppId, NoMemory, NodeId};
 use dac_lattice::Flag;
 use dac_origins::Dot;
 use dac_store::{Causal, Context, DotMap, DotSet, DotStore, LastStep};
-use dac_wishes::{AbsorbStanding, Drains, Key, Permissions, Standing, Wishes};
+use dac_wishes::{AbsorbStanding, Drains, Key, Permissions, StandingWrites, Wishes};
 use std::alloc::Global;
 
 /// Application 0 at node 1, incarnation 1.
@@ -50,7 +50,7 @@ fn dots_of(alloc: Global, pairs: &[(u8, u64)]) -> Result<Vec<Dot>, NoMemory> {
 }
 
 /// What stands of one operation.
-fn delta_of(alloc: Global, operation: Operation) -> Result<Standing, NoMemory> {
+fn delta_of(alloc: Global, operation: Operation) -> Result<StandingWrites, NoMemory> {
     let ((node, n), over, says) = operation;
     let over = dots_of(alloc, over)?;
     let permit = match says {
@@ -65,16 +65,16 @@ fn delta_of(alloc: Global, operation: Operation) -> Result<Standing, NoMemory> {
         Says::Drain(value) => Some((origin(1), value)),
         _ => None,
     };
-    Standing::delta(alloc, dot(node, n), &over, permit, start, drain)
+    StandingWrites::delta(alloc, dot(node, n), &over, permit, start, drain)
 }
 
 /// True if the first is below the other one.
-fn is_below(one: &Standing, other: &Standing) -> bool {
+fn is_below(one: &StandingWrites, other: &StandingWrites) -> bool {
     one.known().is_subset(other.known()) && one.leq_with_contexts(other)
 }
 
 /// True if both are equal, also by the order.
-fn is_same(one: &Standing, other: &Standing) -> bool {
+fn is_same(one: &StandingWrites, other: &StandingWrites) -> bool {
     one.knows_same(other)
         && one.equal_with_contexts(other)
         && is_below(one, other)
@@ -82,7 +82,7 @@ fn is_same(one: &Standing, other: &Standing) -> bool {
 }
 
 /// A copy, if wanted.
-fn copy_if(standing: &Standing, is_copied: bool) -> Result<Option<Standing>, NoMemory> {
+fn copy_if(standing: &StandingWrites, is_copied: bool) -> Result<Option<StandingWrites>, NoMemory> {
     if is_copied {
         return Ok(Some(standing.copy()?));
     }
@@ -90,7 +90,7 @@ fn copy_if(standing: &Standing, is_copied: bool) -> Result<Option<Standing>, NoM
 }
 
 /// True if there is no copy, or it is the same as this.
-fn is_left(copy: &Option<Standing>, before: &Standing) -> bool {
+fn is_left(copy: &Option<StandingWrites>, before: &StandingWrites) -> bool {
     match copy {
         Some(copy) => is_same(copy, before),
         None => true,
@@ -98,7 +98,7 @@ fn is_left(copy: &Option<Standing>, before: &Standing) -> bool {
 }
 
 /// The join of both.
-fn join(one: &Standing, other: &Standing) -> Result<Standing, NoMemory> {
+fn join(one: &StandingWrites, other: &StandingWrites) -> Result<StandingWrites, NoMemory> {
     let union = one.known().union(other.known())?;
     one.join_with_context(other, union)
 }
@@ -106,9 +106,9 @@ fn join(one: &Standing, other: &Standing) -> Result<Standing, NoMemory> {
 /// True if the first absorbs the other one as the second is joined, which then is that join. Both are equal at first,
 /// and share nothing. Holds a copy of the first meanwhile if wanted.
 fn is_absorbed(
-    standing: &mut Standing,
-    equal: &mut Standing,
-    other: &Standing,
+    standing: &mut StandingWrites,
+    equal: &mut StandingWrites,
+    other: &StandingWrites,
     is_copied: bool,
 ) -> Result<bool, NoMemory> {
     let copy = copy_if(standing, is_copied)?;
@@ -126,9 +126,9 @@ fn absorb_all(
     alloc: Global,
     operations: &[Operation],
     is_copied: bool,
-) -> Result<(Option<usize>, Standing), NoMemory> {
-    let mut standing = Standing::nothing(alloc);
-    let mut equal = Standing::nothing(alloc);
+) -> Result<(Option<usize>, StandingWrites), NoMemory> {
+    let mut standing = StandingWrites::nothing(alloc);
+    let mut equal = StandingWrites::nothing(alloc);
     for i in 0..operations.len() {
         let other = delta_of(alloc, operations[i])?;
         if !is_absorbed(&mut standing, &mut equal, &other, is_copied)? {
@@ -139,7 +139,7 @@ fn absorb_all(
 }
 
 /// True if one permit and one start stand.
-fn is_permitted_and_started(standing: &Standing) -> bool {
+fn is_permitted_and_started(standing: &StandingWrites) -> bool {
     let permissions = standing.permissions();
     let wishes = standing.wishes();
     permissions.permitted(KEY, false)
@@ -151,7 +151,7 @@ fn is_permitted_and_started(standing: &Standing) -> bool {
 }
 
 /// True if the end of a drain stands, and eight dots are known.
-fn is_undrained(standing: &Standing) -> bool {
+fn is_undrained(standing: &StandingWrites) -> bool {
     let drains = standing.drains();
     let known = standing.known();
     !drains.drained(NodeId(1), 1)
@@ -229,13 +229,13 @@ fn beside<S: DotStore>(store: S, known: &Context) -> Option<Causal<S>>
 }
 
 /// What stands of a start, made of its pieces.
-fn of_pieces(alloc: Global) -> Option<Standing> {
+fn of_pieces(alloc: Global) -> Option<StandingWrites> {
     let known = context_of(alloc, &[2]).ok()?;
     let starts = DotMap::one(alloc, KEY, DotSet::one(alloc, dot(0, 2)).ok()?).ok()?;
     let permissions = Permissions::new(beside(DotMap::empty(alloc), &known)?);
     let wishes = Wishes::new(beside(starts, &known)?);
     let drains = Drains::new(beside(DotMap::empty(alloc), &known)?);
-    Some(Standing::of(permissions, wishes, drains))
+    Some(StandingWrites::of(permissions, wishes, drains))
 }
 
 /// True if what stands of a start is the same when it is made of its pieces.

@@ -9,7 +9,7 @@ use dac_state::{Act, DotList, Op, OpFault, State, StateFault, StateFaultKind};
 use dac_store::LastStep;
 use dac_wishes::{
     AbsorbStanding, DrainAct, Drains, DrainsRef, Key, Permissions, PermissionsRef, PermitAct,
-    Standing, WishAct, Wishes, WishesRef,
+    StandingWrites, WishAct, Wishes, WishesRef,
 };
 use std::alloc::Global;
 
@@ -136,8 +136,8 @@ fn are_pieces_absorbed(alloc: Global) -> Result<bool, NoMemory> {
 
 /// True if what stands of a start is absorbed by nothing.
 fn is_start_absorbed(alloc: Global) -> Result<bool, NoMemory> {
-    let started: Standing = Standing::delta(alloc, FIRST, &[], None, Some(KEY), None)?;
-    let mut standing = Standing::nothing(alloc);
+    let started: StandingWrites = StandingWrites::delta(alloc, FIRST, &[], None, Some(KEY), None)?;
+    let mut standing = StandingWrites::nothing(alloc);
     AbsorbStanding { other: &started }.take(&mut standing)?;
     Ok(
         standing.knows_same(&started)

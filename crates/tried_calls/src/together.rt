@@ -6,7 +6,7 @@ use dac_base::{NoMemory, NodeId};
 use dac_dots::{Context, LastStep};
 use dac_lattice::Flag;
 use dac_store::{CausalRef, DotFun, DotMap, DotStore, absorb_paired};
-use dac_wishes::Standing;
+use dac_wishes::StandingWrites;
 use std::alloc::Global;
 
 /// A node without dots in the contexts here.
@@ -130,13 +130,13 @@ pub enum OfStanding {
 pub struct StandingFixture {
     alloc: Global,
     asked: OfStanding,
-    one: Standing,
-    equal: Standing,
-    other: Standing,
+    one: StandingWrites,
+    equal: StandingWrites,
+    other: StandingWrites,
 }
 
 /// What stands of an operation that replaces two dots, with a permit or without.
-fn standing_at(alloc: Global, node: NodeId, has_permit: bool) -> Result<Standing, NoMemory> {
+fn standing_at(alloc: Global, node: NodeId, has_permit: bool) -> Result<StandingWrites, NoMemory> {
     let over = [dot(ME, 1), dot(OTHER, 1)];
     let permit = if has_permit {
         Some((key(node), false))
@@ -145,7 +145,7 @@ fn standing_at(alloc: Global, node: NodeId, has_permit: bool) -> Result<Standing
     };
     let start = Some(key(node));
     let drain = Some((origin(node), true));
-    Standing::delta(alloc, dot(node, 2), &over, permit, start, drain)
+    StandingWrites::delta(alloc, dot(node, 2), &over, permit, start, drain)
 }
 
 /// The fixture of what stands of operations.
@@ -162,7 +162,7 @@ pub fn standings(alloc: Global, asked: OfStanding) -> Option<StandingFixture> {
 
 impl StandingFixture {
     /// The join of both.
-    fn join(&self) -> Result<Standing, NoMemory> {
+    fn join(&self) -> Result<StandingWrites, NoMemory> {
         let union = self.one.known().union(self.other.known())?;
         self.one.join_with_context(&self.other, union)
     }

@@ -1,7 +1,7 @@
 use Rattle.std.proofs.Common.{◌∙◌, sym}
 use Rattle.std.proofs.lemmas.Bool.{false≢true}
 use Rattle.dac_wishes.proofs.StandingStoring.{permits_order, starts_order, drains_order}
-use Rattle.dac_wishes.proofs.standing.Standing.leq_with_contexts.Goals as goal
+use Rattle.dac_wishes.proofs.standing.StandingWrites.leq_with_contexts.Goals as goal
 
 pub leq_with_contexts-requires : goal.leq_with_contexts-requires
 leq_with_contexts-requires c = rw (c.of-permits.ensures, c.of.ensures) (rw (← c.self.view_is, ← c.other.view_is) at c.requires)

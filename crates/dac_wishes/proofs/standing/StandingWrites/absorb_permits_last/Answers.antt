@@ -2,7 +2,7 @@ use Rattle.std.proofs.Common.{◌∙◌}
 use Rattle.dac_wishes.specs.StoredStanding.{stored_standing}
 use Rattle.dac_wishes.proofs.Found.{on_err}
 use Rattle.dac_wishes.proofs.StandingStoring.{joined_beside, standing-join}
-use Rattle.dac_wishes.proofs.standing.Standing.absorb_permits_last.Goals as goal
+use Rattle.dac_wishes.proofs.standing.StandingWrites.absorb_permits_last.Goals as goal
 
 pub absorb_paired-requires : goal.absorb_paired-requires
 absorb_paired-requires c = c.self.invariant.permits.held

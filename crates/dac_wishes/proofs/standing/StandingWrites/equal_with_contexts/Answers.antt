@@ -2,7 +2,7 @@ use Rattle.std.proofs.Common.{◌∙◌, sym}
 use Rattle.std.proofs.lemmas.Bool.{false≢true}
 use Rattle.dac_wishes.specs.StoredStanding.{stored_standing}
 use Rattle.dac_wishes.proofs.StandingStoring.{same_permits, same_starts, same_drains}
-use Rattle.dac_wishes.proofs.standing.Standing.equal_with_contexts.Goals as goal
+use Rattle.dac_wishes.proofs.standing.StandingWrites.equal_with_contexts.Goals as goal
 
 pub has_same_store-requires : goal.has_same_store-requires
 has_same_store-requires c = rw (c.of-starts.ensures, c.of.ensures) (rw (← c.self.view_is, ← c.other.view_is) at c.requires)

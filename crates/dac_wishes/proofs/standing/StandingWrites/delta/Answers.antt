@@ -4,7 +4,7 @@ use Rattle.dac_wishes.specs.StoredPermits.{permissions_of}
 use Rattle.dac_wishes.specs.StoredWishes.{wishes_of}
 use Rattle.dac_wishes.specs.StoredDrains.{drains_of}
 use Rattle.dac_wishes.proofs.StandingStoring.{delta_beside, permits_of-delta, starts_of-delta, drains_of-delta}
-use Rattle.dac_wishes.proofs.standing.Standing.delta.Goals as goal
+use Rattle.dac_wishes.proofs.standing.StandingWrites.delta.Goals as goal
 
 pub invariant_of-result : goal.invariant_of-result
 invariant_of-result c =

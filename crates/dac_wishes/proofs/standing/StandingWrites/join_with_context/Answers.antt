@@ -1,7 +1,7 @@
 use Rattle.std.proofs.Common.{◌∙◌}
 use Rattle.dac_wishes.specs.StoredStanding.{stored_standing}
 use Rattle.dac_wishes.proofs.StandingStoring.{joined_beside, standing-join}
-use Rattle.dac_wishes.proofs.standing.Standing.join_with_context.Goals as goal
+use Rattle.dac_wishes.proofs.standing.StandingWrites.join_with_context.Goals as goal
 
 pub invariant_of-result : goal.invariant_of-result
 invariant_of-result c =

@@ -1,7 +1,7 @@
 use Rattle.std.proofs.Common.{◌∙◌, ap}
 use Rattle.dac_wishes.specs.StandingValue.{drains_in}
 use Rattle.dac_wishes.specs.StoredDrains.{drains_of}
-use Rattle.dac_wishes.proofs.standing.Standing.drains.Goals as goal
+use Rattle.dac_wishes.proofs.standing.StandingWrites.drains.Goals as goal
 
 pub of-requires : goal.of-requires
 of-requires c = c.self.invariant.drains.held

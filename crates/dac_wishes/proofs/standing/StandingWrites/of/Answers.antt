@@ -6,7 +6,7 @@ use Rattle.dac_wishes.specs.StandingValue.{standing_of}
 use Rattle.dac_wishes.specs.Keys.{key_cmp}
 use Rattle.dac_origins.specs.Dots.{origin_cmp}
 use Rattle.dac_wishes.proofs.VoteStoring.{votes_with}
-use Rattle.dac_wishes.proofs.standing.Standing.of.Goals as goal
+use Rattle.dac_wishes.proofs.standing.StandingWrites.of.Goals as goal
 
 pub invariant_of-result : goal.invariant_of-result
 invariant_of-result c =

@@ -1,7 +1,7 @@
 use Rattle.std.proofs.Common.{◌∙◌, sym}
 use Rattle.std.proofs.lemmas.Bool.{false≢true}
 use Rattle.dac_store.specs.laws.Stores.{same_context}
-use Rattle.dac_wishes.proofs.standing.Standing.knows_same.Goals as goal
+use Rattle.dac_wishes.proofs.standing.StandingWrites.knows_same.Goals as goal
 
 pub returns-then-is_subset : goal.returns-then-is_subset
 returns-then-is_subset c =

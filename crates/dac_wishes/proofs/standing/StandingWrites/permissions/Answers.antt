@@ -1,7 +1,7 @@
 use Rattle.std.proofs.Common.{◌∙◌, ap}
 use Rattle.dac_wishes.specs.StandingValue.{permissions_in}
 use Rattle.dac_wishes.specs.StoredPermits.{permissions_of}
-use Rattle.dac_wishes.proofs.standing.Standing.permissions.Goals as goal
+use Rattle.dac_wishes.proofs.standing.StandingWrites.permissions.Goals as goal
 
 pub of-requires : goal.of-requires
 of-requires c = c.self.invariant.permits.held

@@ -3,7 +3,7 @@ use Rattle.dac_wishes.specs.StandingValue.{standing_of}
 use Rattle.dac_wishes.specs.PermissionsValue.{PermissionsValue}
 use Rattle.dac_wishes.specs.WishesValue.{WishesValue}
 use Rattle.dac_wishes.specs.DrainsValue.{DrainsValue}
-use Rattle.dac_wishes.proofs.standing.Standing.nothing.Goals as goal
+use Rattle.dac_wishes.proofs.standing.StandingWrites.nothing.Goals as goal
 
 pub of-requires-clause-alike : goal.of-requires-clause-alike
 of-requires-clause-alike c = ap (λ (v : PermissionsValue). v.known) c.bottom.ensures ∙ sym (ap (λ (v : WishesValue). v.known) c.bottom-2.ensures)

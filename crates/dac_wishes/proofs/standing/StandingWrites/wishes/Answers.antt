@@ -1,7 +1,7 @@
 use Rattle.std.proofs.Common.{◌∙◌, ap}
 use Rattle.dac_wishes.specs.StandingValue.{wishes_in}
 use Rattle.dac_wishes.specs.StoredWishes.{wishes_of}
-use Rattle.dac_wishes.proofs.standing.Standing.wishes.Goals as goal
+use Rattle.dac_wishes.proofs.standing.StandingWrites.wishes.Goals as goal
 
 pub of-requires : goal.of-requires
 of-requires c = c.self.invariant.starts.held
